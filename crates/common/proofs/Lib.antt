@@ -1,0 +1,8 @@
+-- The laws of the definitions in `specs/`, each in the file of its definition's name; `Tests` has the laws of Bools that the kit does not have.
+pub mod Tests
+pub mod Below
+pub mod Check
+pub mod Part
+pub mod Tabulate
+pub mod Update
+pub mod Bits

@@ -1,0 +1,3 @@
+-- The laws of the line's definitions.
+pub mod Travel
+pub mod WellFormed

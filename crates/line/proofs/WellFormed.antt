@@ -1,0 +1,69 @@
+-- A well-formed line, as facts about its numbers: what `completion` and `dispatcher` rest on.
+-- Assumes nothing.
+use mathlib.Core.Path.{_≡_}
+use mathlib.Core.Bool.{Bool, true, _&&_}
+use Prim.Native.Nat.{ℕ, _≤_, _<_}
+use native.Mathlib.Omega.{arith}
+use lib.Dec.{leb, ltb}
+use borrow.Author.Tests.{ltb-true, leb-true, lt-ltb, le-leb}
+use Rattle.common.proofs.Tests.{and-left, and-right, and-both}
+use Rattle.common.proofs.Below.{all-below, below-all}
+use Rattle.line.specs.Sorts.{Line}
+use Rattle.line.specs.Line.{routeOf, tracksAt, inRange, postsInRange, tracksInRange, trainsInRange, routesOnLine, wellFormed}
+use Rattle.line.specs.Route.{routeLength}
+
+pub record WellFormed (l : Line) : Type 0 where
+  pub some-posts : 2 ≤ l .posts
+  pub few-posts : l .posts ≤ 8
+  pub some-tracks : (p : ℕ) → p < l .posts → 1 ≤ tracksAt l p
+  pub few-tracks : (p : ℕ) → p < l .posts → tracksAt l p ≤ 4
+  pub some-trains : 1 ≤ l .trains
+  pub few-trains : l .trains ≤ 6
+  pub starts : (t : ℕ) → t < l .trains → routeOf l t .start .0 < l .posts
+  pub ends : (t : ℕ) → t < l .trains → routeOf l t .end .0 < l .posts
+
+low : (a b n : ℕ) → inRange a b n ≡ true → a ≤ n
+low a b n h = leb-true a n (and-left (leb a n) (leb n b) h)
+
+high : (a b n : ℕ) → inRange a b n ≡ true → n ≤ b
+high a b n h = leb-true n b (and-right (leb a n) (leb n b) h)
+
+ranged : (a b n : ℕ) → a ≤ n → n ≤ b → inRange a b n ≡ true
+ranged a b n h k = and-both (leb a n) (leb n b) (le-leb a n h) (le-leb n b k)
+
+module _ (l : Line) where
+  -- the parts that `wellFormed` is made of
+  pub well-formed-parts : postsInRange l ≡ true → tracksInRange l ≡ true → trainsInRange l ≡ true → routesOnLine l ≡ true → wellFormed l ≡ true
+  unfolding wellFormed
+  well-formed-parts p k t r = rw (p, k, t, r)
+
+  pub well-formed : wellFormed l ≡ true → WellFormed l
+  unfolding wellFormed
+  well-formed h =
+      let posts = and-left (postsInRange l) (tracksInRange l && (trainsInRange l && routesOnLine l)) h in
+      let rest = and-right (postsInRange l) (tracksInRange l && (trainsInRange l && routesOnLine l)) h in
+      let tracks = all-below (l .posts) _ (and-left (tracksInRange l) (trainsInRange l && routesOnLine l) rest) in
+      let last = and-right (tracksInRange l) (trainsInRange l && routesOnLine l) rest in
+      let trains = and-left (trainsInRange l) (routesOnLine l) last in
+      let routes = all-below (l .trains) _ (and-right (trainsInRange l) (routesOnLine l) last) in
+      record {
+        some-posts = low 2 8 (l .posts) posts;
+        few-posts = high 2 8 (l .posts) posts;
+        some-tracks = λ p k. low 1 4 (tracksAt l p) (tracks p k);
+        few-tracks = λ p k. high 1 4 (tracksAt l p) (tracks p k);
+        some-trains = low 1 6 (l .trains) trains;
+        few-trains = high 1 6 (l .trains) trains;
+        starts = λ t k. ltb-true (routeOf l t .start .0) (l .posts) (and-left (ltb (routeOf l t .start .0) (l .posts)) _ (routes t k));
+        ends = λ t k. ltb-true (routeOf l t .end .0) (l .posts) (and-right (ltb (routeOf l t .start .0) (l .posts)) _ (routes t k));
+      }
+
+  pub is-well-formed : WellFormed l → wellFormed l ≡ true
+  is-well-formed w = well-formed-parts
+      (ranged 2 8 (l .posts) (w .some-posts) (w .few-posts))
+      (below-all (l .posts) _ (λ p k. ranged 1 4 (tracksAt l p) (w .some-tracks p k) (w .few-tracks p k)))
+      (ranged 1 6 (l .trains) (w .some-trains) (w .few-trains))
+      (below-all (l .trains) _ (λ t k. and-both _ _ (lt-ltb _ _ (w .starts t k)) (lt-ltb _ _ (w .ends t k))))
+
+  -- no route is longer than seven posts
+  pub short-route : WellFormed l → (t : ℕ) → t < l .trains → routeLength (routeOf l t) ≤ 7
+  short-route w t k = omega (arith, w .starts t k, w .ends t k, w .few-posts)

@@ -1,0 +1,6 @@
+-- What the numbers of a line mean. Read in this order.
+pub mod Refusal
+pub mod Sorts
+pub mod Route
+pub mod Line
+pub mod Holding

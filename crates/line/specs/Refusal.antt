@@ -1,0 +1,68 @@
+-- 01, "Declining by number". `src/refusal.rt` has the same numbers for the code.
+use Prim.Native.Nat.{ℕ}
+
+abbrev pub strangeState : ℕ
+strangeState = 1
+
+abbrev pub shortStore : ℕ
+shortStore = 2
+
+abbrev pub tornFrame : ℕ
+tornFrame = 3
+
+abbrev pub otherEdition : ℕ
+otherEdition = 4
+
+abbrev pub unknownKind : ℕ
+unknownKind = 5
+
+abbrev pub wrongEnd : ℕ
+wrongEnd = 6
+
+abbrev pub unknownTrain : ℕ
+unknownTrain = 7
+
+abbrev pub atEnd : ℕ
+atEnd = 8
+
+abbrev pub wrongPost : ℕ
+wrongPost = 9
+
+abbrev pub alreadyAsked : ℕ
+alreadyAsked = 10
+
+abbrev pub underAuthority : ℕ
+underAuthority = 11
+
+abbrev pub noAuthority : ℕ
+noAuthority = 12
+
+abbrev pub journalFull : ℕ
+journalFull = 13
+
+abbrev pub tornBook : ℕ
+tornBook = 14
+
+abbrev pub posts : ℕ
+posts = 15
+
+abbrev pub tracks : ℕ
+tracks = 16
+
+abbrev pub trains : ℕ
+trains = 17
+
+abbrev pub offTheLine : ℕ
+offTheLine = 18
+
+abbrev pub overfull : ℕ
+overfull = 19
+
+abbrev pub noWayThrough : ℕ
+noWayThrough = 20
+
+abbrev pub notNow : ℕ
+notNow = 21
+
+abbrev pub notAwaited : ℕ
+notAwaited = 22

@@ -1,0 +1,15 @@
+// The line: the sorts of numbers, the routes of its trains, what a book says of it, and the
+// numbers by which anything is refused.
+pub mod book;
+pub mod refusal;
+mod route;
+mod sorts;
+
+pub use book::Line;
+pub use route::Route;
+pub use route::next_post;
+pub use route::section;
+pub use sorts::PostNo;
+pub use sorts::SectionNo;
+pub use sorts::TrackNo;
+pub use sorts::TrainNo;

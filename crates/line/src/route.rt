@@ -1,0 +1,34 @@
+// A train's way along the line, from its start to its end.
+ghost use mathlib.Core.Path.{_≡_};
+ghost use Rattle.line.specs.Route.{nextPost, sectionOf};
+use crate::sorts::PostNo;
+use crate::sorts::SectionNo;
+
+pub struct Route {
+    pub start: PostNo,
+    pub end: PostNo,
+}
+
+// The post after `at` on the way to `end`; `end` itself at the end.
+pub fn next_post(at: PostNo, end: PostNo) -> PostNo
+    ensures { λ r. ⌜ r .0 ≡ nextPost (at .0) (end .0) ⌝ }
+{
+    if at.0 < end.0 {
+        return PostNo(at.0 + 1);
+    }
+    if end.0 < at.0 {
+        return PostNo(at.0 - 1);
+    }
+    at
+}
+
+// The section between two neighbouring posts has the lower one's number.
+pub fn section(p: PostNo, q: PostNo) -> SectionNo
+    ensures { λ r. ⌜ r .0 ≡ sectionOf (p .0) (q .0) ⌝ }
+{
+    if p.0 < q.0 {
+        SectionNo(p.0)
+    } else {
+        SectionNo(q.0)
+    }
+}
