@@ -1,15 +1,13 @@
 -- Laws of counts and quantifiers below a bound. `count-change` is the one law for a count that changes at one place.
 -- Assumes nothing.
-use mathlib.Core.Path.{_≡_, refl, sym, ap}
-use mathlib.Core.Logic.{_⊎_, inl, inr, _≢_}
-use mathlib.Core.Bool.{Bool, true, false, _&&_, _||_, false≢true}
+use mathlib.Core.Path.{_≡_, refl, sym}
+use mathlib.Core.Logic.{_≢_}
+use mathlib.Core.Bool.{Bool, true, false, _||_, false≢true}
 use Prim.Native.Nat.{ℕ, zero, suc, _+_, _≤_, _<_}
 use native.Mathlib.Nat.{not-suc-le-zero}
 use native.Mathlib.Omega.{arith}
-use lib.Dec.{eqb}
-use borrow.Author.Tests.{eqb-true, eqb-false}
 use Rattle.common.specs.Below.{ofBool, countBelow, allBelow, anyBelow}
-use Rattle.common.proofs.Tests.{clash, by-cases, by-equality, not-passed, same-test, and-left, and-right, and-both, or-left, or-right}
+use Rattle.common.proofs.Tests.{clash, by-cases, by-equality, not-passed, and-left, and-right, and-both, or-left, or-right}
 
 pub ofBool-le : (b : Bool) → ofBool b ≤ 1
 ofBool-le true = omega arith

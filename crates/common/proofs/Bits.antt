@@ -1,7 +1,6 @@
 -- Laws of sets as bits: the ones of a set are its count, its bits are its members, and its members make it.
 -- Assumes nothing.
 use mathlib.Core.Path.{_≡_, refl, sym, ap, _∙_}
-use mathlib.Core.Logic.{_≢_}
 use mathlib.Core.Bool.{Bool, true, false}
 use Prim.Native.Nat.{ℕ, zero, suc, _+_, _-_, _*_, _/_, _%_, _^_, _<_}
 use native.Mathlib.Nat.{not-suc-le-zero, pow-succ', mul-assoc, mul-add-div-right}
@@ -14,7 +13,6 @@ use borrow.Author.Tests.{eqb-true, eqb-false}
 use Rattle.common.specs.Below.{ofBool, countBelow}
 use Rattle.common.specs.Bits.{setBelow, bitAt}
 use Rattle.common.proofs.Tests.{by-cases, by-equality}
-use Rattle.common.proofs.Below.{ofBool-le}
 
 pub set-small : (n : ℕ) (f : ℕ → Bool) → setBelow n f < 2 ^ n
 unfolding setBelow

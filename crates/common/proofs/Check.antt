@@ -1,14 +1,16 @@
 -- Laws of checks in order. A proof about a refusal passes the checks one by one and stops at the one that fails.
 -- Assumes nothing.
-use mathlib.Core.Path.{_≡_, refl, sym, _∙_}
-use mathlib.Core.Bool.{Bool, true, false}
+use mathlib.Core.Path.{_≡_, refl}
+use mathlib.Core.Bool.{Bool, true, false, _&&_}
 use mathlib.Core.List.{List, [], _∷_}
 use Prim.Native.Nat.{ℕ, zero, suc, _<_}
 use native.Mathlib.Nat.{not-suc-le-zero}
 use native.Mathlib.Omega.{arith}
+use lib.Dec.{ltb}
 use lib.ListN.{length, getD}
+use borrow.Author.Tests.{ltb-true, lt-ltb}
 use Rattle.common.specs.Check.{Check, check, refusal, unlessRefused}
-use Rattle.common.proofs.Tests.{by-cases}
+use Rattle.common.proofs.Tests.{by-cases, and-left, and-right}
 
 -- how the number of a list of checks comes about: checks that pass, then one that fails or the end of the list
 pub data Refuses : List Check → ℕ → Type 0 where
@@ -22,19 +24,23 @@ refusal-is none = refl
 refusal-is (stop e) = rw e
 refusal-is (pass e r) = rw e (refusal-is r)
 
--- what is not refused passes each check: at its place in the list
-pub passed-at : (cs : List Check) → refusal cs ≡ 0 → ((i : ℕ) → i < length cs → 0 < getD cs i (check 1 true) .number)
-    → (i : ℕ) → i < length cs → getD cs i (check 1 true) .passes ≡ true
+-- every check has a number; for a list that is written out this computes
+abbrev pub numbered : List Check → Bool
+numbered [] = true
+numbered (c ∷ cs) = ltb 0 (c .number) && numbered cs
+
+-- what is not refused passes each check, read off by its place in the list
+pub passed-at : (cs : List Check) → numbered cs ≡ true → refusal cs ≡ 0 → (i : ℕ) → ltb i (length cs) ≡ true → getD cs i (check 0 true) .passes ≡ true
 unfolding refusal
-passed-at [] e h i l = absurd (not-suc-le-zero l)
-passed-at (c ∷ cs) e h i l = by-cases (c .passes)
-    (λ p. at p (λ j. passed-at cs (rw p at e) (λ k q. h (suc k) (omega arith)) j) i l)
-    (λ p. let z : c .number ≡ 0 = rw p at e in let y = h 0 (omega arith) in absurd (let x : ⊥ = omega arith in x))
+passed-at [] n e i l = absurd (not-suc-le-zero (ltb-true i 0 l))
+passed-at (c ∷ cs) n e i l = by-cases (c .passes)
+    (λ p. at p (passed-at cs (and-right (ltb 0 (c .number)) (numbered cs) n) (rw p at e)) i l)
+    (λ p. let z : c .number ≡ 0 = rw p at e in absurd (let y = ltb-true 0 (c .number) (and-left (ltb 0 (c .number)) (numbered cs) n) in omega arith))
   where
-    at : c .passes ≡ true → ((j : ℕ) → j < length cs → getD cs j (check 1 true) .passes ≡ true)
-        → (i : ℕ) → i < length (c ∷ cs) → getD (c ∷ cs) i (check 1 true) .passes ≡ true
+    at : c .passes ≡ true → ((j : ℕ) → ltb j (length cs) ≡ true → getD cs j (check 0 true) .passes ≡ true)
+        → (i : ℕ) → ltb i (length (c ∷ cs)) ≡ true → getD (c ∷ cs) i (check 0 true) .passes ≡ true
     at p ih zero l = p
-    at p ih (suc j) l = ih j (omega arith)
+    at p ih (suc j) l = ih j (lt-ltb j (length cs) (let z = ltb-true (suc j) (suc (length cs)) l in omega arith))
 
 pub accepts : {A : Type 0} {n : ℕ} (x : A) (f : ℕ → A) → n ≡ 0 → unlessRefused n x f ≡ x
 unfolding unlessRefused
@@ -44,3 +50,9 @@ pub refuses : {A : Type 0} {n : ℕ} (x : A) (f : ℕ → A) → 0 < n → unles
 unfolding unlessRefused
 refuses {n = zero} x f h = absurd (not-suc-le-zero h)
 refuses {n = suc n} x f h = refl
+
+-- what stands where nothing but a refusal can stand for the other case
+pub accepted-if : {A : Type 0} (P : A → Type 0) (n : ℕ) (x : A) (f : ℕ → A) → ((k : ℕ) → P (f k) → ⊥) → P (unlessRefused n x f) → (n ≡ 0) × P x
+unfolding unlessRefused
+accepted-if P zero x f h p = (refl, p)
+accepted-if P (suc n) x f h p = absurd (h (suc n) p)

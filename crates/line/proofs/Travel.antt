@@ -1,12 +1,12 @@
 -- A train on its way: the next post, the posts travelled, and the post that they lead to. All of it is arithmetic of a start a, a post p and an end e.
 -- Assumes nothing.
-use mathlib.Core.Path.{_≡_, refl, sym, _∙_}
+use mathlib.Core.Path.{_≡_, sym}
 use mathlib.Core.Logic.{_⊎_, inl, inr, ⊎-elim, _≢_}
-use mathlib.Core.Bool.{Bool, true, _&&_}
+use mathlib.Core.Bool.{true, _&&_}
 use Prim.Native.Nat.{ℕ, _+_, _-_, _≤_, _<_}
 use native.Mathlib.Omega.{arith}
-use lib.Dec.{leb, ltb}
-use borrow.Author.Tests.{ltb-true, ltb-false, leb-true, leb-false, lt-ltb, le-ltb, le-leb}
+use lib.Dec.{leb}
+use borrow.Author.Tests.{leb-true, leb-false, lt-ltb, le-ltb, le-leb}
 use Rattle.common.proofs.Tests.{by-cases, and-left, and-right, and-both, or-left, or-right, or-either}
 use Rattle.line.specs.Sorts.{Route}
 use Rattle.line.specs.Route.{nextPost, distance, between, routeLength, postAfter}

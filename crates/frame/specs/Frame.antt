@@ -1,0 +1,46 @@
+-- 01, "Frames": "Seven bytes: length 00 05, version byte 01, kind, train, from post, to post."
+use mathlib.Core.Bool.{cond, _&&_}
+use mathlib.Core.List.{List, [], _∷_}
+use Prim.Native.Nat.{ℕ}
+use lib.Dec.{eqb}
+use lib.ListN.{length, getD, replicate}
+use Rattle.common.specs.Check.{Check, check, refusal, unlessRefused}
+use Rattle.common.specs.Word.{word}
+use Rattle.line.specs.Line.{inRange}
+use Rattle.line.specs.Refusal.{tornFrame, otherEdition, unknownKind}
+use Rattle.frame.specs.Types.{Move, Message, Fa, Fe, Afe, Am, Refused}
+
+abbrev pub moveOf : ℕ → ℕ → ℕ → Move
+moveOf t p q = record { train = record { 0 = t }; from = record { 0 = p }; to = record { 0 = q } }
+
+-- ---- reading
+
+-- "Reading checks 3, 4, 5 in that order."
+abbrev pub readChecks : List ℕ → List Check
+readChecks f =
+    check tornFrame (eqb (length f) 7 && eqb (word (getD f 0 0) (getD f 1 0)) 5)
+    ∷ check otherEdition (eqb (getD f 2 0) 1)
+    ∷ check unknownKind (inRange 1 4 (getD f 3 0))
+    ∷ []
+
+-- "Kinds: kind 1 FA, 2 FE, 3 AFE, 4 AM"
+unfoldable pub messageOf : ℕ → Move → Message
+messageOf k m = cond (eqb k 1) (Fa m) (cond (eqb k 2) (Fe m) (cond (eqb k 3) (Afe m) (cond (eqb k 4) (Am m) (Refused unknownKind))))
+
+-- "A frame reads as one of four messages or as a refusal."
+unfoldable pub readFrame : List ℕ → Message
+readFrame f =
+    unlessRefused (refusal (readChecks f)) (messageOf (getD f 3 0) (moveOf (getD f 4 0) (getD f 5 0) (getD f 6 0))) Refused
+
+-- ---- writing
+
+abbrev pub frameBytes : ℕ → Move → List ℕ
+frameBytes k m = 0 ∷ 5 ∷ 1 ∷ k ∷ m .train .0 ∷ m .from .0 ∷ m .to .0 ∷ []
+
+-- the seven bytes of a message; zeros for a refusal, which is none
+unfoldable pub bytesOf : Message → List ℕ
+bytesOf (Fa m) = frameBytes 1 m
+bytesOf (Fe m) = frameBytes 2 m
+bytesOf (Afe m) = frameBytes 3 m
+bytesOf (Am m) = frameBytes 4 m
+bytesOf (Refused n) = replicate 7 0

@@ -1,0 +1,41 @@
+// Reading a frame: refusals 3, 4 and 5, in that order.
+ghost use mathlib.Core.Path.{_≡_};
+ghost use Rattle.frame.specs.Frame.{readFrame};
+use crate::message::Message;
+use crate::message::Move;
+use line::PostNo;
+use line::TrainNo;
+use line::refusal::OTHER_EDITION;
+use line::refusal::TORN_FRAME;
+use line::refusal::UNKNOWN_KIND;
+
+// What a frame of any bytes says.
+pub fn read(frame: &[u8]) -> Message
+    ensures { λ r. ⌜ r ≡ readFrame (now (frame .entry)) ⌝ }
+{
+    if frame.len() != 7 {
+        return Message::Refused(TORN_FRAME);
+    }
+    if frame[0] != 0 {
+        return Message::Refused(TORN_FRAME);
+    }
+    if frame[1] != 5 {
+        return Message::Refused(TORN_FRAME);
+    }
+    if frame[2] != 1 {
+        return Message::Refused(OTHER_EDITION);
+    }
+    let kind = frame[3];
+    let m = Move {
+        train: TrainNo(frame[4]),
+        from: PostNo(frame[5]),
+        to: PostNo(frame[6]),
+    };
+    match kind {
+        1 => Message::Fa(m),
+        2 => Message::Fe(m),
+        3 => Message::Afe(m),
+        4 => Message::Am(m),
+        0 | 5..=255 => Message::Refused(UNKNOWN_KIND),
+    }
+}
