@@ -17,7 +17,9 @@ use Rattle.common.proofs.Tests.{by-cases, by-equality}
 pub set-small : (n : ℕ) (f : ℕ → Bool) → setBelow n f < 2 ^ n
 unfolding setBelow
 set-small zero f = omega arith
-set-small (suc n) f = rw pow-succ' (by-cases (f n) (λ e. rw e (omega (arith, set-small n f))) (λ e. rw e (omega (arith, set-small n f))))
+set-small (suc n) f =
+    let below = set-small n f in
+    rw pow-succ' (by-cases (f n) (λ e. rw e (omega arith)) (λ e. rw e (omega arith)))
 
 ones-of-test : (b : Bool) → ones (ofBool b) ≡ ofBool b
 unfolding ones
@@ -48,7 +50,8 @@ bit-test x = by-cases (eqb (x % 2) 1)
 low-bit : (b r k n : ℕ) → k < n → (b * 2 ^ n + r) / 2 ^ k % 2 ≡ r / 2 ^ k % 2
 low-bit b r k n h =
     let e : n ≡ n - suc k + suc k = omega arith in
-    let p : 2 ^ n ≡ 2 ^ (n - suc k) * 2 * 2 ^ k = ap (λ (i : ℕ). 2 ^ i) e ∙ rw (pow-add 2 (n - suc k) (suc k), pow-succ' 2 k, mul-assoc) in
+    let p : 2 ^ n ≡ 2 ^ (n - suc k) * 2 * 2 ^ k
+    = ap (λ (i : ℕ). 2 ^ i) e ∙ rw (pow-add 2 (n - suc k) (suc k), pow-succ' 2 k, mul-assoc) in
     let q : b * 2 ^ n ≡ b * (2 ^ (n - suc k) * 2) * 2 ^ k = rw p (simp mul-assoc) in
     rw (q, mul-add-div-right (pow-pos k) (b * (2 ^ (n - suc k) * 2)) r, ← mul-assoc b (2 ^ (n - suc k)) 2) (omega arith)
 
@@ -67,4 +70,6 @@ bit-set (suc n) f k h = at (λ l. bit-set n f k l)
 pub set-of-bits : (n x : ℕ) → setBelow n (bitAt x) ≡ x % 2 ^ n
 unfolding setBelow
 set-of-bits zero x = omega arith
-set-of-bits (suc n) x = rw (bit-test (x / 2 ^ n), set-of-bits n x, pow-succ') (sym (mod-mul x {m = 2} {c = 2 ^ n} (omega arith) (pow-pos n)))
+set-of-bits (suc n) x =
+    rw (bit-test (x / 2 ^ n), set-of-bits n x, pow-succ')
+    (sym (mod-mul x {m = 2} {c = 2 ^ n} (omega arith) (pow-pos n)))

@@ -30,12 +30,16 @@ numbered [] = true
 numbered (c ∷ cs) = ltb 0 (c .number) && numbered cs
 
 -- what is not refused passes each check, read off by its place in the list
-pub passed-at : (cs : List Check) → numbered cs ≡ true → refusal cs ≡ 0 → (i : ℕ) → ltb i (length cs) ≡ true → getD cs i (check 0 true) .passes ≡ true
+pub passed-at : (cs : List Check) → numbered cs ≡ true → refusal cs ≡ 0
+    → (i : ℕ) → ltb i (length cs) ≡ true → getD cs i (check 0 true) .passes ≡ true
 unfolding refusal
 passed-at [] n e i l = absurd (not-suc-le-zero (ltb-true i 0 l))
 passed-at (c ∷ cs) n e i l = by-cases (c .passes)
     (λ p. at p (passed-at cs (and-right (ltb 0 (c .number)) (numbered cs) n) (rw p at e)) i l)
-    (λ p. let z : c .number ≡ 0 = rw p at e in absurd (let y = ltb-true 0 (c .number) (and-left (ltb 0 (c .number)) (numbered cs) n) in omega arith))
+    (λ p.
+    let z : c .number ≡ 0 = rw p at e in
+    let y = ltb-true 0 (c .number) (and-left (ltb 0 (c .number)) (numbered cs) n) in
+    absurd (omega arith))
   where
     at : c .passes ≡ true → ((j : ℕ) → ltb j (length cs) ≡ true → getD cs j (check 0 true) .passes ≡ true)
         → (i : ℕ) → ltb i (length (c ∷ cs)) ≡ true → getD (c ∷ cs) i (check 0 true) .passes ≡ true
@@ -52,7 +56,8 @@ refuses {n = zero} x f h = absurd (not-suc-le-zero h)
 refuses {n = suc n} x f h = refl
 
 -- what stands where nothing but a refusal can stand for the other case
-pub accepted-if : {A : Type 0} (P : A → Type 0) (n : ℕ) (x : A) (f : ℕ → A) → ((k : ℕ) → P (f k) → ⊥) → P (unlessRefused n x f) → (n ≡ 0) × P x
+pub accepted-if : {A : Type 0} (P : A → Type 0) (n : ℕ) (x : A) (f : ℕ → A)
+    → ((k : ℕ) → P (f k) → ⊥) → P (unlessRefused n x f) → (n ≡ 0) × P x
 unfolding unlessRefused
 accepted-if P zero x f h p = (refl, p)
 accepted-if P (suc n) x f h p = absurd (h (suc n) p)

@@ -1,4 +1,5 @@
--- The laws of the definitions in `specs/`, each in the file of its definition's name; `Tests` has the laws of Bools that the kit does not have.
+-- The laws of the definitions in `specs/`, each in the file of its definition's name; `Tests` has the laws of Bools that
+-- the kit does not have.
 pub mod Tests
 pub mod Below
 pub mod Check

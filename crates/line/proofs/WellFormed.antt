@@ -9,7 +9,8 @@ use borrow.Author.Tests.{ltb-true, leb-true, lt-ltb, le-leb}
 use Rattle.common.proofs.Tests.{and-left, and-right, and-both}
 use Rattle.common.proofs.Below.{all-below, below-all}
 use Rattle.line.specs.Sorts.{Line}
-use Rattle.line.specs.Line.{routeOf, tracksAt, inRange, postsInRange, tracksInRange, trainsInRange, routesOnLine, wellFormed}
+use Rattle.line.specs.Line.{routeOf, tracksAt, inRange, wellFormed}
+use Rattle.line.specs.Line.{postsInRange, tracksInRange, trainsInRange, routesOnLine}
 use Rattle.line.specs.Route.{routeLength}
 
 pub record WellFormed (l : Line) : Type 0 where
@@ -33,7 +34,8 @@ ranged a b n h k = and-both (leb a n) (leb n b) (le-leb a n h) (le-leb n b k)
 
 module _ (l : Line) where
   -- the parts that `wellFormed` is made of
-  pub well-formed-parts : postsInRange l ≡ true → tracksInRange l ≡ true → trainsInRange l ≡ true → routesOnLine l ≡ true → wellFormed l ≡ true
+  pub well-formed-parts : postsInRange l ≡ true → tracksInRange l ≡ true → trainsInRange l ≡ true
+      → routesOnLine l ≡ true → wellFormed l ≡ true
   unfolding wellFormed
   well-formed-parts p k t r = rw (p, k, t, r)
 
@@ -53,8 +55,8 @@ module _ (l : Line) where
         few-tracks = λ p k. high 1 4 (tracksAt l p) (tracks p k);
         some-trains = low 1 6 (l .trains) trains;
         few-trains = high 1 6 (l .trains) trains;
-        starts = λ t k. ltb-true (routeOf l t .start .0) (l .posts) (and-left (ltb (routeOf l t .start .0) (l .posts)) _ (routes t k));
-        ends = λ t k. ltb-true (routeOf l t .end .0) (l .posts) (and-right (ltb (routeOf l t .start .0) (l .posts)) _ (routes t k));
+        starts = λ t k. ltb-true _ _ (and-left (ltb (routeOf l t .start .0) (l .posts)) _ (routes t k));
+        ends = λ t k. ltb-true _ _ (and-right (ltb (routeOf l t .start .0) (l .posts)) _ (routes t k));
       }
 
   pub is-well-formed : WellFormed l → wellFormed l ≡ true
