@@ -61,12 +61,12 @@ only s h =
     let m = messageOf (getD s 3 0) (namedMove s) in
     let a = accepted-if IsMessage (refusal (readChecks s)) m Refused no-message h in
     let passed = passed-at (readChecks s) refl (a .0) in
-    let size : length s ≡ 7 = eqb-true _ _ (and-left (eqb (length s) 7) _ (passed 0 refl)) in
+    let size : length s ≡ 7 = eqb-true _ _ (and-left (eqb (length s) 7) _ (passed 0)) in
     let five : word (getD s 0 0) (getD s 1 0) ≡ 5
-    = eqb-true _ _ (and-right (eqb (length s) 7) _ (passed 0 refl)) in
+    = eqb-true _ _ (and-right (eqb (length s) 7) _ (passed 0)) in
     let high : getD s 0 0 ≡ 0 = omega arith in
     let low : getD s 1 0 ≡ 5 = omega arith in
-    let version : getD s 2 0 ≡ 1 = eqb-true _ _ (passed 1 refl) in
+    let version : getD s 2 0 ≡ 1 = eqb-true _ _ (passed 1) in
     ap bytesOf (accepts m Refused (a .0)) ∙ message-bytes (getD s 3 0) (namedMove s) (a .1) ∙ cc (spell s 7 0 (sym size))
 
 pub round-trip : RoundTrip

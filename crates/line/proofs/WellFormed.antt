@@ -26,7 +26,7 @@ pub record WellFormed (l : Line) : Type 0 where
 low : (a b n : ℕ) → inRange a b n ≡ true → a ≤ n
 low a b n h = leb-true a n (and-left (leb a n) (leb n b) h)
 
-high : (a b n : ℕ) → inRange a b n ≡ true → n ≤ b
+pub high : (a b n : ℕ) → inRange a b n ≡ true → n ≤ b
 high a b n h = leb-true n b (and-right (leb a n) (leb n b) h)
 
 ranged : (a b n : ℕ) → a ≤ n → n ≤ b → inRange a b n ≡ true
@@ -39,15 +39,25 @@ module _ (l : Line) where
   unfolding wellFormed
   well-formed-parts p k t r = rw (p, k, t, r)
 
-  pub well-formed : wellFormed l ≡ true → WellFormed l
+  pub formed-parts : wellFormed l ≡ true
+      → (postsInRange l ≡ true) × (tracksInRange l ≡ true) × (trainsInRange l ≡ true) × (routesOnLine l ≡ true)
   unfolding wellFormed
-  well-formed h =
-      let posts = and-left (postsInRange l) (tracksInRange l && (trainsInRange l && routesOnLine l)) h in
+  formed-parts h =
       let rest = and-right (postsInRange l) (tracksInRange l && (trainsInRange l && routesOnLine l)) h in
-      let tracks = all-below (l .posts) _ (and-left (tracksInRange l) (trainsInRange l && routesOnLine l) rest) in
-      let last = and-right (tracksInRange l) (trainsInRange l && routesOnLine l) rest in
-      let trains = and-left (trainsInRange l) (routesOnLine l) last in
-      let routes = all-below (l .trains) _ (and-right (trainsInRange l) (routesOnLine l) last) in
+      let last = and-right (tracksInRange l) (trainsInRange l && routesOnLine l) rest in (
+        and-left (postsInRange l) (tracksInRange l && (trainsInRange l && routesOnLine l)) h,
+        and-left (tracksInRange l) (trainsInRange l && routesOnLine l) rest,
+        and-left (trainsInRange l) (routesOnLine l) last,
+        and-right (trainsInRange l) (routesOnLine l) last,
+      )
+
+  pub well-formed : wellFormed l ≡ true → WellFormed l
+  well-formed h =
+      let parts = formed-parts h in
+      let posts = parts .0 in
+      let tracks = all-below (l .posts) _ (parts .1) in
+      let trains = parts .2 in
+      let routes = all-below (l .trains) _ (parts .3) in
       record {
         some-posts = low 2 8 (l .posts) posts;
         few-posts = high 2 8 (l .posts) posts;

@@ -3,4 +3,6 @@ pub mod Refusal
 pub mod Sorts
 pub mod Route
 pub mod Line
+pub mod Book
+pub mod Claims
 pub mod Holding

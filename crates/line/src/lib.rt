@@ -4,8 +4,11 @@ pub mod book;
 pub mod refusal;
 mod route;
 mod sorts;
+pub mod word;
 
 pub use book::Line;
+pub use book::Outcome;
+pub use book::Reading;
 pub use route::Route;
 pub use route::next_post;
 pub use route::section;
