@@ -7,6 +7,7 @@ mod sorts;
 
 pub use book::Line;
 pub use route::Route;
+pub use route::between;
 pub use route::next_post;
 pub use route::section;
 pub use sorts::PostNo;

@@ -1,0 +1,60 @@
+// Pressing a button: refusals 1, 21 and 8, in that order.
+ghost use mathlib.Core.Path.{_≡_};
+ghost use Rattle.unit.specs.State.{ownMove, inPhase};
+ghost use Rattle.unit.specs.Pressing.{phaseFor, quiet, sending, refusedPress, carriedOut, pressButton};
+use crate::state::Button;
+use crate::state::Phase;
+use crate::state::Unit;
+use crate::state::in_phase;
+use crate::state::own_move;
+use crate::state::same;
+use crate::state::valid;
+use frame::Message;
+use line::refusal::AT_END;
+use line::refusal::NOT_NOW;
+use line::refusal::STRANGE_STATE;
+
+// The unit afterwards, the number of the refusal or 0, and the frame that is to be sent, if `sent`
+// is true; else its bytes are 0.
+pub struct Pressed {
+    pub unit: Unit,
+    pub refusal: u8,
+    pub sent: bool,
+    pub frame: [u8; 7],
+}
+
+pub fn press(unit: Unit, button: Button) -> Pressed
+    ensures { λ r. ⌜ r ≡ pressButton unit button ⌝ }
+{
+    let phase = unit.phase;
+    let route = unit.route;
+    if !valid(unit) {
+        return refused(unit, STRANGE_STATE);
+    }
+    if !same(phase, phase_for(button)) {
+        return refused(unit, NOT_NOW);
+    }
+    match button {
+        Button::Ask => {
+            if unit.at.0 == route.end.0 {
+                return refused(unit, AT_END);
+            }
+            sending(in_phase(unit, Phase::Asked), Message::Fa(own_move(unit)))
+        }
+        Button::Depart => quiet(in_phase(unit, Phase::UnderWay)),
+        Button::Reached => quiet(in_phase(unit, Phase::Arrived)),
+        Button::Report => sending(moved_on(unit), Message::Am(own_move(unit))),
+    }
+}
+
+// The phase that a button is for.
+fn phase_for(button: Button) -> Phase
+    ensures { λ r. ⌜ r ≡ phaseFor button ⌝ }
+{
+    match button {
+        Button::Ask => Phase::Standing,
+        Button::Depart => Phase::Granted,
+        Button::Reached => Phase::UnderWay,
+        Button::Report => Phase::Arrived,
+    }
+}
