@@ -1,8 +1,8 @@
 -- Laws of checks in order. A proof about a refusal passes the checks one by one and stops at the one that fails.
 -- Assumes nothing.
-use mathlib.Core.Path.{_≡_, refl}
+use mathlib.Core.Path.{_≡_, refl, subst⁻¹}
 use mathlib.Core.Bool.{Bool, true, false, _&&_}
-use mathlib.Core.List.{List, [], _∷_}
+use mathlib.Core.List.{List, [], _∷_, _++_}
 use Prim.Native.Nat.{ℕ, zero, suc, _<_}
 use native.Mathlib.Nat.{not-suc-le-zero}
 use native.Mathlib.Omega.{arith}
@@ -41,6 +41,24 @@ passed-at (c ∷ cs) n e i l = by-cases (c .passes)
         → (i : ℕ) → ltb i (length (c ∷ cs)) ≡ true → getD (c ∷ cs) i (check 0 true) .passes ≡ true
     at p ih zero l = p
     at p ih (suc j) l = ih j (lt-ltb j (length cs) (let z = ltb-true (suc j) (suc (length cs)) l in omega arith))
+
+-- two lists one after the other: the first refuses, or it is passed and the second decides
+pub stop-within : (cs ds : List Check) → 0 < refusal cs → Refuses (cs ++ ds) (refusal cs)
+unfolding refusal
+stop-within [] ds h = absurd (not-suc-le-zero h)
+stop-within (c ∷ cs) ds h = by-cases (c .passes)
+    (λ p. to (rw p) (pass p (stop-within cs ds (rw p at h))))
+    (λ p. to (rw p) (stop p))
+  where
+    to : {n : ℕ} → refusal (c ∷ cs) ≡ n → Refuses ((c ∷ cs) ++ ds) n → Refuses ((c ∷ cs) ++ ds) (refusal (c ∷ cs))
+    to e r = subst⁻¹ (Refuses ((c ∷ cs) ++ ds)) e r
+
+pub pass-all : (cs : List Check) {ds : List Check} {n : ℕ} → numbered cs ≡ true → refusal cs ≡ 0 → Refuses ds n → Refuses (cs ++ ds) n
+unfolding refusal
+pass-all [] k e r = r
+pass-all (c ∷ cs) k e r = by-cases (c .passes)
+    (λ p. pass p (pass-all cs (and-right (ltb 0 (c .number)) (numbered cs) k) (rw p at e) r))
+    (λ p. let z : c .number ≡ 0 = rw p at e in absurd (let y = ltb-true 0 (c .number) (and-left (ltb 0 (c .number)) (numbered cs) k) in omega arith))
 
 pub accepts : {A : Type 0} {n : ℕ} (x : A) (f : ℕ → A) → n ≡ 0 → unlessRefused n x f ≡ x
 unfolding unlessRefused

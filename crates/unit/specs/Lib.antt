@@ -2,3 +2,5 @@
 pub mod Types
 pub mod State
 pub mod Making
+pub mod Pressing
+pub mod Hearing

@@ -9,3 +9,5 @@ pub use Rattle.unit.specs.declared.state.Button.{Button}
 pub use Rattle.unit.specs.declared.state.Button.the-variants.{Ask, Depart, Reached, Report}
 pub use Rattle.unit.specs.declared.state.Unit.{Unit}
 pub use Rattle.unit.specs.declared.making.Made.{Made}
+pub use Rattle.unit.specs.declared.pressing.Pressed.{Pressed}
+pub use Rattle.unit.specs.declared.hearing.Heard.{Heard}

@@ -1,7 +1,6 @@
 // Pressing a button: refusals 1, 21 and 8, in that order.
 ghost use mathlib.Core.Path.{_≡_};
-ghost use Rattle.unit.specs.State.{ownMove, inPhase};
-ghost use Rattle.unit.specs.Pressing.{phaseFor, quiet, sending, refusedPress, carriedOut, pressButton};
+ghost use Rattle.unit.specs.Pressing.{phaseFor, movedOn, quiet, sending, refusedPress, pressButton};
 use crate::state::Button;
 use crate::state::Phase;
 use crate::state::Unit;
@@ -14,8 +13,8 @@ use line::refusal::AT_END;
 use line::refusal::NOT_NOW;
 use line::refusal::STRANGE_STATE;
 
-// The unit afterwards, the number of the refusal or 0, and the frame that is to be sent, if `sent`
-// is true; else its bytes are 0.
+// The unit afterwards; the number of the refusal, or 0; whether a frame is to be sent, and its
+// bytes, which are all 0 where none is.
 pub struct Pressed {
     pub unit: Unit,
     pub refusal: u8,
@@ -23,6 +22,7 @@ pub struct Pressed {
     pub frame: [u8; 7],
 }
 
+// What a press of a button does.
 pub fn press(unit: Unit, button: Button) -> Pressed
     ensures { λ r. ⌜ r ≡ pressButton unit button ⌝ }
 {
@@ -47,7 +47,7 @@ pub fn press(unit: Unit, button: Button) -> Pressed
     }
 }
 
-// The phase that a button is for.
+// The phase in which a button may be pressed.
 fn phase_for(button: Button) -> Phase
     ensures { λ r. ⌜ r ≡ phaseFor button ⌝ }
 {
@@ -56,5 +56,54 @@ fn phase_for(button: Button) -> Phase
         Button::Depart => Phase::Granted,
         Button::Reached => Phase::UnderWay,
         Button::Report => Phase::Arrived,
+    }
+}
+
+// Standing at the next post.
+fn moved_on(unit: Unit) -> Unit
+    ensures { λ r. ⌜ r ≡ movedOn unit ⌝ }
+{
+    let train = unit.train;
+    let route = unit.route;
+    let at = line::next_post(unit.at, route.end);
+    Unit {
+        train: train,
+        route: route,
+        at: at,
+        phase: Phase::Standing,
+    }
+}
+
+fn refused(unit: Unit, refusal: u8) -> Pressed
+    ensures { λ r. ⌜ r ≡ refusedPress unit refusal ⌝ }
+{
+    Pressed {
+        unit: unit,
+        refusal: refusal,
+        sent: false,
+        frame: [0; 7],
+    }
+}
+
+fn quiet(unit: Unit) -> Pressed
+    ensures { λ r. ⌜ r ≡ quiet unit ⌝ }
+{
+    Pressed {
+        unit: unit,
+        refusal: 0,
+        sent: false,
+        frame: [0; 7],
+    }
+}
+
+fn sending(unit: Unit, message: Message) -> Pressed
+    ensures { λ r. ⌜ r ≡ sending unit message ⌝ }
+{
+    let frame = frame::write(message);
+    Pressed {
+        unit: unit,
+        refusal: 0,
+        sent: true,
+        frame: frame,
     }
 }

@@ -1,6 +1,7 @@
 // The state of a unit, and whether one that is handed in is valid (01: sound).
 ghost use mathlib.Core.Path.{_≡_};
-ghost use Rattle.unit.specs.State.{numbersFit, phaseNo, samePhase, validUnit};
+ghost use Rattle.unit.specs.State.{numbersFit, phaseNo, samePhase, ownMove, inPhase, validUnit};
+use frame::Move;
 use line::PostNo;
 use line::Route;
 use line::TrainNo;
@@ -60,7 +61,10 @@ pub fn valid(unit: Unit) -> bool
 pub(crate) fn numbers_fit(train: TrainNo, start: PostNo, end: PostNo) -> bool
     ensures { λ r. ⌜ r ≡ numbersFit (train .0) (start .0) (end .0) ⌝ }
 {
-    train.0 <= 5 && start.0 <= 7 && end.0 <= 7
+    if train.0 > 5 {
+        return false;
+    }
+    start.0 <= 7 && end.0 <= 7
 }
 
 // Whether the two are one phase.
@@ -80,5 +84,33 @@ fn number(phase: Phase) -> u8
         Phase::Granted => 3,
         Phase::UnderWay => 4,
         Phase::Arrived => 5,
+    }
+}
+
+// The move of the unit's train from its present to its next post.
+pub(crate) fn own_move(unit: Unit) -> Move
+    ensures { λ r. ⌜ r ≡ ownMove unit ⌝ }
+{
+    let train = unit.train;
+    let route = unit.route;
+    let from = unit.at;
+    Move {
+        train: train,
+        from: from,
+        to: line::next_post(from, route.end),
+    }
+}
+
+pub(crate) fn in_phase(unit: Unit, phase: Phase) -> Unit
+    ensures { λ r. ⌜ r ≡ inPhase unit phase ⌝ }
+{
+    let train = unit.train;
+    let route = unit.route;
+    let at = unit.at;
+    Unit {
+        train: train,
+        route: route,
+        at: at,
+        phase: phase,
     }
 }

@@ -1,0 +1,192 @@
+use borrow.Author.Needs.{needs}
+use Rattle.unit.proofs.hearing.hear.Statement.{statement}
+use Rattle.unit.proofs.hearing.hear.Tie as tie
+use Rattle.unit.proofs.hearing.hear.Reads as reads
+use Rattle.unit.proofs.hearing.hear.Lts as lts
+use Rattle.frame.proofs.read.Reads as read-reads
+use Rattle.unit.proofs.hearing.answered.Reads as answered-reads
+use Rattle.unit.proofs.hearing.awaiting.Reads as awaiting-reads
+use Rattle.unit.proofs.hearing.for_move.Reads as for-move-reads
+use Rattle.unit.proofs.state.in_phase.Reads as in-phase-reads
+use Rattle.unit.proofs.state.same.Reads as same-reads
+use Rattle.unit.proofs.state.valid.Reads as valid-reads
+
+-- src/hearing.rt:27:9
+valid-requires : tie.Need-valid-requires
+valid-requires c κs = search needs
+
+-- src/hearing.rt:28:9
+answered-requires : tie.Need-answered-requires
+answered-requires c κs = search needs
+
+-- src/hearing.rt:28:9
+returns : tie.Need-returns
+returns c = ?
+
+-- src/hearing.rt:30:11
+read-requires : tie.Need-read-requires
+read-requires c κs = search needs
+
+-- src/hearing.rt:31:27
+enum-told : tie.Need-enum-told
+enum-told c = search needs
+
+-- src/hearing.rt:31:27
+answered-requires-2 : tie.Need-answered-requires-2
+answered-requires-2 c κs = search needs
+
+-- src/hearing.rt:32:21
+enum-known-m : tie.Need-enum-known-m
+enum-known-m c = search needs
+
+-- src/hearing.rt:34:17
+answered-requires-3 : tie.Need-answered-requires-3
+answered-requires-3 c κs = search needs
+
+-- src/hearing.rt:34:17
+returns-2 : tie.Need-returns-2
+returns-2 c = ?
+
+-- src/hearing.rt:36:17
+for-move-requires : tie.Need-for-move-requires
+for-move-requires c κs = search needs
+
+-- src/hearing.rt:37:17
+answered-requires-4 : tie.Need-answered-requires-4
+answered-requires-4 c κs = search needs
+
+-- src/hearing.rt:37:17
+returns-3 : tie.Need-returns-3
+returns-3 c = ?
+
+-- src/hearing.rt:39:17
+awaiting-requires : tie.Need-awaiting-requires
+awaiting-requires c κs = search needs
+
+-- src/hearing.rt:40:17
+answered-requires-5 : tie.Need-answered-requires-5
+answered-requires-5 c κs = search needs
+
+-- src/hearing.rt:40:17
+returns-4 : tie.Need-returns-4
+returns-4 c = ?
+
+-- src/hearing.rt:42:22
+in-phase-requires : tie.Need-in-phase-requires
+in-phase-requires c κs = search needs
+
+-- src/hearing.rt:42:13
+answered-requires-6 : tie.Need-answered-requires-6
+answered-requires-6 c κs = search needs
+
+-- src/hearing.rt:44:22
+enum-known-m-2 : tie.Need-enum-known-m-2
+enum-known-m-2 c = search needs
+
+-- src/hearing.rt:45:17
+for-move-requires-2 : tie.Need-for-move-requires-2
+for-move-requires-2 c κs = search needs
+
+-- src/hearing.rt:46:17
+answered-requires-7 : tie.Need-answered-requires-7
+answered-requires-7 c κs = search needs
+
+-- src/hearing.rt:46:17
+returns-5 : tie.Need-returns-5
+returns-5 c = ?
+
+-- src/hearing.rt:48:17
+same-requires : tie.Need-same-requires
+same-requires c κs = search needs
+
+-- src/hearing.rt:49:17
+answered-requires-8 : tie.Need-answered-requires-8
+answered-requires-8 c κs = search needs
+
+-- src/hearing.rt:49:17
+returns-6 : tie.Need-returns-6
+returns-6 c = ?
+
+-- src/hearing.rt:51:22
+in-phase-requires-2 : tie.Need-in-phase-requires-2
+in-phase-requires-2 c κs = search needs
+
+-- src/hearing.rt:51:13
+answered-requires-9 : tie.Need-answered-requires-9
+answered-requires-9 c κs = search needs
+
+-- src/hearing.rt:53:27
+enum-told-2 : tie.Need-enum-told-2
+enum-told-2 c = search needs
+
+-- src/hearing.rt:53:27
+answered-requires-10 : tie.Need-answered-requires-10
+answered-requires-10 c κs = search needs
+
+-- src/hearing.rt:54:26
+enum-known-n : tie.Need-enum-known-n
+enum-known-n c = search needs
+
+-- src/hearing.rt:54:32
+answered-requires-11 : tie.Need-answered-requires-11
+answered-requires-11 c κs = search needs
+
+-- src/hearing.rt:23:1
+returns-7 : tie.Need-returns-7
+returns-7 c = ?
+
+-- src/hearing.rt:23:1
+returns-8 : tie.Need-returns-8
+returns-8 c = ?
+
+-- src/hearing.rt:23:1
+returns-9 : tie.Need-returns-9
+returns-9 c = ?
+
+-- src/hearing.rt:23:1
+returns-10 : tie.Need-returns-10
+returns-10 c = ?
+
+-- src/hearing.rt:23:1
+returns-11 : tie.Need-returns-11
+returns-11 c = ?
+
+pub hear-spec : {M : Type 1} → statement M
+hear-spec =
+    tie.close
+    (tie.spec
+    valid-requires
+    answered-requires
+    returns
+    read-requires
+    enum-told
+    answered-requires-2
+    enum-known-m
+    answered-requires-3
+    returns-2
+    for-move-requires
+    answered-requires-4
+    returns-3
+    awaiting-requires
+    answered-requires-5
+    returns-4
+    in-phase-requires
+    answered-requires-6
+    enum-known-m-2
+    for-move-requires-2
+    answered-requires-7
+    returns-5
+    same-requires
+    answered-requires-8
+    returns-6
+    in-phase-requires-2
+    answered-requires-9
+    enum-told-2
+    answered-requires-10
+    enum-known-n
+    answered-requires-11
+    returns-7
+    returns-8
+    returns-9
+    returns-10
+    returns-11)
