@@ -28,9 +28,9 @@ known-message k m h =
     (by-equality k 2 (λ e. rw (eq-eqb k 2 e) tt) (λ b. rw (ne-eqb k 2 b)
     (by-equality k 3 (λ e. rw (eq-eqb k 3 e) tt) (λ c. rw (ne-eqb k 3 c)
     (by-equality k 4 (λ e. rw (eq-eqb k 4 e) tt) (λ d.
-        let low = leb-true 1 k (and-left (leb 1 k) (leb k 4) h) in
-        let high = leb-true k 4 (and-right (leb 1 k) (leb k 4) h) in
-        absurd (omega arith))))))))
+    let low = leb-true 1 k (and-left (leb 1 k) (leb k 4) h) in
+    let high = leb-true k 4 (and-right (leb 1 k) (leb k 4) h) in
+    absurd (omega arith))))))))
 
 pub read-refused : (s : List ℕ) (n : ℕ) → readFrame s ≡ Refused n → (0 < n) × (refusal (readChecks s) ≡ n)
 unfolding readFrame unlessRefused IsMessage

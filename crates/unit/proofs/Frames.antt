@@ -2,20 +2,31 @@
 -- Assumes nothing.
 use mathlib.Core.Path.{_≡_, refl, sym, ap, _∙_}
 use mathlib.Core.Logic.{_≢_}
-use mathlib.Core.Bool.{true, false, _&&_, _||_, or-false}
-use mathlib.Core.List.{List, [], _∷_, _++_}
+use mathlib.Core.Bool.{true, false, _&&_}
+use mathlib.Core.List.{List}
 use Prim.Native.Nat.{ℕ, _<_}
 use native.Mathlib.Omega.{arith}
+use lib.Dec.{eqb}
 use borrow.Author.Tests.{eq-eqb, ne-eqb}
-use Rattle.common.specs.Check.{check, refusal, unlessRefused}
+use Rattle.common.specs.Check.{refusal, unlessRefused}
 use Rattle.common.proofs.Check.{Refuses, none, stop, pass, stop-within, pass-all, refusal-is, accepts, refuses}
 use Rattle.line.specs.Refusal.{strangeState, wrongEnd, notAwaited}
 use Rattle.frame.specs.Frame.{readChecks, readFrame}
 use Rattle.frame.specs.RoundTrip.{IsMessage}
 use Rattle.frame.proofs.Outcome.{read-passed, read-refused}
 use Rattle.unit.specs.Types.{Move, Message, Fa, Fe, Afe, Am, Refused, Phase, Asked, Declined, Granted, Unit}
-use Rattle.unit.specs.State.{samePhase, inPhase, validUnit}
+use Rattle.unit.specs.State.{samePhase, ownMove, inPhase, validUnit}
 use Rattle.unit.specs.Hearing.{forTrain, forMove, awaiting, forUnit, awaited, hearChecks, phaseAfter, answered, hearFrame}
+
+-- the tests of a move against the unit's own
+module _ (u : Unit) (m own : Move) (is-own : own ≡ ownMove u) where
+  pub other-train : m .train .0 ≢ own .train .0 → false ≡ forMove u m
+  unfolding forMove
+  other-train h = let z : forTrain u m ≡ false = rw is-own at (ne-eqb (m .train .0) (own .train .0) h) in rw z
+
+  pub own-train : m .train .0 ≡ own .train .0 → eqb (m .from .0) (own .from .0) && eqb (m .to .0) (own .to .0) ≡ forMove u m
+  unfolding forMove
+  own-train h = let z : forTrain u m ≡ true = rw is-own at (eq-eqb (m .train .0) (own .train .0) h) in rw (is-own, z)
 
 module _ (u : Unit) (f : List ℕ) where
   refused : {n : ℕ} → 0 < n → Refuses (hearChecks u f) n → answered u n ≡ hearFrame u f
@@ -48,7 +59,7 @@ module _ (u : Unit) (f : List ℕ) where
         unfolding hearFrame
         taken p h q =
             let r : Refuses (hearChecks u f) 0 =
-                pass good (pass-all (readChecks f) refl read-well (pass (ap forUnit reads ∙ own) (pass (ap (awaited u) reads ∙ h) none))) in
+            pass good (pass-all (readChecks f) refl read-well (pass (ap forUnit reads ∙ own) (pass (ap (awaited u) reads ∙ h) none))) in
             sym (accepts (answered (inPhase u (phaseAfter u (readFrame f))) 0) (answered u) (refusal-is r)
             ∙ ap (λ (y : Phase). answered (inPhase u y) 0) (ap (phaseAfter u) reads ∙ q))
 
@@ -79,11 +90,8 @@ module _ (u : Unit) (f : List ℕ) where
         pub fe-for-another-move : forMove u m ≡ false → answered u notAwaited ≡ hearFrame u f
         fe-for-another-move h = fe-refused (rw (eq-eqb _ _ own, h))
 
-        pub fe-not-now : awaiting (u .phase) ≡ false → answered u notAwaited ≡ hearFrame u f
-        fe-not-now h = fe-refused (rw (eq-eqb _ _ own, h) (no (forMove u m)))
-          where
-            no : (b : _) → b && false ≡ false
-            no b = ?
+        pub fe-not-now : forMove u m ≡ true → awaiting (u .phase) ≡ false → answered u notAwaited ≡ hearFrame u f
+        fe-not-now h k = fe-refused (rw (eq-eqb _ _ own, h, k))
 
         pub fe-granted : forMove u m ≡ true → awaiting (u .phase) ≡ true → (v : Unit) → v ≡ inPhase u Granted → answered v 0 ≡ hearFrame u f
         unfolding phaseAfter

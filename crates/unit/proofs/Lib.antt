@@ -1,5 +1,6 @@
 -- The laws that the functions' proofs cite, by what they are about, and the claims of `specs/`, proved in files of their names.
 pub mod Phases
-pub mod Valid
+pub mod Numbers
+pub mod Validity
 pub mod Buttons
 pub mod Frames

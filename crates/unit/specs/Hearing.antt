@@ -6,7 +6,7 @@ use lib.Dec.{eqb}
 use Rattle.common.specs.Check.{Check, check, refusal, unlessRefused}
 use Rattle.line.specs.Refusal.{strangeState, wrongEnd, notAwaited}
 use Rattle.frame.specs.Frame.{readChecks, readFrame}
-use Rattle.unit.specs.Types.{Move, Message, Fa, Fe, Afe, Am, Refused, Phase, Asked, Declined, Granted, Unit, Heard}
+use Rattle.unit.specs.Types.{Move, Message, Fa, Fe, Afe, Am, Refused, Phase, Standing, Asked, Declined, Granted, UnderWay, Arrived, Unit, Heard}
 use Rattle.unit.specs.State.{samePhase, ownMove, inPhase, validUnit}
 
 -- "for its own train"
@@ -19,7 +19,12 @@ forMove u m = forTrain u m && (eqb (m .from .0) (ownMove u .from .0) && eqb (m .
 
 -- it has asked and has no authority yet
 abbrev pub awaiting : Phase → Bool
-awaiting p = samePhase p Asked || samePhase p Declined
+awaiting Standing = false
+awaiting Asked = true
+awaiting Declined = true
+awaiting Granted = false
+awaiting UnderWay = false
+awaiting Arrived = false
 
 -- "FA, AM at a unit" are 6
 abbrev pub forUnit : Message → Bool

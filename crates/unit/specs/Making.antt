@@ -17,5 +17,9 @@ emptyUnit = standingUnit 255 0 0
 abbrev pub makeChecks : ℕ → ℕ → ℕ → List Check
 makeChecks t a e = check offTheLine (numbersFit t a e) ∷ []
 
+-- the unit, and the number of the refusal or 0
+abbrev pub made : Unit → ℕ → Made
+made u n = record { unit = u; refusal = n }
+
 unfoldable pub makeUnit : ℕ → ℕ → ℕ → Made
-makeUnit t a e = unlessRefused (refusal (makeChecks t a e)) (record { unit = standingUnit t a e; refusal = 0 }) (λ n. record { unit = emptyUnit; refusal = n })
+makeUnit t a e = unlessRefused (refusal (makeChecks t a e)) (made (standingUnit t a e) 0) (made emptyUnit)

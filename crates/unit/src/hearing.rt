@@ -70,7 +70,14 @@ fn for_move(unit: Unit, m: Move) -> bool
 fn awaiting(phase: Phase) -> bool
     ensures { λ r. ⌜ r ≡ awaiting phase ⌝ }
 {
-    same(phase, Phase::Asked) || same(phase, Phase::Declined)
+    match phase {
+        Phase::Standing => false,
+        Phase::Asked => true,
+        Phase::Declined => true,
+        Phase::Granted => false,
+        Phase::UnderWay => false,
+        Phase::Arrived => false,
+    }
 }
 
 fn answered(unit: Unit, refusal: u8) -> Heard

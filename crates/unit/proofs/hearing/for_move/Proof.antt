@@ -1,3 +1,9 @@
+-- `for_move` meets its contract: the train's test, then those of the posts.
+-- Assumes nothing.
+use mathlib.Core.Path.{_∙_}
+use borrow.Author.Tests.{eq-eqb, ne-eqb}
+use Rattle.common.proofs.Tests.{and-passed, and-failed}
+use Rattle.unit.proofs.Frames.{other-train, own-train}
 use borrow.Author.Needs.{needs}
 use Rattle.unit.proofs.hearing.for_move.Statement.{statement}
 use Rattle.unit.proofs.hearing.for_move.Tie as tie
@@ -11,15 +17,15 @@ own-move-requires c κs = search needs
 
 -- src/hearing.rt:64:9
 returns : tie.Need-returns
-returns c = ?
+returns c = other-train _ _ _ (c .before .before .before .own-move .ensures) (c .if1 .taken)
 
 -- src/hearing.rt:59:1
 returns-2 : tie.Need-returns-2
-returns-2 c = ?
+returns-2 c = and-passed _ _ (eq-eqb _ _ (c .before .before .if2 .taken)) ∙ own-train _ _ _ (c .before .before .before .before .before .before .before .before .own-move .ensures) (c .before .before .before .before .before .if1 .left)
 
 -- src/hearing.rt:59:1
 returns-3 : tie.Need-returns-3
-returns-3 c = ?
+returns-3 c = and-failed _ _ (ne-eqb _ _ (c .if2 .left)) ∙ own-train _ _ _ (c .before .before .before .before .before .before .own-move .ensures) (c .before .before .before .if1 .left)
 
 pub for-move-spec : {M : Type 1} → statement M
 for-move-spec = tie.close (tie.spec own-move-requires returns returns-2 returns-3)

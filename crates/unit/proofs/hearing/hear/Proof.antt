@@ -1,3 +1,11 @@
+-- `hear` meets its contract: at each `return` the message and the tests that led there say which case of `hearFrame` holds.
+-- Assumes nothing.
+use mathlib.Core.Path.{_≡_, sym, _∙_}
+use mathlib.Core.Bool.{true}
+use borrow.Author.Tests.{not-true, not-false}
+use Rattle.unit.specs.Types.{Unit}
+use Rattle.unit.specs.State.{validUnit}
+use Rattle.unit.proofs.Frames as frames
 use borrow.Author.Needs.{needs}
 use Rattle.unit.proofs.hearing.hear.Statement.{statement}
 use Rattle.unit.proofs.hearing.hear.Tie as tie
@@ -21,7 +29,14 @@ answered-requires c κs = search needs
 
 -- src/hearing.rt:28:9
 returns : tie.Need-returns
-returns c = ?
+returns c = c .answered .ensures ∙ frames.strange _ _ (sym (c .before .before .valid .ensures) ∙ not-true _ (c .before .if1 .taken))
+
+module _ (c : tie.After-read) where
+  abbrev unit : Unit
+  unit = c .before .before .before .before .args .unit
+
+  good : validUnit unit ≡ true
+  good = sym (c .before .before .valid .ensures) ∙ not-false _ (c .before .if1 .left)
 
 -- src/hearing.rt:30:11
 read-requires : tie.Need-read-requires
@@ -45,7 +60,8 @@ answered-requires-3 c κs = search needs
 
 -- src/hearing.rt:34:17
 returns-2 : tie.Need-returns-2
-returns-2 c = ?
+returns-2 c = let m = c .before .before .before .before .before in let r = m .before .before in
+    c .answered3 .ensures ∙ frames.fe-for-another _ _ (good r) _ (sym (r .read .ensures) ∙ m .m .given .1) (c .before .if2 .taken)
 
 -- src/hearing.rt:36:17
 for-move-requires : tie.Need-for-move-requires
@@ -56,8 +72,15 @@ answered-requires-4 : tie.Need-answered-requires-4
 answered-requires-4 c κs = search needs
 
 -- src/hearing.rt:37:17
+-- where an FE for its own train was read
+module _ (c : tie.After-for-move) where
+  abbrev read-of : tie.After-m
+  read-of = c .before .before .before .before .before
+
 returns-3 : tie.Need-returns-3
-returns-3 c = ?
+returns-3 c = let a = c .before .before in let m = read-of a in let r = m .before .before in
+    c .answered4 .ensures
+    ∙ frames.fe-for-another-move _ _ (good r) _ (sym (r .read .ensures) ∙ m .m .given .1) (a .before .if2 .left) (sym (a .for-move .ensures) ∙ not-true _ (c .before .if3 .taken))
 
 -- src/hearing.rt:39:17
 awaiting-requires : tie.Need-awaiting-requires
@@ -69,7 +92,10 @@ answered-requires-5 c κs = search needs
 
 -- src/hearing.rt:40:17
 returns-4 : tie.Need-returns-4
-returns-4 c = ?
+returns-4 c = let w = c .before .before in let a = w .before .before in let m = read-of a in let r = m .before .before in
+    c .answered5 .ensures
+    ∙ frames.fe-not-now _ _ (good r) _ (sym (r .read .ensures) ∙ m .m .given .1) (a .before .if2 .left)
+    (sym (a .for-move .ensures) ∙ not-false _ (w .before .if3 .left)) (sym (w .awaiting .ensures) ∙ not-true _ (c .before .if4 .taken))
 
 -- src/hearing.rt:42:22
 in-phase-requires : tie.Need-in-phase-requires
@@ -93,7 +119,9 @@ answered-requires-7 c κs = search needs
 
 -- src/hearing.rt:46:17
 returns-5 : tie.Need-returns-5
-returns-5 c = ?
+returns-5 c = let m = c .before .before .before .before in let r = m .before .before in
+    c .answered7 .ensures
+    ∙ frames.afe-for-another _ _ (good r) _ (sym (r .read .ensures) ∙ m .m2 .given .1) (sym (c .before .before .for-move2 .ensures) ∙ not-true _ (c .before .if5 .taken))
 
 -- src/hearing.rt:48:17
 same-requires : tie.Need-same-requires
@@ -105,7 +133,10 @@ answered-requires-8 c κs = search needs
 
 -- src/hearing.rt:49:17
 returns-6 : tie.Need-returns-6
-returns-6 c = ?
+returns-6 c = let w = c .before .before in let a = w .before .before in let m = a .before .before in let r = m .before .before in
+    c .answered8 .ensures
+    ∙ frames.afe-not-now _ _ (good r) _ (sym (r .read .ensures) ∙ m .m2 .given .1)
+    (sym (a .for-move2 .ensures) ∙ not-false _ (w .before .if5 .left)) (sym (w .same .ensures) ∙ not-true _ (c .before .if6 .taken))
 
 -- src/hearing.rt:51:22
 in-phase-requires-2 : tie.Need-in-phase-requires-2
@@ -133,23 +164,34 @@ answered-requires-11 c κs = search needs
 
 -- src/hearing.rt:23:1
 returns-7 : tie.Need-returns-7
-returns-7 c = ?
+returns-7 c = let told = c .before in let r = told .before .before in
+    c .answered2 .ensures ∙ frames.fa _ _ (good r) _ (sym (r .read .ensures) ∙ told .enum-told .given .1)
 
 -- src/hearing.rt:23:1
 returns-8 : tie.Need-returns-8
-returns-8 c = ?
+returns-8 c = let w = c .before .before .before in let a = w .before .before in let m = read-of a in let r = m .before .before in
+    c .answered6 .ensures
+    ∙ frames.fe-granted _ _ (good r) _ (sym (r .read .ensures) ∙ m .m .given .1) (a .before .if2 .left)
+    (sym (a .for-move .ensures) ∙ not-false _ (w .before .if3 .left)) (sym (w .awaiting .ensures) ∙ not-false _ (c .before .before .if4 .left))
+    _ (c .before .in-phase .ensures)
 
 -- src/hearing.rt:23:1
 returns-9 : tie.Need-returns-9
-returns-9 c = ?
+returns-9 c = let w = c .before .before .before in let a = w .before .before in let m = a .before .before in let r = m .before .before in
+    c .answered9 .ensures
+    ∙ frames.afe-declined _ _ (good r) _ (sym (r .read .ensures) ∙ m .m2 .given .1)
+    (sym (a .for-move2 .ensures) ∙ not-false _ (w .before .if5 .left)) (sym (w .same .ensures) ∙ not-false _ (c .before .before .if6 .left))
+    _ (c .before .in-phase2 .ensures)
 
 -- src/hearing.rt:23:1
 returns-10 : tie.Need-returns-10
-returns-10 c = ?
+returns-10 c = let told = c .before in let r = told .before .before in
+    c .answered10 .ensures ∙ frames.am _ _ (good r) _ (sym (r .read .ensures) ∙ told .enum-told2 .given .1)
 
 -- src/hearing.rt:23:1
 returns-11 : tie.Need-returns-11
-returns-11 c = ?
+returns-11 c = let n = c .before .before in let r = n .before .before in
+    c .answered11 .ensures ∙ frames.not-read _ _ (good r) _ (sym (r .read .ensures) ∙ n .n .given .1)
 
 pub hear-spec : {M : Type 1} → statement M
 hear-spec =

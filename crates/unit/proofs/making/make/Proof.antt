@@ -1,3 +1,8 @@
+-- `make` meets its contract: where the numbers do not fit, the empty unit and 18.
+-- Assumes nothing.
+use mathlib.Core.Path.{sym, _∙_}
+use borrow.Author.Tests.{not-true, not-false}
+use Rattle.unit.proofs.Numbers.{makes, makes-none}
 use borrow.Author.Needs.{needs}
 use Rattle.unit.proofs.making.make.Statement.{statement}
 use Rattle.unit.proofs.making.make.Tie as tie
@@ -16,7 +21,7 @@ standing-requires c κs = search needs
 
 -- src/making.rt:23:9
 returns : tie.Need-returns
-returns c = ?
+returns c = makes-none _ _ _ (sym (c .before .before .numbers-fit .ensures) ∙ not-true _ (c .before .if1 .taken)) _ (c .standing .ensures)
 
 -- src/making.rt:29:15
 standing-requires-2 : tie.Need-standing-requires-2
@@ -24,7 +29,7 @@ standing-requires-2 c κs = search needs
 
 -- src/making.rt:19:1
 returns-2 : tie.Need-returns-2
-returns-2 c = ?
+returns-2 c = makes _ _ _ (sym (c .before .before .numbers-fit .ensures) ∙ not-false _ (c .before .if1 .left)) _ (c .standing2 .ensures)
 
 pub make-spec : {M : Type 1} → statement M
 make-spec =

@@ -1,3 +1,7 @@
+-- `moved_on` meets its contract: the next post is `next_post`'s.
+-- Assumes nothing.
+use mathlib.Core.Path.{ap}
+use Rattle.unit.specs.Types.{Standing}
 use borrow.Author.Needs.{needs}
 use Rattle.unit.proofs.pressing.moved_on.Statement.{statement}
 use Rattle.unit.proofs.pressing.moved_on.Tie as tie
@@ -11,7 +15,7 @@ next-post-requires c κs = search needs
 
 -- src/pressing.rt:63:1
 returns : tie.Need-returns
-returns c = ?
+returns c = rw (c .next-post .ensures)
 
 pub moved-on-spec : {M : Type 1} → statement M
 moved-on-spec = tie.close (tie.spec next-post-requires returns)

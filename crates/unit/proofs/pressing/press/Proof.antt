@@ -1,3 +1,12 @@
+-- `press` meets its contract: at each `return` the tests that led there say which case of `pressButton` holds.
+-- Assumes nothing.
+use mathlib.Core.Path.{_≡_, sym, ap, _∙_}
+use mathlib.Core.Bool.{true}
+use borrow.Author.Tests.{not-true, not-false}
+use Rattle.unit.specs.Types.{Unit, Button}
+use Rattle.unit.specs.State.{samePhase, validUnit}
+use Rattle.unit.specs.Pressing.{phaseFor}
+use Rattle.unit.proofs.Buttons.{strange, other-phase, ask-at-end, ask, depart, reached, report}
 use borrow.Author.Needs.{needs}
 use Rattle.unit.proofs.pressing.press.Statement.{statement}
 use Rattle.unit.proofs.pressing.press.Tie as tie
@@ -23,7 +32,7 @@ refused-requires c κs = search needs
 
 -- src/pressing.rt:32:9
 returns : tie.Need-returns
-returns c = ?
+returns c = c .refused .ensures ∙ strange _ _ (sym (c .before .before .valid .ensures) ∙ not-true _ (c .before .if1 .taken))
 
 -- src/pressing.rt:34:21
 phase-for-requires : tie.Need-phase-for-requires
@@ -38,8 +47,26 @@ refused-requires-2 : tie.Need-refused-requires-2
 refused-requires-2 c κs = search needs
 
 -- src/pressing.rt:35:9
+module _ (c : tie.After-same) where
+  abbrev unit : Unit
+  unit = c .before .before .before .before .before .args .unit
+
+  abbrev button : Button
+  button = c .before .before .before .before .before .args .button
+
+  good : validUnit unit ≡ true
+  good = sym (c .before .before .before .valid .ensures) ∙ not-false _ (c .before .before .if1 .left)
+
+  tested : c .same .result ≡ samePhase (unit .phase) (phaseFor button)
+  tested = c .same .ensures ∙ ap (samePhase (unit .phase)) (c .before .phase-for .ensures)
+
 returns-2 : tie.Need-returns-2
-returns-2 c = ?
+returns-2 c = let s = c .before .before in
+    c .refused2 .ensures ∙ other-phase _ _ (good s) (sym (tested s) ∙ not-true _ (c .before .if2 .taken))
+
+module _ (c : tie.Else2) where
+  fits : samePhase (unit (c .before) .phase) (phaseFor (button (c .before))) ≡ true
+  fits = sym (tested (c .before)) ∙ not-false _ (c .if2 .left)
 
 -- src/pressing.rt:39:16
 enum-told : tie.Need-enum-told
@@ -51,7 +78,8 @@ refused-requires-3 c κs = search needs
 
 -- src/pressing.rt:40:17
 returns-3 : tie.Need-returns-3
-returns-3 c = ?
+returns-3 c = let told = c .before .before .before .before in let e = told .before .before in
+    c .refused3 .ensures ∙ ask-at-end _ _ (good (e .before)) (fits e) (told .enum-told .given .1) (c .before .if3 .taken)
 
 -- src/pressing.rt:42:21
 in-phase-requires : tie.Need-in-phase-requires
@@ -107,19 +135,25 @@ sending-requires-2 c κs = search needs
 
 -- src/pressing.rt:26:1
 returns-4 : tie.Need-returns-4
-returns-4 c = ?
+returns-4 c = let short = c .before .before .before in let told = short .before .before .before in let e = told .before .before in
+    c .sending .ensures
+    ∙ ask _ _ (good (e .before)) (fits e) (told .enum-told .given .1) (short .if3 .left) _ _ (c .before .before .in-phase .ensures) (c .before .own-move .ensures)
 
 -- src/pressing.rt:26:1
 returns-5 : tie.Need-returns-5
-returns-5 c = ?
+returns-5 c = let told = c .before .before in let e = told .before .before in
+    c .quiet .ensures ∙ depart _ _ (good (e .before)) (fits e) (told .enum-told2 .given .1) _ (c .before .in-phase2 .ensures)
 
 -- src/pressing.rt:26:1
 returns-6 : tie.Need-returns-6
-returns-6 c = ?
+returns-6 c = let told = c .before .before in let e = told .before .before in
+    c .quiet2 .ensures ∙ reached _ _ (good (e .before)) (fits e) (told .enum-told3 .given .1) _ (c .before .in-phase3 .ensures)
 
 -- src/pressing.rt:26:1
 returns-7 : tie.Need-returns-7
-returns-7 c = ?
+returns-7 c = let told = c .before .before .before in let e = told .before .before in
+    c .sending2 .ensures
+    ∙ report _ _ (good (e .before)) (fits e) (told .enum-told4 .given .1) _ _ (c .before .before .moved-on .ensures) (c .before .own-move2 .ensures)
 
 pub press-spec : {M : Type 1} → statement M
 press-spec =

@@ -1,3 +1,5 @@
+-- `sending` meets its contract: the bytes are those of `frame::write`.
+-- Assumes nothing.
 use borrow.Author.Needs.{needs}
 use Rattle.unit.proofs.pressing.sending.Statement.{statement}
 use Rattle.unit.proofs.pressing.sending.Tie as tie
@@ -11,7 +13,7 @@ write-requires c κs = search needs
 
 -- src/pressing.rt:99:1
 returns : tie.Need-returns
-returns c = ?
+returns c = rw (c .write .ensures)
 
 pub sending-spec : {M : Type 1} → statement M
 sending-spec = tie.close (tie.spec write-requires returns)

@@ -1,3 +1,5 @@
+-- `own_move` meets its contract: the next post is `next_post`'s.
+-- Assumes nothing.
 use borrow.Author.Needs.{needs}
 use Rattle.unit.proofs.state.own_move.Statement.{statement}
 use Rattle.unit.proofs.state.own_move.Tie as tie
@@ -11,7 +13,7 @@ next-post-requires c κs = search needs
 
 -- src/state.rt:91:1
 returns : tie.Need-returns
-returns c = ?
+returns c = rw (c .next-post .ensures)
 
 pub own-move-spec : {M : Type 1} → statement M
 own-move-spec = tie.close (tie.spec next-post-requires returns)

@@ -1,3 +1,6 @@
+-- `same` meets its contract: two phases are the same where their numbers are.
+-- Assumes nothing.
+use Rattle.unit.specs.State.{samePhase}
 use borrow.Author.Needs.{needs}
 use Rattle.unit.proofs.state.same.Statement.{statement}
 use Rattle.unit.proofs.state.same.Tie as tie
@@ -15,7 +18,8 @@ number-requires-2 c κs = search needs
 
 -- src/state.rt:71:1
 returns : tie.Need-returns
-returns c = ?
+unfolding samePhase
+returns c = rw (c .number2 .ensures, c .before .number .ensures)
 
 pub same-spec : {M : Type 1} → statement M
 same-spec = tie.close (tie.spec number-requires number-requires-2 returns)

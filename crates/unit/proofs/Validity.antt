@@ -10,15 +10,6 @@ use Rattle.line.specs.Route.{between}
 use Rattle.unit.specs.Types.{Standing, Unit}
 use Rattle.unit.specs.State.{samePhase, numbersFit, validUnit}
 
-module _ (t a e : ℕ) where
-  pub train-above : 5 < t → false ≡ numbersFit t a e
-  unfolding numbersFit
-  train-above h = rw (lt-leb t 5 h)
-
-  pub train-fits : t ≤ 5 → leb a 7 && leb e 7 ≡ numbersFit t a e
-  unfolding numbersFit
-  train-fits h = rw (le-leb t 5 h)
-
 module _ (u : Unit) where
   pub numbers-wrong : numbersFit (u .train .0) (u .route .start .0) (u .route .end .0) ≡ false → false ≡ validUnit u
   unfolding validUnit
