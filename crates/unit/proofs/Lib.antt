@@ -4,3 +4,5 @@ pub mod Numbers
 pub mod Validity
 pub mod Buttons
 pub mod Frames
+pub mod Outcomes
+pub mod Events

@@ -1,11 +1,12 @@
--- Laws of phases: two of the same number are the same.
+-- Laws of phases: two of the same number are the same, and who awaits an FE is not Standing.
 -- Assumes nothing.
 use mathlib.Core.Path.{_≡_, refl, sym, ap, _∙_}
-use mathlib.Core.Bool.{true}
+use mathlib.Core.Bool.{true, false, false≢true}
 use Prim.Native.Nat.{ℕ, zero, suc}
 use borrow.Author.Tests.{eqb-true}
 use Rattle.unit.specs.Types.{Phase, Standing, Asked, Declined, Granted, UnderWay, Arrived}
 use Rattle.unit.specs.State.{phaseNo, samePhase}
+use Rattle.unit.specs.Hearing.{awaiting}
 
 -- the phase of a number
 phaseOf : ℕ → Phase
@@ -28,3 +29,12 @@ phase-of Arrived = refl
 pub same-phase : (p q : Phase) → samePhase p q ≡ true → p ≡ q
 unfolding samePhase
 same-phase p q h = sym (phase-of p) ∙ ap phaseOf (eqb-true (phaseNo p) (phaseNo q) h) ∙ phase-of q
+
+pub awaiting-not-standing : (p : Phase) → awaiting p ≡ true → samePhase p Standing ≡ false
+unfolding samePhase
+awaiting-not-standing Standing h = absurd (false≢true h)
+awaiting-not-standing Asked h = refl
+awaiting-not-standing Declined h = refl
+awaiting-not-standing Granted h = refl
+awaiting-not-standing UnderWay h = refl
+awaiting-not-standing Arrived h = refl

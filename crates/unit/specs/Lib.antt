@@ -4,3 +4,5 @@ pub mod State
 pub mod Making
 pub mod Pressing
 pub mod Hearing
+pub mod Validity
+pub mod History

@@ -30,12 +30,17 @@ ended u = eqb (u .at .0) (u .route .end .0)
 abbrev pub ownMove : Unit → Move
 ownMove u = moveOf (u .train .0) (u .at .0) (nextPost (u .at .0) (u .route .end .0))
 
--- "A unit state is sound if train and posts are in range, the present post lies between start and end, and only Standing may be at the end."
-unfoldable pub validUnit : Unit → Bool
-validUnit u =
-    numbersFit (u .train .0) (u .route .start .0) (u .route .end .0)
-    && (between (u .route .start .0) (u .at .0) (u .route .end .0) && (not (ended u) || samePhase (u .phase) Standing))
+-- "train and posts are in range", "the present post lies between start and end"
+abbrev pub inRanges : Unit → Bool
+inRanges u = numbersFit (u .train .0) (u .route .start .0) (u .route .end .0)
 
--- the unit in another phase, and at another post
+abbrev pub onRoute : Unit → Bool
+onRoute u = between (u .route .start .0) (u .at .0) (u .route .end .0)
+
+-- "A unit state is sound if .., .., and only Standing may be at the end."
+unfoldable pub validUnit : Unit → Bool
+validUnit u = inRanges u && (onRoute u && (not (ended u) || samePhase (u .phase) Standing))
+
+-- the unit in another phase
 abbrev pub inPhase : Unit → Phase → Unit
 inPhase u p = record { train = u .train; route = u .route; at = u .at; phase = p }
