@@ -34,6 +34,9 @@ module _ (f : Event → Bool) where
   some-with [] x = by-cases (f x) (λ h. rw h) (λ h. rw h)
   some-with (y ∷ xs) x = by-cases (f y) (λ h. rw h) (λ h. rw h (some-with xs x))
 
+  pub still-none : (xs : List Event) (x : Event) → some f xs ≡ false → f x ≡ false → some f (with xs x) ≡ false
+  still-none xs x h k = some-with xs x ∙ rw (h, k)
+
 pub place-with : (p : ℕ) (xs : List Event) (x : Event) → place p (with xs x) ≡ reported (place p xs) x
 unfolding place
 place-with p [] x = refl

@@ -6,3 +6,5 @@ pub mod Buttons
 pub mod Frames
 pub mod Outcomes
 pub mod Events
+pub mod Past
+pub mod History

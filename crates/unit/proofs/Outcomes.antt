@@ -37,7 +37,7 @@ pub data HearOutcome (u : Unit) (f : List ℕ) : Heard → Type 0 where
   afe-passed-over : (m : Move) → readFrame f ≡ Afe m → HearOutcome u f (answered u 0)
   declined : (m : Move) → readFrame f ≡ Afe m → u .phase ≡ Asked → HearOutcome u f (answered (inPhase u Declined) 0)
 
-same-move : {t p q t′ p′ q′ : ℕ} → t ≡ t′ → p ≡ p′ → q ≡ q′ → moveOf t p q ≡ moveOf t′ p′ q′
+pub same-move : {t p q t′ p′ q′ : ℕ} → t ≡ t′ → p ≡ p′ → q ≡ q′ → moveOf t p q ≡ moveOf t′ p′ q′
 same-move a b c = rw (a, b, c)
 
 module _ (u : Unit) (m : Move) where
