@@ -10,8 +10,8 @@ use Rattle.common.specs.Check.{unlessRefused}
 use Rattle.common.proofs.Check.{Refuses, none, stop, pass, refusal-is, accepts, refuses}
 use Rattle.line.specs.Refusal.{strangeState, notNow, atEnd}
 use Rattle.unit.specs.Types.{Move, Fa, Am, Asked, UnderWay, Arrived, Button, Ask, Depart, Reached, Report, Unit}
-use Rattle.unit.specs.State.{samePhase, ended, ownMove, inPhase, validUnit}
-use Rattle.unit.specs.Pressing.{phaseFor, hasMove, pressChecks, quiet, sending, refusedPress, movedOn, carriedOut, pressButton}
+use Rattle.unit.specs.State.{samePhase, ownMove, inPhase, validUnit}
+use Rattle.unit.specs.Pressing.{phaseFor, pressChecks, quiet, sending, refusedPress, movedOn, carriedOut, pressButton}
 
 module _ (u : Unit) (b : Button) where
   refused : {n : ℕ} → 0 < n → Refuses (pressChecks u b) n → refusedPress u n ≡ pressButton u b
@@ -26,28 +26,26 @@ module _ (u : Unit) (b : Button) where
     other-phase h = refused (omega arith) (pass good (stop h))
 
     module _ (fits : samePhase (u .phase) (phaseFor b) ≡ true) where
-      no-move : hasMove u b ≡ false → refusedPress u atEnd ≡ pressButton u b
-      no-move h = refused (omega arith) (pass good (pass fits (stop h)))
+      pub no-move : u .at .0 ≡ u .route .end .0 → refusedPress u atEnd ≡ pressButton u b
+      no-move h = refused (omega arith) (pass good (pass fits (stop (rw (eq-eqb _ _ h)))))
 
-      pub carried-out : hasMove u b ≡ true → carriedOut u b ≡ pressButton u b
-      unfolding pressButton
-      carried-out h = sym (accepts (carriedOut u b) (refusedPress u) (refusal-is (pass good (pass fits (pass h none)))))
+      module _ (short : u .at .0 ≢ u .route .end .0) where
+        carried-out : carriedOut u b ≡ pressButton u b
+        unfolding pressButton
+        carried-out = sym (accepts (carriedOut u b) (refusedPress u) (refusal-is (pass good (pass fits (pass (rw (ne-eqb _ _ short)) none)))))
 
-      pub ask-at-end : b ≡ Ask → u .at .0 ≡ u .route .end .0 → refusedPress u atEnd ≡ pressButton u b
-      ask-at-end e h = no-move (rw (e, eq-eqb _ _ h))
+        pub ask : b ≡ Ask → (v : Unit) (m : Move) → v ≡ inPhase u Asked → m ≡ ownMove u → sending v (Fa m) ≡ pressButton u b
+        unfolding carriedOut
+        ask e v m p q = rw (p, q) (ap (carriedOut u) (sym e) ∙ carried-out)
 
-      pub ask : b ≡ Ask → u .at .0 ≢ u .route .end .0 → (v : Unit) (m : Move) → v ≡ inPhase u Asked → m ≡ ownMove u → sending v (Fa m) ≡ pressButton u b
-      unfolding carriedOut
-      ask e h v m p q = rw (p, q) (ap (carriedOut u) (sym e) ∙ carried-out (rw (e, ne-eqb _ _ h)))
+        pub depart : b ≡ Depart → (v : Unit) → v ≡ inPhase u UnderWay → quiet v ≡ pressButton u b
+        unfolding carriedOut
+        depart e v p = rw p (ap (carriedOut u) (sym e) ∙ carried-out)
 
-      pub depart : b ≡ Depart → (v : Unit) → v ≡ inPhase u UnderWay → quiet v ≡ pressButton u b
-      unfolding carriedOut
-      depart e v p = rw p (ap (carriedOut u) (sym e) ∙ carried-out (rw e))
+        pub reached : b ≡ Reached → (v : Unit) → v ≡ inPhase u Arrived → quiet v ≡ pressButton u b
+        unfolding carriedOut
+        reached e v p = rw p (ap (carriedOut u) (sym e) ∙ carried-out)
 
-      pub reached : b ≡ Reached → (v : Unit) → v ≡ inPhase u Arrived → quiet v ≡ pressButton u b
-      unfolding carriedOut
-      reached e v p = rw p (ap (carriedOut u) (sym e) ∙ carried-out (rw e))
-
-      pub report : b ≡ Report → (v : Unit) (m : Move) → v ≡ movedOn u → m ≡ ownMove u → sending v (Am m) ≡ pressButton u b
-      unfolding carriedOut
-      report e v m p q = rw (p, q) (ap (carriedOut u) (sym e) ∙ carried-out (rw e))
+        pub report : b ≡ Report → (v : Unit) (m : Move) → v ≡ movedOn u → m ≡ ownMove u → sending v (Am m) ≡ pressButton u b
+        unfolding carriedOut
+        report e v m p q = rw (p, q) (ap (carriedOut u) (sym e) ∙ carried-out)

@@ -2,25 +2,22 @@
 -- input keeps it, and finds the events so far as the claim wants them (`Due`).
 -- Assumes nothing.
 use mathlib.Core.Path.{_≡_, refl, sym, ap, subst, subst⁻¹, _∙_}
-use mathlib.Core.Logic.{_≢_, ⊎-elim}
-use mathlib.Core.Bool.{Bool, true, false, false≢true}
+use mathlib.Core.Logic.{_≢_}
+use mathlib.Core.Bool.{true}
 use mathlib.Core.List.{List, [], _∷_, _++_, map, append-assoc, append-nil}
 use Prim.Native.Nat.{ℕ, suc}
 use native.Mathlib.Omega.{arith}
-use borrow.Author.Tests.{eqb-false, not-true, ne-eqb}
 use Rattle.common.specs.Check.{refusal, unlessRefused}
-use Rattle.common.proofs.Tests.{or-left, or-right}
-use Rattle.line.specs.Route.{nextPost}
 use Rattle.frame.specs.Frame.{readFrame, bytesOf}
 use Rattle.frame.specs.RoundTrip.{IsMessage}
 use Rattle.frame.proofs.RoundTrip.{round-trip}
 use Rattle.unit.specs.Types.{Move, Message, Fa, Fe, Afe, Am, Phase, Standing, Asked, Declined, Granted, UnderWay, Arrived, Button, Ask, Depart, Reached, Report, Unit, Pressed, Heard}
-use Rattle.unit.specs.State.{samePhase, ownMove, inPhase, validUnit}
-use Rattle.unit.specs.Making.{standingUnit, makeUnit}
-use Rattle.unit.specs.Pressing.{phaseFor, hasMove, carriedOut, movedOn, pressButton}
-use Rattle.unit.specs.Hearing.{awaiting, answered, hearFrame}
-use Rattle.unit.specs.History.{Input, press, frame, exchange, ofPress, ofFrame, after, run, Event, fa, fe, am, other, acceptedEvent, heardEvent, eventOf, isAm, isFe, some, reported, place, Onward, Requested, Authorised, Orderly, History}
-use Rattle.unit.proofs.Validity.{short-unless-standing, carried-out-valid, heard-valid, fits-made, made-standing, standing-unit-valid}
+use Rattle.unit.specs.State.{ownMove, inPhase, validUnit}
+use Rattle.unit.specs.Making.{makeUnit}
+use Rattle.unit.specs.Pressing.{phaseFor, carriedOut, movedOn}
+use Rattle.unit.specs.Hearing.{answered}
+use Rattle.unit.specs.History.{Input, press, frame, exchange, ofPress, ofFrame, after, run, Event, fa, fe, am, other, acceptedEvent, heardEvent, eventOf, reported, place, Onward, Requested, Authorised, History}
+use Rattle.unit.proofs.Validity.{carried-out-valid, heard-valid, fits-made, made-standing, standing-unit-valid}
 use Rattle.unit.proofs.Outcomes as outcomes
 use Rattle.unit.proofs.Events.{with, place-with}
 use Rattle.unit.proofs.Past.{Quiet, nothing, elsewhere, quiet-place, Free, Told, none-yet, after-fa, after-fe, after-am, requested-kept, authorised-kept, told-kept, told-requested}
@@ -72,9 +69,6 @@ module _ (t a e : ℕ) where
       move = outcomes.same-move (k .train) (k .post) (rw (k .post, k .end));
     }
 
-    short : (p : Phase) → u .phase ≡ p → samePhase p Standing ≡ false → u .at .0 ≢ u .route .end .0
-    short p h s = short-unless-standing u (k .good) (ap (λ (q : Phase). samePhase q Standing) h ∙ s)
-
     -- the unit in another phase, or the same, after an event that reports no post
     in-phase : (x : Event) (p : Phase) → validUnit (inPhase u p) ≡ true → ((n : ℕ) → reported n x ≡ n) → Told t p (with past x) (ownMove u)
         → Tied (inPhase u p) (with past x)
@@ -89,28 +83,30 @@ module _ (t a e : ℕ) where
     unchanged : (x : Event) → Quiet t x → Tied u (with past x)
     unchanged x q = in-phase x (u .phase) (k .good) (λ n. quiet-place n q) (told-kept t past q (ownMove u) (u .phase) (k .told))
 
-    carried-out : (b : Button) → u .phase ≡ phaseFor b → hasMove u b ≡ true → Stepped past (carriedOut u b .unit) (eventOf (ofPress b (carriedOut u b)))
-    unfolding carriedOut samePhase
-    carried-out Ask h m = subst⁻¹ (Stepped past (inPhase u Asked)) (says-fa (press Ask) 0 (ownMove u))
-        ((onward (eqb-false _ _ (not-true _ m)), told-as Standing h),
-        in-phase (fa (ownMove u)) Asked (carried-out-valid u (k .good) Ask h m) (λ n. refl) (after-fa t past (ownMove u)))
-    carried-out Depart h m = subst⁻¹ (Stepped past (inPhase u UnderWay)) (silent (press Depart) 0)
-        (record {}, in-phase other UnderWay (carried-out-valid u (k .good) Depart h m) (λ n. refl) (authorised-kept t past nothing (told-as Granted h)))
-    carried-out Reached h m = subst⁻¹ (Stepped past (inPhase u Arrived)) (silent (press Reached) 0)
-        (record {}, in-phase other Arrived (carried-out-valid u (k .good) Reached h m) (λ n. refl) (authorised-kept t past nothing (told-as UnderWay h)))
-    carried-out Report h m = subst⁻¹ (Stepped past (movedOn u)) (says-am (press Report) 0 (ownMove u))
-        ((onward (short Arrived h refl), told-as Arrived h),
-        record {
-          good = carried-out-valid u (k .good) Report h m;
-          train = k .train;
-          end = k .end;
-          post = sym (place-with a past (am (ownMove u)));
-          told = after-am t past (ownMove u);
-        })
+    carried-out : (b : Button) → u .phase ≡ phaseFor b → u .at .0 ≢ u .route .end .0 → Stepped past (carriedOut u b .unit) (eventOf (ofPress b (carriedOut u b)))
+    unfolding carriedOut
+    carried-out Ask h short = subst⁻¹ (Stepped past (inPhase u Asked)) (says-fa (press Ask) 0 (ownMove u)) (
+      (onward short, told-as Standing h),
+      in-phase (fa (ownMove u)) Asked (carried-out-valid u (k .good) Ask short) (λ n. refl) (after-fa t past (ownMove u)),
+    )
+    carried-out Depart h short = subst⁻¹ (Stepped past (inPhase u UnderWay)) (silent (press Depart) 0)
+        (record {}, in-phase other UnderWay (carried-out-valid u (k .good) Depart short) (λ n. refl) (authorised-kept t past nothing (told-as Granted h)))
+    carried-out Reached h short = subst⁻¹ (Stepped past (inPhase u Arrived)) (silent (press Reached) 0)
+        (record {}, in-phase other Arrived (carried-out-valid u (k .good) Reached short) (λ n. refl) (authorised-kept t past nothing (told-as UnderWay h)))
+    carried-out Report h short = subst⁻¹ (Stepped past (movedOn u)) (says-am (press Report) 0 (ownMove u)) (
+      (onward short, told-as Arrived h),
+      record {
+        good = carried-out-valid u (k .good) Report short;
+        train = k .train;
+        end = k .end;
+        post = sym (place-with a past (am (ownMove u)));
+        told = after-am t past (ownMove u);
+      },
+    )
 
     pressed : {b : Button} {r : Pressed} → outcomes.PressOutcome u b r → Stepped past (r .unit) (eventOf (ofPress b r))
     pressed {b} (outcomes.refused n) = subst⁻¹ (Stepped past u) (silent (press b) (suc n)) (record {}, unchanged other nothing)
-    pressed {b} (outcomes.accepted h m) = carried-out b h m
+    pressed {b} (outcomes.accepted h short) = carried-out b h short
 
     heard : {f : List ℕ} {r : Heard} → outcomes.HearOutcome u f r → Stepped past (r .unit) (eventOf (ofFrame f r))
     heard {f} (outcomes.refused n) = subst⁻¹ (Stepped past u) (silent (frame f) (suc n)) (record {}, unchanged other nothing)

@@ -1,16 +1,15 @@
 -- The numbers that a unit may have, and the unit that is made of them.
 -- Assumes nothing.
-use mathlib.Core.Path.{_≡_, refl, sym, ap, _∙_}
+use mathlib.Core.Path.{_≡_, sym, ap, _∙_}
 use mathlib.Core.Bool.{true, false, _&&_}
 use Prim.Native.Nat.{ℕ, _≤_, _<_}
 use native.Mathlib.Omega.{arith}
 use lib.Dec.{leb}
 use borrow.Author.Tests.{le-leb, lt-leb}
-use Rattle.common.specs.Check.{refusal, unlessRefused}
-use Rattle.common.proofs.Tests.{by-cases}
+use Rattle.common.specs.Check.{unlessRefused}
 use Rattle.common.proofs.Check.{Refuses, none, stop, pass, refusal-is, accepts, refuses}
 use Rattle.line.specs.Refusal.{offTheLine}
-use Rattle.unit.specs.Types.{Unit, Made}
+use Rattle.unit.specs.Types.{Unit}
 use Rattle.unit.specs.State.{numbersFit}
 use Rattle.unit.specs.Making.{standingUnit, emptyUnit, made, makeChecks, makeUnit}
 

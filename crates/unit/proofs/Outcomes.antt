@@ -1,32 +1,32 @@
 -- How a press and a frame come out, turned round from the definitions: a refusal leaves the unit as it was, and what is accepted passed every check.
 -- Assumes nothing.
-use mathlib.Core.Path.{_≡_, refl, sym, ap, _∙_}
+use mathlib.Core.Path.{_≡_, refl}
 use mathlib.Core.Logic.{_≢_}
-use mathlib.Core.Bool.{Bool, true, false, not, _&&_, _||_, false≢true}
+use mathlib.Core.Bool.{true, _&&_, false≢true}
 use mathlib.Core.List.{List}
 use Prim.Native.Nat.{ℕ, zero, suc}
 use lib.Dec.{eqb}
-use borrow.Author.Tests.{eqb-true, eqb-false, not-true, not-false}
+use borrow.Author.Tests.{eqb-true, eqb-false, not-true}
 use Rattle.common.specs.Check.{refusal, unlessRefused}
 use Rattle.common.proofs.Tests.{by-cases, not-passed, and-left, and-right}
 use Rattle.common.proofs.Check.{passed-at}
 use Rattle.frame.specs.Frame.{moveOf, readFrame}
 use Rattle.unit.specs.Types.{Move, Message, Fa, Fe, Afe, Am, Refused, Asked, Declined, Granted, Unit, Button, Pressed, Heard}
-use Rattle.unit.specs.State.{samePhase, ownMove, inPhase, validUnit}
-use Rattle.unit.specs.Pressing.{phaseFor, hasMove, pressChecks, refusedPress, carriedOut, pressButton}
+use Rattle.unit.specs.State.{samePhase, ownMove, inPhase}
+use Rattle.unit.specs.Pressing.{phaseFor, pressChecks, refusedPress, carriedOut, pressButton}
 use Rattle.unit.specs.Hearing.{forTrain, forMove, awaiting, forUnit, awaited, hearChecks, phaseAfter, answered, hearFrame}
 use Rattle.unit.proofs.Phases.{same-phase}
 
 pub data PressOutcome (u : Unit) (b : Button) : Pressed → Type 0 where
   refused : (n : ℕ) → PressOutcome u b (refusedPress u (suc n))
-  accepted : u .phase ≡ phaseFor b → hasMove u b ≡ true → PressOutcome u b (carriedOut u b)
+  accepted : u .phase ≡ phaseFor b → u .at .0 ≢ u .route .end .0 → PressOutcome u b (carriedOut u b)
 
 pub press-outcome : (u : Unit) (b : Button) → PressOutcome u b (pressButton u b)
 unfolding pressButton unlessRefused
 press-outcome u b = at (refusal (pressChecks u b)) refl
   where
     at : (n : ℕ) → refusal (pressChecks u b) ≡ n → PressOutcome u b (unlessRefused n (carriedOut u b) (refusedPress u))
-    at zero e = let passed = passed-at (pressChecks u b) refl e in accepted (same-phase (u .phase) (phaseFor b) (passed 1 refl)) (passed 2 refl)
+    at zero e = let passed = passed-at (pressChecks u b) refl e in accepted (same-phase (u .phase) (phaseFor b) (passed 1 refl)) (eqb-false _ _ (not-true _ (passed 2 refl)))
     at (suc n) e = refused n
 
 -- an FE or AFE that is passed over, or the FE or AFE for the unit's own move when it waits for one

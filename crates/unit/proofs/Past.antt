@@ -2,7 +2,7 @@
 -- Assumes nothing.
 use mathlib.Core.Path.{_≡_, refl, ap, _∙_}
 use mathlib.Core.Logic.{_≢_, ⊎-elim}
-use mathlib.Core.Bool.{Bool, true, false, false≢true}
+use mathlib.Core.Bool.{true, false, false≢true}
 use mathlib.Core.List.{List, [], _∷_, _++_, append-assoc}
 use Prim.Native.Nat.{ℕ}
 use native.Mathlib.Omega.{arith}
@@ -110,4 +110,3 @@ module _ (t : ℕ) (past : List Event) where
   told-requested m Granted h k = absurd (false≢true h)
   told-requested m UnderWay h k = absurd (false≢true h)
   told-requested m Arrived h k = absurd (false≢true h)
-

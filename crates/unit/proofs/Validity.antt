@@ -2,19 +2,17 @@
 -- Assumes nothing.
 use mathlib.Core.Path.{_≡_, refl, sym, ap, _∙_}
 use mathlib.Core.Logic.{_≢_}
-use mathlib.Core.Bool.{true, false, not, _&&_, _||_, false≢true}
+use mathlib.Core.Bool.{true, false, false≢true}
 use mathlib.Core.List.{List}
 use Prim.Native.Nat.{ℕ}
 use native.Mathlib.Omega.{arith}
-use borrow.Author.Tests.{eqb-false, not-true, eq-eqb, ne-eqb}
-use Rattle.common.proofs.Tests.{by-cases, by-equality, clash, and-left, and-right}
-use Rattle.line.specs.Route.{nextPost}
+use borrow.Author.Tests.{eq-eqb, ne-eqb}
+use Rattle.common.proofs.Tests.{by-cases, by-equality, and-left, and-right}
 use Rattle.line.proofs.Travel.{between-of, of-between, start-between, next-between}
 use Rattle.unit.specs.Types.{Phase, Standing, Asked, Declined, Granted, UnderWay, Arrived, Button, Ask, Depart, Reached, Report, Unit, Made, Pressed, Heard}
-use Rattle.unit.specs.State.{samePhase, numbersFit, ended, inRanges, onRoute, inPhase, validUnit}
+use Rattle.unit.specs.State.{samePhase, numbersFit, inRanges, onRoute, inPhase, validUnit}
 use Rattle.unit.specs.Making.{standingUnit, emptyUnit, made, makeUnit}
-use Rattle.unit.specs.Pressing.{phaseFor, hasMove, refusedPress, movedOn, carriedOut, pressButton}
-use Rattle.unit.specs.Hearing.{awaiting, answered, hearFrame}
+use Rattle.unit.specs.Pressing.{movedOn, carriedOut}
 use Rattle.unit.specs.Validity.{Validity}
 use Rattle.unit.proofs.Numbers.{makes, makes-none}
 use Rattle.unit.proofs.Phases.{awaiting-not-standing}
@@ -86,16 +84,16 @@ standing-unit-valid t a e h = standing-valid (standingUnit t a e) h (of-between 
 -- ---- after a press and after a frame
 
 module _ (u : Unit) (good : validUnit u ≡ true) where
-  pub carried-out-valid : (b : Button) → u .phase ≡ phaseFor b → hasMove u b ≡ true → validUnit (carriedOut u b .unit) ≡ true
-  unfolding carriedOut samePhase
-  carried-out-valid Ask e h = valid-in-phase u good (eqb-false _ _ (not-true _ h)) Asked
-  carried-out-valid Depart e h = valid-in-phase u good (short-unless-standing u good (rw e)) UnderWay
-  carried-out-valid Reached e h = valid-in-phase u good (short-unless-standing u good (rw e)) Arrived
-  carried-out-valid Report e h = valid-moved-on u good (short-unless-standing u good (rw e))
+  pub carried-out-valid : (b : Button) → u .at .0 ≢ u .route .end .0 → validUnit (carriedOut u b .unit) ≡ true
+  unfolding carriedOut
+  carried-out-valid Ask h = valid-in-phase u good h Asked
+  carried-out-valid Depart h = valid-in-phase u good h UnderWay
+  carried-out-valid Reached h = valid-in-phase u good h Arrived
+  carried-out-valid Report h = valid-moved-on u good h
 
   pressed-valid : {b : Button} {r : Pressed} → outcomes.PressOutcome u b r → validUnit (r .unit) ≡ true
   pressed-valid (outcomes.refused n) = good
-  pressed-valid (outcomes.accepted e h) = carried-out-valid _ e h
+  pressed-valid (outcomes.accepted e h) = carried-out-valid _ h
 
   pub heard-valid : {f : List ℕ} {r : Heard} → outcomes.HearOutcome u f r → validUnit (r .unit) ≡ true
   unfolding samePhase

@@ -1,5 +1,5 @@
 -- Pressing a button. 01: "Checks: .. 1, then 21, then 8 for buttons."
-use mathlib.Core.Bool.{Bool, true, false, not, _&&_}
+use mathlib.Core.Bool.{true, false, not}
 use mathlib.Core.List.{List, [], _∷_}
 use Prim.Native.Nat.{ℕ}
 use lib.ListN.{replicate}
@@ -17,18 +17,12 @@ phaseFor Depart = Granted
 phaseFor Reached = UnderWay
 phaseFor Report = Arrived
 
--- "Ask at the end is 8"
-abbrev pub hasMove : Unit → Button → Bool
-hasMove u Ask = not (ended u)
-hasMove u Depart = true
-hasMove u Reached = true
-hasMove u Report = true
-
+-- "Ask at the end is 8": a valid unit there is Standing, so that no other button comes as far as this
 abbrev pub pressChecks : Unit → Button → List Check
 pressChecks u b =
     check strangeState (validUnit u)
     ∷ check notNow (samePhase (u .phase) (phaseFor b))
-    ∷ check atEnd (hasMove u b)
+    ∷ check atEnd (not (ended u))
     ∷ []
 
 -- ---- the answers: the frame sent, as seven bytes that are all 0 where none is

@@ -34,13 +34,11 @@ pub fn press(unit: Unit, button: Button) -> Pressed
     if !same(phase, phase_for(button)) {
         return refused(unit, NOT_NOW);
     }
+    if unit.at.0 == route.end.0 {
+        return refused(unit, AT_END);
+    }
     match button {
-        Button::Ask => {
-            if unit.at.0 == route.end.0 {
-                return refused(unit, AT_END);
-            }
-            sending(in_phase(unit, Phase::Asked), Message::Fa(own_move(unit)))
-        }
+        Button::Ask => sending(in_phase(unit, Phase::Asked), Message::Fa(own_move(unit))),
         Button::Depart => quiet(in_phase(unit, Phase::UnderWay)),
         Button::Reached => quiet(in_phase(unit, Phase::Arrived)),
         Button::Report => sending(moved_on(unit), Message::Am(own_move(unit))),

@@ -7,23 +7,16 @@ use Rattle.unit.proofs.Frames.{other-train, own-train}
 use borrow.Author.Needs.{needs}
 use Rattle.unit.proofs.hearing.for_move.Statement.{statement}
 use Rattle.unit.proofs.hearing.for_move.Tie as tie
-use Rattle.unit.proofs.hearing.for_move.Reads as reads
-use Rattle.unit.proofs.hearing.for_move.Lts as lts
-use Rattle.unit.proofs.state.own_move.Reads as own-move-reads
 
--- src/hearing.rt:62:9
 own-move-requires : tie.Need-own-move-requires
 own-move-requires c κs = search needs
 
--- src/hearing.rt:64:9
 returns : tie.Need-returns
 returns c = other-train _ _ _ (c .before .before .before .own-move .ensures) (c .if1 .taken)
 
--- src/hearing.rt:59:1
 returns-2 : tie.Need-returns-2
 returns-2 c = and-passed _ _ (eq-eqb _ _ (c .before .before .if2 .taken)) ∙ own-train _ _ _ (c .before .before .before .before .before .before .before .before .own-move .ensures) (c .before .before .before .before .before .if1 .left)
 
--- src/hearing.rt:59:1
 returns-3 : tie.Need-returns-3
 returns-3 c = and-failed _ _ (ne-eqb _ _ (c .if2 .left)) ∙ own-train _ _ _ (c .before .before .before .before .before .before .own-move .ensures) (c .before .before .before .if1 .left)
 

@@ -9,25 +9,13 @@ use Rattle.unit.proofs.Frames as frames
 use borrow.Author.Needs.{needs}
 use Rattle.unit.proofs.hearing.hear.Statement.{statement}
 use Rattle.unit.proofs.hearing.hear.Tie as tie
-use Rattle.unit.proofs.hearing.hear.Reads as reads
-use Rattle.unit.proofs.hearing.hear.Lts as lts
-use Rattle.frame.proofs.read.Reads as read-reads
-use Rattle.unit.proofs.hearing.answered.Reads as answered-reads
-use Rattle.unit.proofs.hearing.awaiting.Reads as awaiting-reads
-use Rattle.unit.proofs.hearing.for_move.Reads as for-move-reads
-use Rattle.unit.proofs.state.in_phase.Reads as in-phase-reads
-use Rattle.unit.proofs.state.same.Reads as same-reads
-use Rattle.unit.proofs.state.valid.Reads as valid-reads
 
--- src/hearing.rt:27:9
 valid-requires : tie.Need-valid-requires
 valid-requires c κs = search needs
 
--- src/hearing.rt:28:9
 answered-requires : tie.Need-answered-requires
 answered-requires c κs = search needs
 
--- src/hearing.rt:28:9
 returns : tie.Need-returns
 returns c = c .answered .ensures ∙ frames.strange _ _ (sym (c .before .before .valid .ensures) ∙ not-true _ (c .before .if1 .taken))
 
@@ -38,40 +26,31 @@ module _ (c : tie.After-read) where
   good : validUnit unit ≡ true
   good = sym (c .before .before .valid .ensures) ∙ not-false _ (c .before .if1 .left)
 
--- src/hearing.rt:30:11
 read-requires : tie.Need-read-requires
 read-requires c κs = search needs
 
--- src/hearing.rt:31:27
 enum-told : tie.Need-enum-told
 enum-told c = search needs
 
--- src/hearing.rt:31:27
 answered-requires-2 : tie.Need-answered-requires-2
 answered-requires-2 c κs = search needs
 
--- src/hearing.rt:32:21
 enum-known-m : tie.Need-enum-known-m
 enum-known-m c = search needs
 
--- src/hearing.rt:34:17
 answered-requires-3 : tie.Need-answered-requires-3
 answered-requires-3 c κs = search needs
 
--- src/hearing.rt:34:17
 returns-2 : tie.Need-returns-2
 returns-2 c = let m = c .before .before .before .before .before in let r = m .before .before in
     c .answered3 .ensures ∙ frames.fe-for-another _ _ (good r) _ (sym (r .read .ensures) ∙ m .m .given .1) (c .before .if2 .taken)
 
--- src/hearing.rt:36:17
 for-move-requires : tie.Need-for-move-requires
 for-move-requires c κs = search needs
 
--- src/hearing.rt:37:17
 answered-requires-4 : tie.Need-answered-requires-4
 answered-requires-4 c κs = search needs
 
--- src/hearing.rt:37:17
 -- where an FE for its own train was read
 module _ (c : tie.After-for-move) where
   abbrev read-of : tie.After-m
@@ -82,92 +61,72 @@ returns-3 c = let a = c .before .before in let m = read-of a in let r = m .befor
     c .answered4 .ensures
     ∙ frames.fe-for-another-move _ _ (good r) _ (sym (r .read .ensures) ∙ m .m .given .1) (a .before .if2 .left) (sym (a .for-move .ensures) ∙ not-true _ (c .before .if3 .taken))
 
--- src/hearing.rt:39:17
 awaiting-requires : tie.Need-awaiting-requires
 awaiting-requires c κs = search needs
 
--- src/hearing.rt:40:17
 answered-requires-5 : tie.Need-answered-requires-5
 answered-requires-5 c κs = search needs
 
--- src/hearing.rt:40:17
 returns-4 : tie.Need-returns-4
 returns-4 c = let w = c .before .before in let a = w .before .before in let m = read-of a in let r = m .before .before in
     c .answered5 .ensures
     ∙ frames.fe-not-now _ _ (good r) _ (sym (r .read .ensures) ∙ m .m .given .1) (a .before .if2 .left)
     (sym (a .for-move .ensures) ∙ not-false _ (w .before .if3 .left)) (sym (w .awaiting .ensures) ∙ not-true _ (c .before .if4 .taken))
 
--- src/hearing.rt:42:22
 in-phase-requires : tie.Need-in-phase-requires
 in-phase-requires c κs = search needs
 
--- src/hearing.rt:42:13
 answered-requires-6 : tie.Need-answered-requires-6
 answered-requires-6 c κs = search needs
 
--- src/hearing.rt:44:22
 enum-known-m-2 : tie.Need-enum-known-m-2
 enum-known-m-2 c = search needs
 
--- src/hearing.rt:45:17
 for-move-requires-2 : tie.Need-for-move-requires-2
 for-move-requires-2 c κs = search needs
 
--- src/hearing.rt:46:17
 answered-requires-7 : tie.Need-answered-requires-7
 answered-requires-7 c κs = search needs
 
--- src/hearing.rt:46:17
 returns-5 : tie.Need-returns-5
 returns-5 c = let m = c .before .before .before .before in let r = m .before .before in
     c .answered7 .ensures
     ∙ frames.afe-for-another _ _ (good r) _ (sym (r .read .ensures) ∙ m .m2 .given .1) (sym (c .before .before .for-move2 .ensures) ∙ not-true _ (c .before .if5 .taken))
 
--- src/hearing.rt:48:17
 same-requires : tie.Need-same-requires
 same-requires c κs = search needs
 
--- src/hearing.rt:49:17
 answered-requires-8 : tie.Need-answered-requires-8
 answered-requires-8 c κs = search needs
 
--- src/hearing.rt:49:17
 returns-6 : tie.Need-returns-6
 returns-6 c = let w = c .before .before in let a = w .before .before in let m = a .before .before in let r = m .before .before in
     c .answered8 .ensures
     ∙ frames.afe-not-now _ _ (good r) _ (sym (r .read .ensures) ∙ m .m2 .given .1)
     (sym (a .for-move2 .ensures) ∙ not-false _ (w .before .if5 .left)) (sym (w .same .ensures) ∙ not-true _ (c .before .if6 .taken))
 
--- src/hearing.rt:51:22
 in-phase-requires-2 : tie.Need-in-phase-requires-2
 in-phase-requires-2 c κs = search needs
 
--- src/hearing.rt:51:13
 answered-requires-9 : tie.Need-answered-requires-9
 answered-requires-9 c κs = search needs
 
--- src/hearing.rt:53:27
 enum-told-2 : tie.Need-enum-told-2
 enum-told-2 c = search needs
 
--- src/hearing.rt:53:27
 answered-requires-10 : tie.Need-answered-requires-10
 answered-requires-10 c κs = search needs
 
--- src/hearing.rt:54:26
 enum-known-n : tie.Need-enum-known-n
 enum-known-n c = search needs
 
--- src/hearing.rt:54:32
 answered-requires-11 : tie.Need-answered-requires-11
 answered-requires-11 c κs = search needs
 
--- src/hearing.rt:23:1
 returns-7 : tie.Need-returns-7
 returns-7 c = let told = c .before in let r = told .before .before in
     c .answered2 .ensures ∙ frames.fa _ _ (good r) _ (sym (r .read .ensures) ∙ told .enum-told .given .1)
 
--- src/hearing.rt:23:1
 returns-8 : tie.Need-returns-8
 returns-8 c = let w = c .before .before .before in let a = w .before .before in let m = read-of a in let r = m .before .before in
     c .answered6 .ensures
@@ -175,7 +134,6 @@ returns-8 c = let w = c .before .before .before in let a = w .before .before in 
     (sym (a .for-move .ensures) ∙ not-false _ (w .before .if3 .left)) (sym (w .awaiting .ensures) ∙ not-false _ (c .before .before .if4 .left))
     _ (c .before .in-phase .ensures)
 
--- src/hearing.rt:23:1
 returns-9 : tie.Need-returns-9
 returns-9 c = let w = c .before .before .before in let a = w .before .before in let m = a .before .before in let r = m .before .before in
     c .answered9 .ensures
@@ -183,12 +141,10 @@ returns-9 c = let w = c .before .before .before in let a = w .before .before in 
     (sym (a .for-move2 .ensures) ∙ not-false _ (w .before .if5 .left)) (sym (w .same .ensures) ∙ not-false _ (c .before .before .if6 .left))
     _ (c .before .in-phase2 .ensures)
 
--- src/hearing.rt:23:1
 returns-10 : tie.Need-returns-10
 returns-10 c = let told = c .before in let r = told .before .before in
     c .answered10 .ensures ∙ frames.am _ _ (good r) _ (sym (r .read .ensures) ∙ told .enum-told2 .given .1)
 
--- src/hearing.rt:23:1
 returns-11 : tie.Need-returns-11
 returns-11 c = let n = c .before .before in let r = n .before .before in
     c .answered11 .ensures ∙ frames.not-read _ _ (good r) _ (sym (r .read .ensures) ∙ n .n .given .1)

@@ -6,28 +6,19 @@ use Rattle.unit.proofs.Numbers.{makes, makes-none}
 use borrow.Author.Needs.{needs}
 use Rattle.unit.proofs.making.make.Statement.{statement}
 use Rattle.unit.proofs.making.make.Tie as tie
-use Rattle.unit.proofs.making.make.Reads as reads
-use Rattle.unit.proofs.making.make.Lts as lts
-use Rattle.unit.proofs.making.standing.Reads as standing-reads
-use Rattle.unit.proofs.state.numbers_fit.Reads as numbers-fit-reads
 
--- src/making.rt:22:9
 numbers-fit-requires : tie.Need-numbers-fit-requires
 numbers-fit-requires c κs = search needs
 
--- src/making.rt:24:19
 standing-requires : tie.Need-standing-requires
 standing-requires c κs = search needs
 
--- src/making.rt:23:9
 returns : tie.Need-returns
 returns c = makes-none _ _ _ (sym (c .before .before .numbers-fit .ensures) ∙ not-true _ (c .before .if1 .taken)) _ (c .standing .ensures)
 
--- src/making.rt:29:15
 standing-requires-2 : tie.Need-standing-requires-2
 standing-requires-2 c κs = search needs
 
--- src/making.rt:19:1
 returns-2 : tie.Need-returns-2
 returns-2 c = makes _ _ _ (sym (c .before .before .numbers-fit .ensures) ∙ not-false _ (c .before .if1 .left)) _ (c .standing2 .ensures)
 

@@ -3,15 +3,10 @@
 use borrow.Author.Needs.{needs}
 use Rattle.unit.proofs.pressing.sending.Statement.{statement}
 use Rattle.unit.proofs.pressing.sending.Tie as tie
-use Rattle.unit.proofs.pressing.sending.Reads as reads
-use Rattle.unit.proofs.pressing.sending.Lts as lts
-use Rattle.frame.proofs.write.Reads as write-reads
 
--- src/pressing.rt:102:9
 write-requires : tie.Need-write-requires
 write-requires c κs = search needs
 
--- src/pressing.rt:99:1
 returns : tie.Need-returns
 returns c = rw (c .write .ensures)
 

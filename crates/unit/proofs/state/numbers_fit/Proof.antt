@@ -6,18 +6,13 @@ use Rattle.common.proofs.Tests.{and-passed, and-failed}
 use Rattle.unit.proofs.Numbers.{train-above, train-fits}
 use Rattle.unit.proofs.state.numbers_fit.Statement.{statement}
 use Rattle.unit.proofs.state.numbers_fit.Tie as tie
-use Rattle.unit.proofs.state.numbers_fit.Reads as reads
-use Rattle.unit.proofs.state.numbers_fit.Lts as lts
 
--- src/state.rt:65:9
 returns : tie.Need-returns
 returns c = train-above _ _ _ (c .if1 .taken)
 
--- src/state.rt:61:1
 returns-2 : tie.Need-returns-2
 returns-2 c = and-passed _ _ (le-leb _ _ (c .before .if2 .taken)) ∙ train-fits _ _ _ (c .before .before .before .if1 .left)
 
--- src/state.rt:61:1
 returns-3 : tie.Need-returns-3
 returns-3 c = and-failed _ _ (lt-leb _ _ (c .if2 .left)) ∙ train-fits _ _ _ (c .before .before .if1 .left)
 

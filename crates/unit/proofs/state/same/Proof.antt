@@ -4,19 +4,13 @@ use Rattle.unit.specs.State.{samePhase}
 use borrow.Author.Needs.{needs}
 use Rattle.unit.proofs.state.same.Statement.{statement}
 use Rattle.unit.proofs.state.same.Tie as tie
-use Rattle.unit.proofs.state.same.Reads as reads
-use Rattle.unit.proofs.state.same.Lts as lts
-use Rattle.unit.proofs.state.number.Reads as number-reads
 
--- src/state.rt:74:5
 number-requires : tie.Need-number-requires
 number-requires c κs = search needs
 
--- src/state.rt:74:18
 number-requires-2 : tie.Need-number-requires-2
 number-requires-2 c κs = search needs
 
--- src/state.rt:71:1
 returns : tie.Need-returns
 unfolding samePhase
 returns c = rw (c .number2 .ensures, c .before .number .ensures)

@@ -10,11 +10,6 @@ use Rattle.unit.proofs.Validity.{numbers-wrong, post-wrong, short-of-en
 use borrow.Author.Needs.{needs}
 use Rattle.unit.proofs.state.valid.Statement.{statement}
 use Rattle.unit.proofs.state.valid.Tie as tie
-use Rattle.unit.proofs.state.valid.Reads as reads
-use Rattle.unit.proofs.state.valid.Lts as lts
-use Rattle.line.proofs.between.Reads as between-reads
-use Rattle.unit.proofs.state.numbers_fit.Reads as numbers-fit-reads
-use Rattle.unit.proofs.state.same.Reads as same-reads
 
 numbers-fit-requires : tie.Need-numbers-fit-requires
 numbers-fit-requires c κs = search needs
