@@ -24,9 +24,9 @@ use Rattle.unit.proofs.Past.{Quiet, nothing, elsewhere, quiet-place, Fr
 
 -- ---- what an exchange says
 
-silent : (i : Input) (n : ℕ) → eventOf (record { input = i; refusal = n; sent = [] }) ≡ heardEvent i n
+says-heard : (i : Input) (n : ℕ) → eventOf (record { input = i; refusal = n; sent = [] }) ≡ heardEvent i n
 unfolding eventOf readFrame refusal unlessRefused
-silent i n = refl
+says-heard i n = refl
 
 says-fa : (i : Input) (n : ℕ) (m : Move) → eventOf (record { input = i; refusal = n; sent = bytesOf (Fa m) }) ≡ fa m
 unfolding eventOf IsMessage
@@ -37,7 +37,7 @@ unfolding eventOf IsMessage
 says-am i n m = rw (round-trip .back (Am m) tt)
 
 says-accepted : (f : List ℕ) (v : Unit) (x : Message) → readFrame f ≡ x → eventOf (ofFrame f (answered v 0)) ≡ acceptedEvent x
-says-accepted f v x e = silent (frame f) 0 ∙ ap acceptedEvent e
+says-accepted f v x e = says-heard (frame f) 0 ∙ ap acceptedEvent e
 
 -- ---- the invariant, for a unit that was made for this train, start and end
 
@@ -89,9 +89,9 @@ module _ (t a e : ℕ) where
       (onward short, told-as Standing h),
       in-phase (fa (ownMove u)) Asked (carried-out-valid u (k .good) Ask short) (λ n. refl) (after-fa t past (ownMove u)),
     )
-    carried-out Depart h short = subst⁻¹ (Stepped past (inPhase u UnderWay)) (silent (press Depart) 0)
+    carried-out Depart h short = subst⁻¹ (Stepped past (inPhase u UnderWay)) (says-heard (press Depart) 0)
         (record {}, in-phase other UnderWay (carried-out-valid u (k .good) Depart short) (λ n. refl) (authorised-kept t past nothing (told-as Granted h)))
-    carried-out Reached h short = subst⁻¹ (Stepped past (inPhase u Arrived)) (silent (press Reached) 0)
+    carried-out Reached h short = subst⁻¹ (Stepped past (inPhase u Arrived)) (says-heard (press Reached) 0)
         (record {}, in-phase other Arrived (carried-out-valid u (k .good) Reached short) (λ n. refl) (authorised-kept t past nothing (told-as UnderWay h)))
     carried-out Report h short = subst⁻¹ (Stepped past (movedOn u)) (says-am (press Report) 0 (ownMove u)) (
       (onward short, told-as Arrived h),
@@ -105,11 +105,11 @@ module _ (t a e : ℕ) where
     )
 
     pressed : {b : Button} {r : Pressed} → outcomes.PressOutcome u b r → Stepped past (r .unit) (eventOf (ofPress b r))
-    pressed {b} (outcomes.refused n) = subst⁻¹ (Stepped past u) (silent (press b) (suc n)) (record {}, unchanged other nothing)
+    pressed {b} (outcomes.refused n) = subst⁻¹ (Stepped past u) (says-heard (press b) (suc n)) (record {}, unchanged other nothing)
     pressed {b} (outcomes.accepted h short) = carried-out b h short
 
     heard : {f : List ℕ} {r : Heard} → outcomes.HearOutcome u f r → Stepped past (r .unit) (eventOf (ofFrame f r))
-    heard {f} (outcomes.refused n) = subst⁻¹ (Stepped past u) (silent (frame f) (suc n)) (record {}, unchanged other nothing)
+    heard {f} (outcomes.refused n) = subst⁻¹ (Stepped past u) (says-heard (frame f) (suc n)) (record {}, unchanged other nothing)
     heard {f} (outcomes.fe-passed-over m r h) = subst⁻¹ (Stepped past u) (says-accepted f u (Fe m) r)
         ((λ z. absurd (h (z ∙ sym (k .train)))), unchanged (fe m) (elsewhere m (λ z. h (z ∙ sym (k .train)))))
     heard {f} (outcomes.granted m r o w) =

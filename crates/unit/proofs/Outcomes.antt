@@ -13,19 +13,19 @@ use Rattle.common.proofs.Check.{passed-at}
 use Rattle.frame.specs.Frame.{moveOf, readFrame}
 use Rattle.unit.specs.Types.{Move, Message, Fa, Fe, Afe, Am, Refused, Asked, Declined, Granted, Unit, Button, Pressed, Heard}
 use Rattle.unit.specs.State.{samePhase, ownMove, inPhase}
-use Rattle.unit.specs.Pressing.{phaseFor, pressChecks, refusedPress, carriedOut, pressButton}
+use Rattle.unit.specs.Pressing.{phaseFor, pressChecks, silent, carriedOut, pressButton}
 use Rattle.unit.specs.Hearing.{forTrain, forMove, awaiting, forUnit, awaited, hearChecks, phaseAfter, answered, hearFrame}
 use Rattle.unit.proofs.Phases.{same-phase}
 
 pub data PressOutcome (u : Unit) (b : Button) : Pressed → Type 0 where
-  refused : (n : ℕ) → PressOutcome u b (refusedPress u (suc n))
+  refused : (n : ℕ) → PressOutcome u b (silent u (suc n))
   accepted : u .phase ≡ phaseFor b → u .at .0 ≢ u .route .end .0 → PressOutcome u b (carriedOut u b)
 
 pub press-outcome : (u : Unit) (b : Button) → PressOutcome u b (pressButton u b)
 unfolding pressButton unlessRefused
 press-outcome u b = at (refusal (pressChecks u b)) refl
   where
-    at : (n : ℕ) → refusal (pressChecks u b) ≡ n → PressOutcome u b (unlessRefused n (carriedOut u b) (refusedPress u))
+    at : (n : ℕ) → refusal (pressChecks u b) ≡ n → PressOutcome u b (unlessRefused n (carriedOut u b) (silent u))
     at zero e = let passed = passed-at (pressChecks u b) refl e in accepted (same-phase (u .phase) (phaseFor b) (passed 1 refl)) (eqb-false _ _ (not-true _ (passed 2 refl)))
     at (suc n) e = refused n
 

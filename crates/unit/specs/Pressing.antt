@@ -25,17 +25,13 @@ pressChecks u b =
     ∷ check atEnd (not (ended u))
     ∷ []
 
--- ---- the answers: the frame sent, as seven bytes that are all 0 where none is
+-- ---- the answers: the unit, the number of the refusal or 0, and a frame or seven bytes of 0
 
-abbrev pub quiet : Unit → Pressed
-quiet u = record { unit = u; refusal = 0; sent = false; frame = replicate 7 0 }
+abbrev pub silent : Unit → ℕ → Pressed
+silent u n = record { unit = u; refusal = n; sent = false; frame = replicate 7 0 }
 
 abbrev pub sending : Unit → Message → Pressed
 sending u m = record { unit = u; refusal = 0; sent = true; frame = bytesOf m }
-
--- "A refusal returns its number and the state unchanged"
-abbrev pub refusedPress : Unit → ℕ → Pressed
-refusedPress u n = record { unit = u; refusal = n; sent = false; frame = replicate 7 0 }
 
 -- ---- the flow
 
@@ -47,9 +43,10 @@ movedOn u = record { train = u .train; route = u .route; at = record { 0 = nextP
 -- post, gives AM (the source's two steps in one)."
 unfoldable pub carriedOut : Unit → Button → Pressed
 carriedOut u Ask = sending (inPhase u Asked) (Fa (ownMove u))
-carriedOut u Depart = quiet (inPhase u UnderWay)
-carriedOut u Reached = quiet (inPhase u Arrived)
+carriedOut u Depart = silent (inPhase u UnderWay) 0
+carriedOut u Reached = silent (inPhase u Arrived) 0
 carriedOut u Report = sending (movedOn u) (Am (ownMove u))
 
+-- "A refusal returns its number and the state unchanged"
 unfoldable pub pressButton : Unit → Button → Pressed
-pressButton u b = unlessRefused (refusal (pressChecks u b)) (carriedOut u b) (refusedPress u)
+pressButton u b = unlessRefused (refusal (pressChecks u b)) (carriedOut u b) (silent u)

@@ -1,6 +1,6 @@
 // Pressing a button: refusals 1, 21 and 8, in that order.
 ghost use mathlib.Core.Path.{_≡_};
-ghost use Rattle.unit.specs.Pressing.{phaseFor, movedOn, quiet, sending, refusedPress, pressButton};
+ghost use Rattle.unit.specs.Pressing.{phaseFor, movedOn, silent, sending, pressButton};
 use crate::state::Button;
 use crate::state::Phase;
 use crate::state::Unit;
@@ -29,18 +29,18 @@ pub fn press(unit: Unit, button: Button) -> Pressed
     let phase = unit.phase;
     let route = unit.route;
     if !valid(unit) {
-        return refused(unit, STRANGE_STATE);
+        return silent(unit, STRANGE_STATE);
     }
     if !same(phase, phase_for(button)) {
-        return refused(unit, NOT_NOW);
+        return silent(unit, NOT_NOW);
     }
     if unit.at.0 == route.end.0 {
-        return refused(unit, AT_END);
+        return silent(unit, AT_END);
     }
     match button {
         Button::Ask => sending(in_phase(unit, Phase::Asked), Message::Fa(own_move(unit))),
-        Button::Depart => quiet(in_phase(unit, Phase::UnderWay)),
-        Button::Reached => quiet(in_phase(unit, Phase::Arrived)),
+        Button::Depart => silent(in_phase(unit, Phase::UnderWay), 0),
+        Button::Reached => silent(in_phase(unit, Phase::Arrived), 0),
         Button::Report => sending(moved_on(unit), Message::Am(own_move(unit))),
     }
 }
@@ -72,23 +72,12 @@ fn moved_on(unit: Unit) -> Unit
     }
 }
 
-fn refused(unit: Unit, refusal: u8) -> Pressed
-    ensures { λ r. ⌜ r ≡ refusedPress unit refusal ⌝ }
+fn silent(unit: Unit, refusal: u8) -> Pressed
+    ensures { λ r. ⌜ r ≡ silent unit refusal ⌝ }
 {
     Pressed {
         unit: unit,
         refusal: refusal,
-        sent: false,
-        frame: [0; 7],
-    }
-}
-
-fn quiet(unit: Unit) -> Pressed
-    ensures { λ r. ⌜ r ≡ quiet unit ⌝ }
-{
-    Pressed {
-        unit: unit,
-        refusal: 0,
         sent: false,
         frame: [0; 7],
     }

@@ -14,11 +14,23 @@ own-move-requires c κs = search needs
 returns : tie.Need-returns
 returns c = other-train _ _ _ (c .before .before .before .own-move .ensures) (c .if1 .taken)
 
+-- the train is the unit's own
+module _ (c : tie.After-struct-known4) where
+  abbrev passed : tie.Else1
+  passed = c .before .before
+
+  abbrev own : tie.After-own-move
+  own = passed .before .before .before
+
 returns-2 : tie.Need-returns-2
-returns-2 c = and-passed _ _ (eq-eqb _ _ (c .before .before .if2 .taken)) ∙ own-train _ _ _ (c .before .before .before .before .before .before .before .before .own-move .ensures) (c .before .before .before .before .before .if1 .left)
+returns-2 c =
+    let k = c .before .before .before in
+    and-passed _ _ (eq-eqb _ _ (c .before .before .if2 .taken)) ∙ own-train _ _ _ (own k .own-move .ensures) (passed k .if1 .left)
 
 returns-3 : tie.Need-returns-3
-returns-3 c = and-failed _ _ (ne-eqb _ _ (c .if2 .left)) ∙ own-train _ _ _ (c .before .before .before .before .before .before .own-move .ensures) (c .before .before .before .if1 .left)
+returns-3 c =
+    let k = c .before in
+    and-failed _ _ (ne-eqb _ _ (c .if2 .left)) ∙ own-train _ _ _ (own k .own-move .ensures) (passed k .if1 .left)
 
 pub for-move-spec : {M : Type 1} → statement M
 for-move-spec = tie.close (tie.spec own-move-requires returns returns-2 returns-3)

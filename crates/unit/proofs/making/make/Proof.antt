@@ -14,13 +14,17 @@ standing-requires : tie.Need-standing-requires
 standing-requires c κs = search needs
 
 returns : tie.Need-returns
-returns c = makes-none _ _ _ (sym (c .before .before .numbers-fit .ensures) ∙ not-true _ (c .before .if1 .taken)) _ (c .standing .ensures)
+returns c =
+    let f = c .before .before .numbers-fit in
+    makes-none _ _ _ (sym (f .ensures) ∙ not-true _ (c .before .if1 .taken)) _ (c .standing .ensures)
 
 standing-requires-2 : tie.Need-standing-requires-2
 standing-requires-2 c κs = search needs
 
 returns-2 : tie.Need-returns-2
-returns-2 c = makes _ _ _ (sym (c .before .before .numbers-fit .ensures) ∙ not-false _ (c .before .if1 .left)) _ (c .standing2 .ensures)
+returns-2 c =
+    let f = c .before .before .numbers-fit in
+    makes _ _ _ (sym (f .ensures) ∙ not-false _ (c .before .if1 .left)) _ (c .standing2 .ensures)
 
 pub make-spec : {M : Type 1} → statement M
 make-spec =

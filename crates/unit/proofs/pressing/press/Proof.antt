@@ -14,11 +14,11 @@ use Rattle.unit.proofs.pressing.press.Tie as tie
 valid-requires : tie.Need-valid-requires
 valid-requires c κs = search needs
 
-refused-requires : tie.Need-refused-requires
-refused-requires c κs = search needs
+silent-requires : tie.Need-silent-requires
+silent-requires c κs = search needs
 
 returns : tie.Need-returns
-returns c = c .refused .ensures ∙ strange _ _ (sym (c .before .before .valid .ensures) ∙ not-true _ (c .before .if1 .taken))
+returns c = c .silent .ensures ∙ strange _ _ (sym (c .before .before .valid .ensures) ∙ not-true _ (c .before .if1 .taken))
 
 phase-for-requires : tie.Need-phase-for-requires
 phase-for-requires c κs = search needs
@@ -26,8 +26,8 @@ phase-for-requires c κs = search needs
 same-requires : tie.Need-same-requires
 same-requires c κs = search needs
 
-refused-requires-2 : tie.Need-refused-requires-2
-refused-requires-2 c κs = search needs
+silent-requires-2 : tie.Need-silent-requires-2
+silent-requires-2 c κs = search needs
 
 module _ (c : tie.After-same) where
   abbrev unit : Unit
@@ -45,17 +45,17 @@ module _ (c : tie.After-same) where
 returns-2 : tie.Need-returns-2
 returns-2 c =
     let s = c .before .before in
-    c .refused2 .ensures ∙ other-phase _ _ (good s) (sym (tested s) ∙ not-true _ (c .before .if2 .taken))
+    c .silent2 .ensures ∙ other-phase _ _ (good s) (sym (tested s) ∙ not-true _ (c .before .if2 .taken))
 
 module _ (c : tie.Else2) where
   fits : samePhase (unit (c .before) .phase) (phaseFor (button (c .before))) ≡ true
   fits = sym (tested (c .before)) ∙ not-false _ (c .if2 .left)
 
-refused-requires-3 : tie.Need-refused-requires-3
-refused-requires-3 c κs = search needs
+silent-requires-3 : tie.Need-silent-requires-3
+silent-requires-3 c κs = search needs
 
 returns-3 : tie.Need-returns-3
-returns-3 c = let e = c .before .before .before .before in c .refused3 .ensures ∙ no-move _ _ (good (e .before)) (fits e) (c .before .if3 .taken)
+returns-3 c = let e = c .before .before .before .before in c .silent3 .ensures ∙ no-move _ _ (good (e .before)) (fits e) (c .before .if3 .taken)
 
 -- the tests that led to the arms
 module _ (c : tie.Else3) where
@@ -80,8 +80,8 @@ enum-told-2 c = search needs
 in-phase-requires-2 : tie.Need-in-phase-requires-2
 in-phase-requires-2 c κs = search needs
 
-quiet-requires : tie.Need-quiet-requires
-quiet-requires c κs = search needs
+silent-requires-4 : tie.Need-silent-requires-4
+silent-requires-4 c κs = search needs
 
 enum-told-3 : tie.Need-enum-told-3
 enum-told-3 c = search needs
@@ -89,8 +89,8 @@ enum-told-3 c = search needs
 in-phase-requires-3 : tie.Need-in-phase-requires-3
 in-phase-requires-3 c κs = search needs
 
-quiet-requires-2 : tie.Need-quiet-requires-2
-quiet-requires-2 c κs = search needs
+silent-requires-5 : tie.Need-silent-requires-5
+silent-requires-5 c κs = search needs
 
 enum-told-4 : tie.Need-enum-told-4
 enum-told-4 c = search needs
@@ -116,14 +116,14 @@ returns-5 : tie.Need-returns-5
 returns-5 c =
     let told = c .before .before in
     let s = told .before .before in
-    c .quiet .ensures
+    c .silent4 .ensures
     ∙ depart _ _ (good (passed s .before)) (fits (passed s)) (s .if3 .left) (told .enum-told2 .given .1) _ (c .before .in-phase2 .ensures)
 
 returns-6 : tie.Need-returns-6
 returns-6 c =
     let told = c .before .before in
     let s = told .before .before in
-    c .quiet2 .ensures
+    c .silent5 .ensures
     ∙ reached _ _ (good (passed s .before)) (fits (passed s)) (s .if3 .left) (told .enum-told3 .given .1) _ (c .before .in-phase3 .ensures)
 
 returns-7 : tie.Need-returns-7
@@ -139,13 +139,13 @@ press-spec =
     tie.close
     (tie.spec
     valid-requires
-    refused-requires
+    silent-requires
     returns
     phase-for-requires
     same-requires
-    refused-requires-2
+    silent-requires-2
     returns-2
-    refused-requires-3
+    silent-requires-3
     returns-3
     enum-told
     in-phase-requires
@@ -153,10 +153,10 @@ press-spec =
     sending-requires
     enum-told-2
     in-phase-requires-2
-    quiet-requires
+    silent-requires-4
     enum-told-3
     in-phase-requires-3
-    quiet-requires-2
+    silent-requires-5
     enum-told-4
     moved-on-requires
     own-move-requires-2
