@@ -10,6 +10,7 @@ pub use book::Line;
 pub use book::Outcome;
 pub use book::Reading;
 pub use route::Route;
+pub use route::between;
 pub use route::next_post;
 pub use route::section;
 pub use sorts::PostNo;
