@@ -26,7 +26,7 @@ unfolding pressButton unlessRefused
 press-outcome u b = at (refusal (pressChecks u b)) refl
   where
     at : (n : ℕ) → refusal (pressChecks u b) ≡ n → PressOutcome u b (unlessRefused n (carriedOut u b) (silent u))
-    at zero e = let passed = passed-at (pressChecks u b) refl e in accepted (same-phase (u .phase) (phaseFor b) (passed 1 refl)) (eqb-false _ _ (not-true _ (passed 2 refl)))
+    at zero e = let passed = passed-at (pressChecks u b) refl e in accepted (same-phase (u .phase) (phaseFor b) (passed 1)) (eqb-false _ _ (not-true _ (passed 2)))
     at (suc n) e = refused n
 
 -- an FE or AFE that is passed over, or the FE or AFE for the unit's own move when it waits for one
@@ -72,5 +72,5 @@ module _ (u : Unit) (f : List ℕ) where
   hear-outcome = at (refusal (hearChecks u f)) refl
     where
       at : (n : ℕ) → refusal (hearChecks u f) ≡ n → HearOutcome u f (unlessRefused n (answered (inPhase u (phaseAfter u (readFrame f))) 0) (answered u))
-      at zero e = let passed = passed-at (hearChecks u f) refl e in taken (readFrame f) refl (passed 4 refl) (passed 5 refl)
+      at zero e = let passed = passed-at (hearChecks u f) refl e in taken (readFrame f) refl (passed 4) (passed 5)
       at (suc n) e = refused n
