@@ -3,4 +3,5 @@ pub mod Refusal
 pub mod Sorts
 pub mod Route
 pub mod Line
+pub mod Book
 pub mod Holding

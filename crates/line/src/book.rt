@@ -1,4 +1,4 @@
-// The line book: what it says, as a value.
+// stand-in
 use crate::route::Route;
 
 // What a book says: the posts with the number of tracks at each, and the trains with their routes.
@@ -8,4 +8,23 @@ pub struct Line {
     pub tracks: [u8; 8],
     pub trains: u8,
     pub routes: [Route; 6],
+}
+
+// Whether a book is read, or the number of its refusal.
+pub enum Outcome {
+    Read,
+    Refused(u8),
+}
+
+// What reading a book gives. The line of a refused book is the empty one, all 0.
+pub struct Reading {
+    pub outcome: Outcome,
+    pub line: Line,
+}
+
+// What a stage of the reading answers: how many posts, track counts, trains or routes it has read,
+// or the number of the check that it stopped at.
+pub enum Stage {
+    Passed(u8),
+    Stopped(u8),
 }

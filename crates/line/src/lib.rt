@@ -6,6 +6,9 @@ mod route;
 mod sorts;
 
 pub use book::Line;
+pub use book::Outcome;
+pub use book::Reading;
+pub use book::Stage;
 pub use route::Route;
 pub use route::next_post;
 pub use route::section;

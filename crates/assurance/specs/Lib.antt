@@ -1,0 +1,5 @@
+-- The claims over a whole list of frames. Read in this order: `WholeList` states demand 3, readable alone with the two files before it.
+pub mod Types
+pub mod Run
+pub mod Observer
+pub mod WholeList

@@ -1,0 +1,66 @@
+-- 01, "The journal": "The journal is a lent run of records, at least 176: kind, train, from, to. An accepted frame is logged, then each answer
+-- in order of sending. Records past the count are untouched."
+use mathlib.Core.Bool.{Bool, cond, _&&_}
+use mathlib.Core.List.{List}
+use Prim.Native.Nat.{ℕ, _+_}
+use lib.Dec.{leb, ltb}
+use lib.ListN.{length, getD, set, take, replicate}
+use lib.Seq.{paste}
+use Rattle.journal.specs.Types.{Move, Message, Fa, Fe, Afe, Am, Refused, Record, Batch}
+
+-- "at least 176"
+abbrev pub journalLength : ℕ
+journalLength = 176
+
+-- ---- records
+
+-- what is read past the end, and what stands for no message
+abbrev pub blank : Record
+blank = record { kind = 0; train = record { 0 = 0 }; from = record { 0 = 0 }; to = record { 0 = 0 } }
+
+-- "kind, train, from, to"
+abbrev pub recordWith : ℕ → Move → Record
+recordWith k m = record { kind = k; train = m .train; from = m .from; to = m .to }
+
+-- the record by which a message is logged: "kind 1 FA, 2 FE, 3 AFE, 4 AM"
+unfoldable pub recordOf : Message → Record
+recordOf (Fa m) = recordWith 1 m
+recordOf (Fe m) = recordWith 2 m
+recordOf (Afe m) = recordWith 3 m
+recordOf (Am m) = recordWith 4 m
+recordOf (Refused n) = blank
+
+-- the record of number i
+abbrev pub recordAt : List Record → ℕ → Record
+recordAt j i = getD j i blank
+
+-- ---- batches
+
+-- the most records that one frame adds: its own and those of six answers
+abbrev pub batchLength : ℕ
+batchLength = 7
+
+-- the records of a batch, in order
+abbrev pub records : Batch → List Record
+records b = take (b .n) (b .items)
+
+abbrev pub emptyBatch : Batch
+emptyBatch = record { items = replicate batchLength blank; n = 0 }
+
+-- b with one record more; a full batch stays as it is
+unfoldable pub withRecord : Batch → Record → Batch
+withRecord b r = cond (ltb (b .n) batchLength) (record { items = set (b .items) (b .n) r; n = b .n + 1 }) b
+
+-- ---- writing
+
+-- n records are a batch's, and fit from place `at` on in a journal of `len` records
+abbrev pub fit : ℕ → ℕ → ℕ → Bool
+fit len at n = leb n batchLength && leb (at + n) len
+
+-- how many of them are written: all or none
+unfoldable pub fitting : ℕ → ℕ → ℕ → ℕ
+fitting len at n = cond (fit len at n) n 0
+
+-- the journal j with the records of b from place `at` on; j itself where they do not fit
+unfoldable pub appended : List Record → ℕ → Batch → List Record
+appended j at b = cond (fit (length j) at (b .n)) (paste j at (b .items) (b .n)) j

@@ -1,0 +1,6 @@
+-- The declared types that the journal speaks of, under one module.
+pub use Rattle.frame.specs.declared.message.Move.{Move}
+pub use Rattle.frame.specs.declared.message.Message.{Message}
+pub use Rattle.frame.specs.declared.message.Message.the-variants.{Fa, Fe, Afe, Am, Refused}
+pub use Rattle.journal.specs.declared.record.Record.{Record}
+pub use Rattle.journal.specs.declared.batch.Batch.{Batch}

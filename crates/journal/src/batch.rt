@@ -1,0 +1,7 @@
+// stand-in
+use crate::record::Record;
+
+pub struct Batch {
+    pub items: [Record; 7],
+    pub n: usize,
+}

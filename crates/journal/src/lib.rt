@@ -1,0 +1,6 @@
+// stand-in
+mod batch;
+mod record;
+
+pub use batch::Batch;
+pub use record::Record;

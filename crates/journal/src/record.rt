@@ -1,0 +1,10 @@
+// stand-in
+use line::PostNo;
+use line::TrainNo;
+
+pub struct Record {
+    pub kind: u8,
+    pub train: TrainNo,
+    pub from: PostNo,
+    pub to: PostNo,
+}
