@@ -1,0 +1,6 @@
+-- The laws of the dispatcher's definitions, for any state and any table, right or altered.
+pub mod Trains
+pub mod Validity
+pub mod Changes
+pub mod Oldest
+pub mod Grants
