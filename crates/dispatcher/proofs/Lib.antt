@@ -2,5 +2,9 @@
 pub mod Trains
 pub mod Validity
 pub mod Changes
+pub mod Reached
 pub mod Oldest
 pub mod Grants
+pub mod Settling
+pub mod Acceptance
+pub mod Frames
