@@ -3,14 +3,13 @@
 -- Assumes nothing.
 use mathlib.Core.Path.{_≡_, refl, sym, ap, subst, _∙_}
 use mathlib.Core.Logic.{_≢_, ⊎-elim}
-use mathlib.Core.Bool.{Bool, true, false, not, cond, _&&_, _||_, false≢true}
-use mathlib.Core.List.{List, [], _∷_, _++_, List·Memᴰ, List·Memᴰ·append-cases, List·Memᴰ·eq-of-singleton}
+use mathlib.Core.Bool.{true, false, not, _&&_, _||_, false≢true}
+use mathlib.Core.List.{List, [], _∷_, List·Memᴰ, List·Memᴰ·append-cases, List·Memᴰ·eq-of-singleton}
 use Prim.Native.Nat.{ℕ, _+_, _≤_, _<_}
 use native.Mathlib.Omega.{arith}
 use lib.Dec.{leb, eqb}
-use lib.ListN.{length, length-append, length-set, drop}
+use lib.ListN.{length, length-append, length-set}
 use borrow.Author.Tests.{ltb-true, leb-true, eqb-true, eqb-false, not-true}
-use Rattle.common.specs.Below.{countBelow}
 use Rattle.common.specs.Check.{refusal}
 use Rattle.common.proofs.Tests.{by-cases, and-left, and-right}
 use Rattle.common.proofs.Below.{count-le, count-some}
@@ -21,7 +20,6 @@ use Rattle.journal.specs.Journal.{journalLength}
 use Rattle.completion.specs.Table.{tableLength}
 use Rattle.dispatcher.specs.Types.{Line, Move, Message, Fa, Fe, Afe, Am, Refused, Record, Asked, Train, State}
 use Rattle.dispatcher.specs.State.{isAsked, isRunning, nextOf, trainOf, lineOf, withStatus, arrivedNext, oneLogged}
-use Rattle.dispatcher.specs.Valid.{valid}
 use Rattle.dispatcher.specs.Granting.{grantable, Work, log, settled}
 use Rattle.dispatcher.specs.Answer.{outLength, mostLogged, isFa, isAm, moveIn, frameChecks, taken, declined, accepted, sent}
 use Rattle.dispatcher.proofs.Trains.{changed-line}

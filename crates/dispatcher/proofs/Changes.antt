@@ -106,70 +106,69 @@ fewer-held : (a b : Bool) → ofBool b ≤ ofBool (a || b)
 fewer-held true b = ofBool-le b
 fewer-held false b = omega arith
 
-module _ (s : State) (d : Valid s) (t : ℕ) (known : t < s .trains) where
-  -- the train is short of its end, so that it has its place
-  short-place : trainOf s t .at .0 ≢ trainOf s t .route .end .0 → t < length (s .fleet)
-  short-place short = in-fleet s t (λ x. not (atEnd x)) refl (rw (ne-eqb (trainOf s t .at .0) (trainOf s t .route .end .0) short))
+-- a train that is short of its end has its place in the fleet
+pub short-place : (s : State) (t : ℕ) → trainOf s t .at .0 ≢ trainOf s t .route .end .0 → t < length (s .fleet)
+short-place s t short = in-fleet s t (λ x. not (atEnd x)) refl (rw (ne-eqb (trainOf s t .at .0) (trainOf s t .route .end .0) short))
 
-  module _ (room : s .logged < journalLength) where
-    -- "the train becomes Asked"
-    pub valid-request : trainOf s t .at .0 ≢ trainOf s t .route .end .0 → isRunning (trainOf s t .status) ≡ false
-        → Valid (oneLogged (withTrain s t (withStatus (trainOf s t) (Asked (s .logged)))))
-    valid-request short idle = valid-change s d t known (withStatus (trainOf s t) (Asked (s .logged))) (s .logged + 1) (record {
-      place = short-place short;
-      route = refl;
-      more = omega arith;
-      few = omega arith;
-      train = record { inside = d .each t known .inside; busy = λ q. short; numbered = λ q. omega arith };
-      section = λ i k. omega (arith, d .sections i k);
-      post = λ p k. rw (idle-located (trainOf s t .status) (trainOf s t .at .0) (nextOf (trainOf s t)) idle) (omega (arith, d .posts p k));
-      number = λ u ku h p q e. omega (arith, d .each u ku .numbered q);
-    })
+module _ (s : State) (d : Valid s) (t : ℕ) (known : t < s .trains) (room : s .logged < journalLength) where
+  -- "the train becomes Asked"
+  pub valid-request : trainOf s t .at .0 ≢ trainOf s t .route .end .0 → isRunning (trainOf s t .status) ≡ false
+      → Valid (oneLogged (withTrain s t (withStatus (trainOf s t) (Asked (s .logged)))))
+  valid-request short idle = valid-change s d t known (withStatus (trainOf s t) (Asked (s .logged))) (s .logged + 1) (record {
+    place = short-place s t short;
+    route = refl;
+    more = omega arith;
+    few = omega arith;
+    train = record { inside = d .each t known .inside; busy = λ q. short; numbered = λ q. omega arith };
+    section = λ i k. omega (arith, d .sections i k);
+    post = λ p k. rw (idle-located (trainOf s t .status) (trainOf s t .at .0) (nextOf (trainOf s t)) idle) (omega (arith, d .posts p k));
+    number = λ u ku h p q e. omega (arith, d .each u ku .numbered q);
+  })
 
-    -- "the train becomes Free at the post it ran to"
-    pub valid-arrival : trainOf s t .at .0 ≢ trainOf s t .route .end .0 → isRunning (trainOf s t .status) ≡ true
-        → Valid (oneLogged (withTrain s t (arrivedNext (trainOf s t))))
-    valid-arrival short runs = valid-change s d t known (arrivedNext (trainOf s t)) (s .logged + 1) (record {
-      place = short-place short;
-      route = refl;
-      more = omega arith;
-      few = omega arith;
-      train = record {
-        inside = next-between _ _ _ (d .each t known .inside) short;
-        busy = λ q. absurd (true≢false q);
-        numbered = λ q. absurd (false≢true q);
-      };
-      section = λ i k. omega (arith, d .sections i k);
-      post = λ p k.
-          rw (running-located (trainOf s t .status) (trainOf s t .at .0) (nextOf (trainOf s t)) runs)
-          (omega (arith, d .posts p k, fewer-held (eqb (trainOf s t .at .0) p) (eqb (nextOf (trainOf s t)) p)));
-      number = λ u ku h p. absurd (false≢true p);
-    })
+  -- "the train becomes Free at the post it ran to"
+  pub valid-arrival : trainOf s t .at .0 ≢ trainOf s t .route .end .0 → isRunning (trainOf s t .status) ≡ true
+      → Valid (oneLogged (withTrain s t (arrivedNext (trainOf s t))))
+  valid-arrival short runs = valid-change s d t known (arrivedNext (trainOf s t)) (s .logged + 1) (record {
+    place = short-place s t short;
+    route = refl;
+    more = omega arith;
+    few = omega arith;
+    train = record {
+      inside = next-between _ _ _ (d .each t known .inside) short;
+      busy = λ q. absurd (true≢false q);
+      numbered = λ q. absurd (false≢true q);
+    };
+    section = λ i k. omega (arith, d .sections i k);
+    post = λ p k.
+        rw (running-located (trainOf s t .status) (trainOf s t .at .0) (nextOf (trainOf s t)) runs)
+        (omega (arith, d .posts p k, fewer-held (eqb (trainOf s t .at .0) p) (eqb (nextOf (trainOf s t)) p)));
+    number = λ u ku h p. absurd (false≢true p);
+  })
 
-    -- a grant, by whatever table
-    pub valid-grant : (table : List ℕ) → grantable table s t ≡ true → Valid (oneLogged (withTrain s t (withStatus (trainOf s t) Running)))
-    valid-grant table e = valid-change s d t known (withStatus (trainOf s t) Running) (s .logged + 1) (record {
-      place = in-fleet s t (λ x. isAsked (x .status)) refl (g .asks);
-      route = refl;
-      more = omega arith;
-      few = omega arith;
-      train = record { inside = d .each t known .inside; busy = λ q. asked-short s d t known (g .asks); numbered = λ q. absurd (false≢true q) };
-      section = λ i k. by-equality (sectionOf (trainOf s t .at .0) (nextOf (trainOf s t))) i
-          (λ q. let free : sectionHolders (s .trains) (located s) i ≡ 0 = rw q at (g .section) in omega (arith, ofBool-le (eqb (sectionOf (trainOf s t .at .0) (nextOf (trainOf s t))) i)))
-          (λ q. rw (ne-eqb (sectionOf (trainOf s t .at .0) (nextOf (trainOf s t))) i q) (omega (arith, d .sections i k)));
-      post = λ p k. by-equality (nextOf (trainOf s t)) p
-          (λ q.
-          let free : postHolders (s .trains) (located s) p < tracksAt (lineOf s) p = rw q at (g .post) in
-          omega (arith, ofBool-le (eqb (trainOf s t .at .0) p || eqb (nextOf (trainOf s t)) p)))
-          (λ q.
-          rw (
-            idle-located (trainOf s t .status) (trainOf s t .at .0) (nextOf (trainOf s t)) (asked-idle (trainOf s t .status) (g .asks)),
-            ne-eqb (nextOf (trainOf s t)) p q,
-            or-false (eqb (trainOf s t .at .0) p),
-          )
-          (omega (arith, d .posts p k)));
-      number = λ u ku h p. absurd (false≢true p);
-    })
-      where
-        g : Grantable table s t
-        g = grantable-facts table s t e
+  -- a grant, by whatever table
+  pub valid-grant : (table : List ℕ) → grantable table s t ≡ true → Valid (oneLogged (withTrain s t (withStatus (trainOf s t) Running)))
+  valid-grant table e = valid-change s d t known (withStatus (trainOf s t) Running) (s .logged + 1) (record {
+    place = in-fleet s t (λ x. isAsked (x .status)) refl (g .asks);
+    route = refl;
+    more = omega arith;
+    few = omega arith;
+    train = record { inside = d .each t known .inside; busy = λ q. asked-short s d t known (g .asks); numbered = λ q. absurd (false≢true q) };
+    section = λ i k. by-equality (sectionOf (trainOf s t .at .0) (nextOf (trainOf s t))) i
+        (λ q. let free : sectionHolders (s .trains) (located s) i ≡ 0 = rw q at (g .section) in omega (arith, ofBool-le (eqb (sectionOf (trainOf s t .at .0) (nextOf (trainOf s t))) i)))
+        (λ q. rw (ne-eqb (sectionOf (trainOf s t .at .0) (nextOf (trainOf s t))) i q) (omega (arith, d .sections i k)));
+    post = λ p k. by-equality (nextOf (trainOf s t)) p
+        (λ q.
+        let free : postHolders (s .trains) (located s) p < tracksAt (lineOf s) p = rw q at (g .post) in
+        omega (arith, ofBool-le (eqb (trainOf s t .at .0) p || eqb (nextOf (trainOf s t)) p)))
+        (λ q.
+        rw (
+          idle-located (trainOf s t .status) (trainOf s t .at .0) (nextOf (trainOf s t)) (asked-idle (trainOf s t .status) (g .asks)),
+          ne-eqb (nextOf (trainOf s t)) p q,
+          or-false (eqb (trainOf s t .at .0) p),
+        )
+        (omega (arith, d .posts p k)));
+    number = λ u ku h p. absurd (false≢true p);
+  })
+    where
+      g : Grantable table s t
+      g = grantable-facts table s t e

@@ -1,14 +1,13 @@
 -- The configuration in which every Running train has reached its next post: in a valid state it keeps within the routes, also with one Asked train
 -- moved on, so that its code has a bit in the table.
 -- Assumes nothing.
-use mathlib.Core.Path.{_≡_, ap, _∙_}
+use mathlib.Core.Path.{_≡_}
 use mathlib.Core.Bool.{true, false}
-use Prim.Native.Nat.{ℕ, _+_, _≤_, _<_}
+use Prim.Native.Nat.{ℕ, _+_, _<_}
 use native.Mathlib.Omega.{arith}
 use Rattle.common.proofs.Tests.{by-cases, by-equality}
 use Rattle.common.proofs.Update.{update-own, update-other}
-use Rattle.line.specs.Line.{routeOf}
-use Rattle.line.specs.Route.{distance, routeLength}
+use Rattle.line.specs.Route.{distance}
 use Rattle.line.proofs.Travel.{travelled-within, next-within}
 use Rattle.completion.specs.Configuration.{Within, moved, code}
 use Rattle.completion.specs.Table.{codeCount}

@@ -4,12 +4,12 @@
 use mathlib.Core.Path.{_≡_, refl, sym, ap, subst, _∙_}
 use mathlib.Core.Logic.{⊎-elim}
 use mathlib.Core.List.{List, [], _∷_, _++_, append-assoc, append-nil, List·Memᴰ, List·Memᴰ·append-cases, List·Memᴰ·eq-of-singleton, List·Memᴰ·not-nil}
-use Prim.Native.Nat.{ℕ, _+_, _≤_, _<_}
+use Prim.Native.Nat.{ℕ, _+_, _≤_}
 use native.Mathlib.Omega.{arith}
 use lib.ListN.{length, length-append, length-set}
 use Rattle.frame.specs.RoundTrip.{IsMessage}
 use Rattle.journal.specs.Journal.{journalLength}
-use Rattle.dispatcher.specs.Types.{Route, PostNo, Message, Fe, Running, Train, State}
+use Rattle.dispatcher.specs.Types.{Message, Fe, Running, Train, State}
 use Rattle.dispatcher.specs.State.{trainOf, lineOf, nextMove, withStatus}
 use Rattle.dispatcher.specs.Granting.{Work, granted, settled}
 use Rattle.dispatcher.proofs.Trains.{changed-each}
