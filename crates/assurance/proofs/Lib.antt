@@ -9,3 +9,4 @@ pub mod Opened
 pub mod Ran
 pub mod Told
 pub mod WholeList
+pub mod OneFrame

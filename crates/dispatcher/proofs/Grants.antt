@@ -69,7 +69,7 @@ module _ (table : List ℕ) where
 
   -- ---- fuel
 
-  none-asked : (w : Work) → askedCount (w .state) ≡ 0 → Nobody table (w .state) (w .state .trains)
+  pub none-asked : (w : Work) → askedCount (w .state) ≡ 0 → Nobody table (w .state) (w .state .trains)
   none-asked w e = record {
     barred = λ u k. not-passed (grantable table (w .state) u) (λ g.
         clash (isAsked (trainOf (w .state) u .status)) (grantable-facts table (w .state) u g .asks)
@@ -105,7 +105,7 @@ module _ (table : List ℕ) where
 
   -- ---- until none can be granted
 
-  few-asked : (w : Work) → askedCount (w .state) ≤ w .state .trains
+  pub few-asked : (w : Work) → askedCount (w .state) ≤ w .state .trains
   few-asked w = count-le (w .state .trains) (λ t. isAsked (trainOf (w .state) t .status))
 
   pub settled-stop : (w : Work) → Nobody table (w .state) (w .state .trains) → settled table w ≡ w
