@@ -19,7 +19,7 @@ use Rattle.dispatcher.specs.State.{lineOf}
 use Rattle.dispatcher.specs.Answer.{frameChecks, accepted, framesOf, sent, Answer, answered, refused, answer}
 use Rattle.dispatcher.proofs.Oldest.{Nobody}
 use Rattle.dispatcher.proofs.Frames.{bytes-length}
-use Rattle.dispatcher.proofs.Acceptance.{Passed, frame-passed, accepted-facts}
+use Rattle.dispatcher.proofs.Acceptance.{Passed, by-verdict, accepted-facts}
 use Rattle.assurance.specs.Types.{Move, Message, Fe, Record, State}
 use Rattle.assurance.specs.Observer.{Observer, readFrames, answersOf, hearBy}
 use Rattle.assurance.specs.WholeList.{Requested}
@@ -82,8 +82,4 @@ module _ (table : List ℕ) (s : State) (j : List Record) (o : Observer) (k : Se
       }
 
   pub answer-kept : Exchanged table s j o frame (answer s table j frame out)
-  unfolding answer
-  answer-kept = by-equality (refusal (frameChecks s table j frame out)) 0
-      (λ e. rw (accepts (answered (s .logged) j out (accepted table s (readFrame frame))) (refused s j out) e)
-      (accepted-kept (frame-passed s table j frame out e)))
-      (λ h. rw (refuses {n = refusal (frameChecks s table j frame out)} (answered (s .logged) j out (accepted table s (readFrame frame))) (refused s j out) (omega arith)) (refused-kept _))
+  answer-kept = by-verdict s table j frame out (Exchanged table s j o frame) (λ n e. refused-kept n) accepted-kept

@@ -10,3 +10,5 @@ pub mod Ran
 pub mod Told
 pub mod WholeList
 pub mod OneFrame
+pub mod Records
+pub mod NeverRefused

@@ -23,36 +23,21 @@ use Rattle.dispatcher.proofs.Changes.{distinct-change}
 use Rattle.dispatcher.proofs.Oldest.{Oldest, Nobody, oldest-none, oldest-some, earlier}
 use Rattle.dispatcher.proofs.Grants.{askedCount, Turn, granted-fewer, granted-place, none-asked, few-asked, settled-next}
 use Rattle.dispatcher.proofs.Settling.{settled-settles}
-use Rattle.dispatcher.proofs.Acceptance.{Accepted, frame-passed, accepted-facts}
+use Rattle.dispatcher.proofs.Acceptance.{by-verdict, accepted-facts}
 use Rattle.assurance.specs.Types.{Message, Fe, Record, State, Verdict, Sent, RefusedBy}
 use Rattle.assurance.specs.OneFrame.{ValidKept, NoneLeft, First, Granting, done, next, ExactGrant, OldestFirst}
 
--- ---- the answer, by cases
-
--- what holds of a refused answer and of an accepted one holds of the answer
-by-verdict : (s : State) (table : List ℕ) (journal : List Record) (frame out : List ℕ) (P : Answer → Type 0)
-    → ((n : ℕ) → P (refused s journal out n))
-    → (Valid s → Accepted table s (readFrame frame) (accepted table s (readFrame frame)) → P (answered (s .logged) journal out (accepted table s (readFrame frame))))
-    → P (answer s table journal frame out)
-unfolding answer
-by-verdict s table journal frame out P r a =
-    let yes = answered (s .logged) journal out (accepted table s (readFrame frame)) in
-    by-equality (refusal (frameChecks s table journal frame out)) 0
-    (λ e.
-    let p = frame-passed s table journal frame out e in
-    rw (accepts yes (refused s journal out) e) (a (p .valid-state) (accepted-facts table s (p .valid-state) (readFrame frame) (p .message))))
-    (λ h. rw (refuses {n = refusal (frameChecks s table journal frame out)} yes (refused s journal out) (omega arith)) (r _))
-
 pub valid-kept : ValidKept
 valid-kept s table journal frame out e =
-    by-verdict s table journal frame out (λ a. valid (a .state) ≡ true) (λ n. e) (λ d a. is-valid _ (a .valid-state))
+    by-verdict s table journal frame out (λ a. valid (a .state) ≡ true) (λ n q. e)
+    (λ p. is-valid _ (accepted-facts table s (p .valid-state) (readFrame frame) (p .message) .valid-state))
 
 none-left : (s : State) (table : List ℕ) (journal : List Record) (frame out : List ℕ) (n : ℕ)
     → answer s table journal frame out .verdict ≡ Sent n → NoneLeft table (answer s table journal frame out .state)
 none-left s table journal frame out n =
     by-verdict s table journal frame out (λ a. a .verdict ≡ Sent n → NoneLeft table (a .state))
-    (λ k e. absurd (let z : _≡_ {A = ℕ} 0 1 = cc in omega arith))
-    (λ d a e. a .nobody .barred)
+    (λ k q e. absurd (let z : _≡_ {A = ℕ} 0 1 = cc in omega arith))
+    (λ p e. accepted-facts table s (p .valid-state) (readFrame frame) (p .message) .nobody .barred)
 
 -- ---- the chain of grants
 

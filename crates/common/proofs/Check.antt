@@ -1,16 +1,17 @@
 -- Laws of checks in order. A proof about a refusal passes the checks one by one and stops at the one that fails.
 -- Assumes nothing.
 use mathlib.Core.Path.{_≡_, refl}
-use mathlib.Core.Bool.{Bool, true, false, _&&_}
+use mathlib.Core.Logic.{_≢_}
+use mathlib.Core.Bool.{Bool, true, false, not, _&&_, _||_}
 use mathlib.Core.List.{List, [], _∷_}
 use Prim.Native.Nat.{ℕ, zero, suc, _<_}
 use native.Mathlib.Nat.{not-suc-le-zero}
 use native.Mathlib.Omega.{arith}
-use lib.Dec.{ltb}
+use lib.Dec.{ltb, eqb}
 use lib.ListN.{length, getD}
-use borrow.Author.Tests.{ltb-true, lt-ltb}
+use borrow.Author.Tests.{ltb-true, lt-ltb, eq-eqb}
 use Rattle.common.specs.Check.{Check, check, refusal, unlessRefused}
-use Rattle.common.proofs.Tests.{by-cases, and-left, and-right}
+use Rattle.common.proofs.Tests.{clash, by-cases, and-left, and-right}
 
 -- how the number of a list of checks comes about: checks that pass, then one that fails or the end of the list
 pub data Refuses : List Check → ℕ → Type 0 where
@@ -56,3 +57,19 @@ pub accepted-if : {A : Type 0} (P : A → Type 0) (n : ℕ) (x : A) (f : ℕ →
 unfolding unlessRefused
 accepted-if P zero x f h p = (refl, p)
 accepted-if P (suc n) x f h p = absurd (h (suc n) p)
+
+-- every check of the number n passes
+abbrev pub clear : ℕ → List Check → Bool
+clear n [] = true
+clear n (c ∷ cs) = (not (eqb (c .number) n) || c .passes) && clear n cs
+
+-- then nothing is refused by n
+pub never-refused : (n : ℕ) (cs : List Check) → 0 < n → clear n cs ≡ true → refusal cs ≢ n
+unfolding refusal
+never-refused n [] h k e = omega arith
+never-refused n (c ∷ cs) h k e = by-cases (c .passes)
+    (λ p. never-refused n cs h (and-right (not (eqb (c .number) n) || c .passes) (clear n cs) k) (rw p at e))
+    (λ p.
+    let same : c .number ≡ n = rw p at e in
+    let passes : c .passes ≡ true = rw (eq-eqb (c .number) n same) at (and-left (not (eqb (c .number) n) || c .passes) (clear n cs) k) in
+    clash (c .passes) passes p)

@@ -11,9 +11,9 @@ use lib.Dec.{leb, eqb}
 use lib.ListN.{length, length-append, length-set}
 use borrow.Author.Tests.{ltb-true, leb-true, eqb-true, eqb-false, not-true}
 use Rattle.common.specs.Check.{refusal}
-use Rattle.common.proofs.Tests.{by-cases, and-left, and-right}
+use Rattle.common.proofs.Tests.{by-cases, by-equality, and-left, and-right}
 use Rattle.common.proofs.Below.{count-le, count-some}
-use Rattle.common.proofs.Check.{passed-at}
+use Rattle.common.proofs.Check.{passed-at, accepts, refuses}
 use Rattle.frame.specs.Frame.{readFrame}
 use Rattle.frame.specs.RoundTrip.{IsMessage}
 use Rattle.journal.specs.Journal.{journalLength}
@@ -21,7 +21,7 @@ use Rattle.completion.specs.Table.{tableLength}
 use Rattle.dispatcher.specs.Types.{Line, Move, Message, Fa, Fe, Afe, Am, Refused, Record, Asked, Train, State}
 use Rattle.dispatcher.specs.State.{isAsked, isRunning, nextOf, trainOf, lineOf, withStatus, arrivedNext, oneLogged}
 use Rattle.dispatcher.specs.Granting.{grantable, Work, log, settled}
-use Rattle.dispatcher.specs.Answer.{outLength, mostLogged, isFa, isAm, moveIn, frameChecks, taken, declined, accepted, sent}
+use Rattle.dispatcher.specs.Answer.{outLength, mostLogged, isFa, isAm, moveIn, frameChecks, taken, declined, accepted, sent, Answer, answered, refused, answer}
 use Rattle.dispatcher.proofs.Trains.{changed-line}
 use Rattle.dispatcher.proofs.Validity.{Valid, valid-facts}
 use Rattle.dispatcher.proofs.Changes.{valid-logged, valid-request, valid-arrival}
@@ -85,6 +85,21 @@ module _ (s : State) (table : List ℕ) (journal : List Record) (frame out : Lis
       read (Fe m) kind next a b c = absurd (false≢true kind)
       read (Afe m) kind next a b c = absurd (false≢true kind)
       read (Refused n) kind next a b c = absurd (false≢true kind)
+
+-- ---- the answer, by cases
+
+-- what holds of the answer to a refused frame and of that to an accepted one holds of the answer
+pub by-verdict : (s : State) (table : List ℕ) (journal : List Record) (frame out : List ℕ) (P : Answer → Type 0)
+    → ((n : ℕ) → refusal (frameChecks s table journal frame out) ≡ n → P (refused s journal out n))
+    → (Passed s table journal frame out → P (answered (s .logged) journal out (accepted table s (readFrame frame))))
+    → P (answer s table journal frame out)
+unfolding answer
+by-verdict s table journal frame out P declines takes =
+    let n = refusal (frameChecks s table journal frame out) in
+    let a = answered (s .logged) journal out (accepted table s (readFrame frame)) in
+    by-equality n 0
+    (λ e. rw (accepts a (refused s journal out) e) (takes (frame-passed s table journal frame out e)))
+    (λ h. rw (refuses {n = n} a (refused s journal out) (omega arith)) (declines n refl))
 
 -- ---- what is left
 
