@@ -7,16 +7,13 @@ use native.Mathlib.Omega.{arith}
 use lib.ListN.{length, drop}
 use lib.Seq.{take-at, drop-at}
 use Rattle.common.specs.Part.{replaced}
-use Rattle.common.specs.Check.{refusal}
-use Rattle.common.proofs.Tests.{by-equality}
 use Rattle.common.proofs.Part.{replaced-before}
-use Rattle.common.proofs.Check.{accepts, refuses}
 use Rattle.frame.specs.Frame.{readFrame, bytesOf}
 use Rattle.frame.specs.RoundTrip.{IsMessage}
 use Rattle.frame.proofs.RoundTrip.{round-trip}
 use Rattle.journal.specs.Journal.{blank, recordOf}
 use Rattle.dispatcher.specs.State.{lineOf}
-use Rattle.dispatcher.specs.Answer.{frameChecks, accepted, framesOf, sent, Answer, answered, refused, answer}
+use Rattle.dispatcher.specs.Answer.{accepted, framesOf, sent, Answer, answered, refused, answer}
 use Rattle.dispatcher.proofs.Oldest.{Nobody}
 use Rattle.dispatcher.proofs.Frames.{bytes-length}
 use Rattle.dispatcher.proofs.Acceptance.{Passed, by-verdict, accepted-facts}

@@ -12,3 +12,4 @@ pub mod WholeList
 pub mod OneFrame
 pub mod Records
 pub mod NeverRefused
+pub mod Homecoming

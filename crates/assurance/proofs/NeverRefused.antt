@@ -1,21 +1,20 @@
 -- In a run from an accepted opening no frame is refused by 1 or by 13: the state is valid and its count bounded, before each frame.
 -- Assumes nothing.
-use mathlib.Core.Path.{_≡_, refl, sym, subst, _∙_}
+use mathlib.Core.Path.{_≡_, refl, _∙_}
 use mathlib.Core.Logic.{_≢_, ⊎-elim}
-use mathlib.Core.Bool.{true}
 use mathlib.Core.List.{List, [], _∷_, List·Memᴰ, List·Memᴰ·not-nil, List·Memᴰ·cases-cons}
-use Prim.Native.Nat.{ℕ, _+_, _≤_, _<_}
+use Prim.Native.Nat.{ℕ, _+_, _≤_}
 use native.Mathlib.Omega.{arith}
 use borrow.Author.Tests.{le-leb}
 use Rattle.common.specs.Check.{refusal}
 use Rattle.common.proofs.Tests.{and-both}
-use Rattle.common.proofs.Check.{clear, never-refused}
+use Rattle.common.proofs.Check.{never-refused}
 use Rattle.frame.specs.Frame.{readFrame}
 use Rattle.line.specs.Refusal.{strangeState, journalFull}
 use Rattle.line.specs.Book.{lineOf as lineIn}
 use Rattle.journal.specs.Journal.{journalLength}
 use Rattle.dispatcher.specs.Answer.{mostLogged, frameChecks, answer}
-use Rattle.dispatcher.specs.Opening.{Opening, openedState, opening}
+use Rattle.dispatcher.specs.Opening.{opening}
 use Rattle.dispatcher.proofs.Validity.{Valid, is-valid}
 use Rattle.dispatcher.proofs.Acceptance.{by-verdict, accepted-facts}
 use Rattle.assurance.specs.Types.{Record, State, Verdict, RefusedBy}
@@ -58,7 +57,7 @@ module _ (table : List ℕ) where
       (List·Memᴰ·cases-cons m)
 
 -- the opened state has no record
-opened-counted : (book table : List ℕ) (journal : List Record) → opening book table journal .number ≡ 0 → Counted (opening book table journal .state)
+pub opened-counted : (book table : List ℕ) (journal : List Record) → opening book table journal .number ≡ 0 → Counted (opening book table journal .state)
 opened-counted book table journal e =
     let a = opening-accepted book table journal e in
     rw (a .0) (record {

@@ -1,30 +1,25 @@
 -- The claims of `specs/OneFrame.antt`, proved over the laws of an accepted frame and of the granting.
 -- Assumes nothing.
 use mathlib.Core.Path.{_≡_, refl, sym, ap, _∙_}
-use mathlib.Core.Logic.{_≢_}
-use mathlib.Core.Bool.{true, false, false≢true}
+use mathlib.Core.Bool.{true, false≢true}
 use mathlib.Core.Option.{Option, none, some}
-use mathlib.Core.List.{List, [], _∷_, _++_, append-assoc}
-use Prim.Native.Nat.{ℕ, zero, suc, _+_, _≤_, _<_}
+use mathlib.Core.List.{List, [], _∷_, append-assoc}
+use Prim.Native.Nat.{ℕ, zero, suc, _+_, _≤_}
 use native.Mathlib.Omega.{arith}
-use Rattle.common.specs.Check.{refusal}
 use Rattle.common.proofs.Tests.{by-equality}
-use Rattle.common.proofs.Below.{count-le}
-use Rattle.common.proofs.Check.{accepts, refuses}
 use Rattle.frame.specs.Frame.{readFrame}
 use Rattle.dispatcher.specs.declared.state.Status.the-variants.{Running}
-use Rattle.dispatcher.specs.declared.state.Train.{Train}
-use Rattle.dispatcher.specs.State.{isAsked, askedAs, trainOf, nextMove, withStatus}
+use Rattle.dispatcher.specs.State.{trainOf, nextMove, withStatus}
 use Rattle.dispatcher.specs.Valid.{valid}
-use Rattle.dispatcher.specs.Granting.{grantable, oldest, Work, granted, proceed, grants, settled}
-use Rattle.dispatcher.specs.Answer.{frameChecks, accepted, Answer, answered, refused, answer}
-use Rattle.dispatcher.proofs.Validity.{Distinct, Valid, valid-facts, is-valid}
+use Rattle.dispatcher.specs.Granting.{oldest, Work, granted, proceed, grants}
+use Rattle.dispatcher.specs.Answer.{answer}
+use Rattle.dispatcher.proofs.Validity.{Distinct, valid-facts, is-valid}
 use Rattle.dispatcher.proofs.Changes.{distinct-change}
-use Rattle.dispatcher.proofs.Oldest.{Oldest, Nobody, oldest-none, oldest-some, earlier}
+use Rattle.dispatcher.proofs.Oldest.{Oldest, oldest-none, oldest-some, earlier}
 use Rattle.dispatcher.proofs.Grants.{askedCount, Turn, granted-fewer, granted-place, none-asked, few-asked, settled-next}
 use Rattle.dispatcher.proofs.Settling.{settled-settles}
 use Rattle.dispatcher.proofs.Acceptance.{by-verdict, accepted-facts}
-use Rattle.assurance.specs.Types.{Message, Fe, Record, State, Verdict, Sent, RefusedBy}
+use Rattle.assurance.specs.Types.{Fe, Record, State, Sent}
 use Rattle.assurance.specs.OneFrame.{ValidKept, NoneLeft, First, Granting, done, next, ExactGrant, OldestFirst}
 
 pub valid-kept : ValidKept

@@ -3,7 +3,6 @@
 -- the sum. For any table.
 -- Assumes nothing.
 use mathlib.Core.Path.{_≡_, refl, sym, ap}
-use mathlib.Core.Logic.{_≢_}
 use mathlib.Core.Bool.{true, false, false≢true}
 use mathlib.Core.List.{List}
 use Prim.Native.Nat.{ℕ, _+_, _*_, _≤_, _<_}
@@ -12,21 +11,20 @@ use native.Mathlib.Omega.{arith}
 use lib.ListN.{length}
 use Rattle.common.proofs.Tests.{by-cases}
 use Rattle.common.proofs.Sums.{sumBelow, sum-change, sum-le}
-use Rattle.line.specs.Route.{distance, routeLength}
-use Rattle.line.proofs.Travel.{Between, travelled-within, next-within, next-travelled}
+use Rattle.line.specs.Route.{distance}
+use Rattle.line.proofs.Travel.{travelled-within, next-within, next-travelled}
 use Rattle.line.proofs.WellFormed.{short-route}
-use Rattle.journal.specs.Journal.{journalLength}
 use Rattle.dispatcher.specs.declared.state.Status.{Status}
 use Rattle.dispatcher.specs.declared.state.Status.the-variants.{Free, Asked, Running}
 use Rattle.dispatcher.specs.declared.state.Train.{Train}
 use Rattle.dispatcher.specs.State.{isFree, isAsked, isRunning, trainOf, lineOf, withStatus, arrivedNext}
 use Rattle.dispatcher.specs.Granting.{Work, granted, settled}
-use Rattle.dispatcher.specs.Answer.{mostLogged, taken, declined, accepted}
+use Rattle.dispatcher.specs.Answer.{taken, declined, accepted}
 use Rattle.dispatcher.proofs.Trains.{running-is, route-of, changed, changed-own, changed-other}
-use Rattle.dispatcher.proofs.Validity.{TrainValid, Valid}
+use Rattle.dispatcher.proofs.Validity.{Valid}
 use Rattle.dispatcher.proofs.Changes.{grantable-facts, short-place}
 use Rattle.dispatcher.proofs.Grants.{Turn, grants-keep, granted-place}
-use Rattle.dispatcher.proofs.Acceptance.{NextMove, Taken, request, arrival}
+use Rattle.dispatcher.proofs.Acceptance.{Taken, request, arrival}
 use Rattle.assurance.specs.Types.{Move, Message, Fa, Am, State}
 
 -- ---- one train

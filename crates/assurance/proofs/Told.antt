@@ -44,7 +44,7 @@ module _ (table : List ℕ) (r : Ran) (o : Observer) (k : Settled table (r .stat
   told : (t : ℕ) → t < r .state .trains → located o t ≡ recorded (r .state) t
   told t kt = rw (seen t kt) (located-as (trainOf (r .state) t .status) (trainOf (r .state) t .at .0) (nextOf (trainOf (r .state) t)))
 
-  at-post : (t : ℕ) → t < r .state .trains → o t .post ≡ trainOf (r .state) t .at .0
+  pub at-post : (t : ℕ) → t < r .state .trains → o t .post ≡ trainOf (r .state) t .at .0
   at-post t kt = ap (λ (y : Seen). y .post) (seen t kt)
 
   not-waiting : (t : ℕ) → t < r .state .trains → ShortOfEnd (lineOf (r .state)) o t → Unhindered (lineOf (r .state)) o

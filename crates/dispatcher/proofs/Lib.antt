@@ -8,3 +8,4 @@ pub mod Grants
 pub mod Settling
 pub mod Acceptance
 pub mod Frames
+pub mod Taking
