@@ -108,8 +108,11 @@ module _ (table : List ℕ) where
   pub few-asked : (w : Work) → askedCount (w .state) ≤ w .state .trains
   few-asked w = count-le (w .state .trains) (λ t. isAsked (trainOf (w .state) t .status))
 
+  pub settled-end : (w : Work) → let v = settled table w in Nobody table (v .state) (v .state .trains)
+  settled-end w = grants-end _ w (few-asked w)
+
   pub settled-stop : (w : Work) → Nobody table (w .state) (w .state .trains) → settled table w ≡ w
-  settled-stop w h = grants-stop (w .state .trains) w h
+  settled-stop w h = grants-stop _ w h
 
   pub settled-next : (w : Work) (t : ℕ) → Valid (w .state) → Turn table w t → settled table (granted w t) ≡ settled table w
   settled-next w t d f =
@@ -118,6 +121,3 @@ module _ (table : List ℕ) where
       grants-enough (w .state .trains) (w .state .trains) (granted w t) (omega arith) (omega arith) ∙
       sym (grants-next (w .state .trains) w t (some-oldest table (w .state) (d .distinct) t f)) ∙
       grants-enough (suc (w .state .trains)) (w .state .trains) w (omega arith) few
-
-  pub settled-end : (w : Work) → let v = settled table w in Nobody table (v .state) (v .state .trains)
-  settled-end w = grants-end (w .state .trains) w (few-asked w)
