@@ -1,0 +1,8 @@
+// The dispatcher's box: its state, who holds what, the granting, the answer to a frame and the
+// opening of a book.
+mod state;
+
+pub use state::State;
+pub use state::Status;
+pub use state::Train;
+pub use state::Verdict;
