@@ -4,11 +4,13 @@ use mathlib.Core.Path.{_≡_, refl, sym, ap, _∙_}
 use mathlib.Core.Bool.{Bool, true, false}
 use Prim.Native.Nat.{ℕ, zero, suc, _+_, _-_, _*_, _/_, _%_, _^_, _<_}
 use native.Mathlib.Nat.{not-suc-le-zero, pow-succ', mul-assoc, mul-add-div-right}
+use native.Mathlib.Numerals.{add-one}
 use native.Mathlib.Omega.{arith}
+use lib.Bits.{bitOr, or-shifted-r}
 use lib.Count.{ones, ones-cat}
-use lib.Dec.{eqb}
+use lib.Dec.{eqb, lit<}
 use lib.Arith.{digits-div, mod-mul}
-use lib.Pow.{pow-pos, pow-add}
+use lib.Pow.{pow-pos, pow-add, shl-exact}
 use borrow.Author.Tests.{eqb-true, eqb-false}
 use Rattle.common.specs.Below.{ofBool, countBelow}
 use Rattle.common.specs.Bits.{setBelow, bitAt}
@@ -68,3 +70,21 @@ pub set-of-bits : (n x : ℕ) → setBelow n (bitAt x) ≡ x % 2 ^ n
 unfolding setBelow
 set-of-bits zero x = omega arith
 set-of-bits (suc n) x = rw (bit-test (x / 2 ^ n), set-of-bits n x, pow-succ') (sym (mod-mul x {m = 2} {c = 2 ^ n} (omega arith) (pow-pos n)))
+
+-- ---- a set that is made from its lowest member on
+
+pub set-none : (f : ℕ → Bool) → 0 ≡ setBelow 0 f
+unfolding setBelow
+set-none f = refl
+
+module _ (n : ℕ) (f : ℕ → Bool) (x : ℕ) (e : x ≡ setBelow n f) where
+  pub set-low : x < 2 ^ n
+  set-low = rw e (set-small n f)
+
+  pub set-more : (b : Bool) (y : ℕ) → b ≡ f n → y ≡ ofBool b * 2 ^ n + x → y ≡ setBelow (n + 1) f
+  unfolding setBelow
+  set-more b y p q = q ∙ rw (p, e, add-one)
+
+-- the bit of a number that is above all others, set in a word of w bits
+pub set-bit : (n x w : ℕ) → x < 2 ^ n → n < w → bitOr x (1 * 2 ^ n % 2 ^ w) ≡ 1 * 2 ^ n + x
+set-bit n x w h l = ap (bitOr x) (shl-exact {a = 1} 1 n w (lit< tt) (omega arith)) ∙ or-shifted-r 1 n x h

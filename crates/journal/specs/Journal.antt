@@ -1,11 +1,14 @@
--- 01, "The journal": "The journal is a lent run of records, at least 176: kind, train, from, to. An accepted frame is logged, then each answer
--- in order of sending. Records past the count are untouched."
+-- 01, "The journal": "The journal is a lent run of records, at least 176: kind, train, from, to. An accepted frame is logged,
+-- then each answer in order of sending. Records past the count are untouched."
+use mathlib.Core.Path.{_≡_}
 use mathlib.Core.Bool.{Bool, cond, _&&_}
-use mathlib.Core.List.{List}
+use mathlib.Core.List.{List, [], _∷_}
 use Prim.Native.Nat.{ℕ, _+_}
 use lib.Dec.{leb, ltb}
 use lib.ListN.{length, getD, set, take, replicate}
 use lib.Seq.{paste}
+use Rattle.frame.specs.Frame.{bytesOf}
+use Rattle.frame.specs.RoundTrip.{IsMessage}
 use Rattle.journal.specs.Types.{Move, Message, Fa, Fe, Afe, Am, Refused, Record, Batch}
 
 -- "at least 176"
@@ -29,6 +32,14 @@ recordOf (Fe m) = recordWith 2 m
 recordOf (Afe m) = recordWith 3 m
 recordOf (Am m) = recordWith 4 m
 recordOf (Refused n) = blank
+
+-- the seven bytes of the frame that a record was made of
+abbrev pub frameOf : Record → List ℕ
+frameOf r = 0 ∷ 5 ∷ 1 ∷ r .kind ∷ r .train .0 ∷ r .from .0 ∷ r .to .0 ∷ []
+
+-- the claim on records: a message is logged with the kind, train, from and to of its frame
+abbrev pub LoggedAsSent : Type 0
+LoggedAsSent = (m : Message) → IsMessage m → bytesOf m ≡ frameOf (recordOf m)
 
 -- the record of number i
 abbrev pub recordAt : List Record → ℕ → Record

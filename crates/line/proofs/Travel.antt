@@ -2,7 +2,7 @@
 -- Assumes nothing.
 use mathlib.Core.Path.{_≡_, sym}
 use mathlib.Core.Logic.{_⊎_, inl, inr, ⊎-elim, _≢_}
-use mathlib.Core.Bool.{true, _&&_}
+use mathlib.Core.Bool.{true, false, _&&_}
 use Prim.Native.Nat.{ℕ, _+_, _-_, _≤_, _<_}
 use native.Mathlib.Omega.{arith}
 use lib.Dec.{leb}
@@ -46,6 +46,15 @@ between-of a p e h = ⊎-elim (λ k. inl (ordered a p e k)) (λ k. inr (ordered 
 pub of-between : (a p e : ℕ) → Between a p e → between a p e ≡ true
 unfolding between
 of-between a p e = ⊎-elim (λ k. or-left (leb a p && leb p e) (leb e p && leb p a) (in-order a p e k)) (λ k. or-right (leb a p && leb p e) (leb e p && leb p a) (in-order e p a k))
+
+-- the test, upwards and else downwards
+pub between-up : (a p e : ℕ) → leb a p && leb p e ≡ true → true ≡ between a p e
+unfolding between
+between-up a p e h = rw h
+
+pub between-down : (a p e : ℕ) → leb a p && leb p e ≡ false → leb e p && leb p a ≡ between a p e
+unfolding between
+between-down a p e h = rw h
 
 pub start-between : (a e : ℕ) → Between a a e
 start-between a e = by-cases (leb a e) (λ h. let z = leb-true a e h in inl (omega arith)) (λ h. let z = leb-false a e h in inr (omega arith))
