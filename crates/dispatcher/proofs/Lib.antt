@@ -5,6 +5,7 @@ pub mod Validity
 pub mod Tested
 pub mod Changes
 pub mod Reached
+pub mod GrantTest
 pub mod Oldest
 pub mod Grants
 pub mod Settling

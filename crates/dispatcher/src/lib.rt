@@ -1,5 +1,6 @@
 // The dispatcher's box: its state, who holds what, the granting, the answer to a frame and the
 // opening of a book.
+mod grantable;
 mod holding;
 mod state;
 mod train;

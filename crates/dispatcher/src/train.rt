@@ -3,11 +3,15 @@ ghost use mathlib.Core.Path.{_≡_};
 ghost use Prim.Native.Nat.{_<_};
 ghost use Rattle.line.specs.Route.{distance};
 ghost use Rattle.line.specs.Holding.{holdsPost, holdsSection};
-ghost use Rattle.dispatcher.specs.State.{isFree, isAsked, isRunning, atEnd, nextOf, locatedAt, reachedBy, withStatus, arrivedNext};
+ghost use Rattle.dispatcher.specs.State.{isFree, isAsked, isRunning, atEnd, nextOf, locatedAt, reachedBy, nextMove, withStatus, arrivedNext};
+use crate::state::State;
 use crate::state::Status;
 use crate::state::Train;
+use crate::state::train_of;
+use frame::Move;
 use line::PostNo;
 use line::SectionNo;
+use line::TrainNo;
 
 pub fn is_free(status: Status) -> bool
     ensures { λ r. ⌜ r ≡ isFree status ⌝ }
@@ -50,6 +54,17 @@ pub fn next_post(train: Train) -> PostNo
     ensures { λ r. ⌜ r .0 ≡ nextOf train ⌝ }
 {
     line::next_post(train.at, train.route.end)
+}
+
+// The move that train `t` has before it.
+pub fn next_move(state: State, t: TrainNo) -> Move
+    requires { ⌜ t .0 < 6 ⌝ }
+    ensures { λ r. ⌜ r ≡ nextMove state (t .0) ⌝ }
+{
+    let train = train_of(state, t);
+    let from = train.at;
+    let to = next_post(train);
+    Move { train: t, from, to }
 }
 
 // 01: "A Running train, from its present post p to q, holds the section between them and a track at
