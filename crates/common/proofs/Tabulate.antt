@@ -89,4 +89,4 @@ module _ {A : Type 0} (n : ℕ) (f : ℕ → A) (d : A) where
 pub padded-map : {A B : Type 0} (g : A → B) (l : List A) (n : ℕ) (a : A) → length l ≡ n → padded n n (λ i. g (getD l i a)) (g a) ≡ map g l
 padded-map g l n a e = ext-getD (g a) (padded n n (λ i. g (getD l i a)) (g a)) (map g l)
     (length-padded n n _ (g a) ∙ sym (length-map l g ∙ e))
-    (λ i m. let h : i < n = rw length-padded at m in at-padded n n _ (g a) i (g a) h h ∙ sym (List·getD-map g l i a))
+    (λ i m. let h : i < n = rw length-padded at m in at-padded n n _ (g a) i h h ∙ sym (List·getD-map g l i a))
