@@ -60,15 +60,6 @@ pub between-down : (a p e : ℕ) → leb a p && leb p e ≡ false → leb e p &&
 unfolding between
 between-down a p e h = rw h
 
--- the test, upwards and else downwards
-pub between-up : (a p e : ℕ) → leb a p && leb p e ≡ true → true ≡ between a p e
-unfolding between
-between-up a p e h = rw h
-
-pub between-down : (a p e : ℕ) → leb a p && leb p e ≡ false → leb e p && leb p a ≡ between a p e
-unfolding between
-between-down a p e h = rw h
-
 pub start-between : (a e : ℕ) → Between a a e
 start-between a e = by-cases (leb a e)
     (λ h. let z = leb-true a e h in inl (omega arith))
