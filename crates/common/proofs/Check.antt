@@ -31,7 +31,8 @@ numbered [] = true
 numbered (c ∷ cs) = ltb 0 (c .number) && numbered cs
 
 -- what is not refused passes each check: at its place in the list
-pub passed-at : (cs : List Check) → numbered cs ≡ true → refusal cs ≡ 0 → (i : ℕ) → getD cs i (check 0 true) .passes ≡ true
+pub passed-at : (cs : List Check) → numbered cs ≡ true → refusal cs ≡ 0
+    → (i : ℕ) → getD cs i (check 0 true) .passes ≡ true
 unfolding refusal
 passed-at [] k e i = refl
 passed-at (c ∷ cs) k e i = by-cases (c .passes)

@@ -1,5 +1,5 @@
--- The stages of the reading, one after the other, are the checks of a book in order: a stage that stops gives the book's
--- refusal, and one that passes leaves the checks after its own.
+-- The stages of the reading, one after the other, are the checks of a book in order: a stage that stops gives the
+-- book's refusal, and one that passes leaves the checks after its own.
 -- Assumes nothing.
 use mathlib.Core.Path.{_≡_, refl, sym, ap, _∙_}
 use mathlib.Core.List.{List, [], _++_}
@@ -25,7 +25,8 @@ pub line-is : (l m : Line) → l .posts ≡ m .posts → l .tracks ≡ m .tracks
     → l ≡ m
 unfolding line
 line-is l m a b c d =
-    let same : line (l .posts) (l .tracks) (l .trains) (l .routes) ≡ line (m .posts) (m .tracks) (m .trains) (m .routes) = cc in
+    let same : line (l .posts) (l .tracks) (l .trains) (l .routes)
+    ≡ line (m .posts) (m .tracks) (m .trains) (m .routes) = cc in
     same
 
 -- ---- a stage, by its answer

@@ -40,18 +40,22 @@ enum Stage {
     Stopped(u8),
 }
 
+// The place of a train that a line does not have.
 const NO_ROUTE: Route = Route {
     start: PostNo(0),
     end: PostNo(0),
 };
 
+// The version of a book.
 const EDITION: u8 = 1;
 
+// Where the version, the number of posts and the track counts stand.
 const VERSION_AT: usize = 2;
 
 const POSTS_AT: usize = 3;
 
 const COUNTS_AT: usize = 4;
+
 // The bytes of a book besides its track counts and routes.
 const FIXED: usize = 5;
 
