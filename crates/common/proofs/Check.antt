@@ -1,6 +1,6 @@
 -- Laws of checks in order. A proof about a refusal passes the checks one by one and stops at the one that fails.
 -- Assumes nothing.
-use mathlib.Core.Path.{_≡_, refl, subst⁻¹}
+use mathlib.Core.Path.{_≡_, refl, sym, subst⁻¹}
 use mathlib.Core.Bool.{Bool, true, false, _&&_}
 use mathlib.Core.List.{List, [], _∷_, _++_}
 use Prim.Native.Nat.{ℕ, zero, suc, _<_}
@@ -53,12 +53,16 @@ stop-within (c ∷ cs) ds h = by-cases (c .passes)
     to : {n : ℕ} → refusal (c ∷ cs) ≡ n → Refuses ((c ∷ cs) ++ ds) n → Refuses ((c ∷ cs) ++ ds) (refusal (c ∷ cs))
     to e r = subst⁻¹ (Refuses ((c ∷ cs) ++ ds)) e r
 
-pub pass-all : (cs : List Check) {ds : List Check} {n : ℕ} → numbered cs ≡ true → refusal cs ≡ 0 → Refuses ds n → Refuses (cs ++ ds) n
+pub pass-all : (cs : List Check) {ds : List Check} {n : ℕ} → numbered cs ≡ true → refusal cs ≡ 0 → Refuses ds n
+    → Refuses (cs ++ ds) n
 unfolding refusal
 pass-all [] k e r = r
 pass-all (c ∷ cs) k e r = by-cases (c .passes)
     (λ p. pass p (pass-all cs (and-right (ltb 0 (c .number)) (numbered cs) k) (rw p at e) r))
-    (λ p. let z : c .number ≡ 0 = rw p at e in absurd (let y = ltb-true 0 (c .number) (and-left (ltb 0 (c .number)) (numbered cs) k) in omega arith))
+    (λ p.
+    let z : c .number ≡ 0 = rw p at e in
+    let y = ltb-true 0 (c .number) (and-left (ltb 0 (c .number)) (numbered cs) k) in
+    absurd (omega arith))
 
 pub accepts : {A : Type 0} {n : ℕ} (x : A) (f : ℕ → A) → n ≡ 0 → unlessRefused n x f ≡ x
 unfolding unlessRefused
@@ -68,6 +72,14 @@ pub refuses : {A : Type 0} {n : ℕ} (x : A) (f : ℕ → A) → 0 < n → unles
 unfolding unlessRefused
 refuses {n = zero} x f h = absurd (not-suc-le-zero h)
 refuses {n = suc n} x f h = refl
+
+-- the same in the direction of a definition `unlessRefused (refusal checks) ..`
+pub accepted-by : {A : Type 0} (x : A) (f : ℕ → A) {cs : List Check} → Refuses cs 0 → x ≡ unlessRefused (refusal cs) x f
+accepted-by x f r = sym (accepts x f (refusal-is r))
+
+pub refused-by : {A : Type 0} (x : A) (f : ℕ → A) {cs : List Check} {n : ℕ} → 0 < n → Refuses cs n
+    → f n ≡ unlessRefused (refusal cs) x f
+refused-by x f h r = rw (refusal-is r) (sym (refuses x f h))
 
 -- what stands where nothing but a refusal can stand for the other case
 pub accepted-if : {A : Type 0} (P : A → Type 0) (n : ℕ) (x : A) (f : ℕ → A) → ((k : ℕ) → P (f k) → ⊥) → P (unlessRefused n x f) → (n ≡ 0) × P x
