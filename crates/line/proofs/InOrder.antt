@@ -9,7 +9,7 @@ use lib.ListN.{length, take, drop}
 use borrow.Author.Tests.{leb-true, eqb-true}
 use Rattle.common.specs.Check.{Check, refusal, unlessRefused}
 use Rattle.common.specs.Tabulate.{padded}
-use Rattle.common.proofs.Check.{numbered, passed-at, second-part, first-part, accepts, refuses}
+use Rattle.common.proofs.Check.{passed-at, second-part, first-part, accepts, refuses}
 use Rattle.line.specs.Sorts.{Route, Line, Stage, Passed, Stopped}
 use Rattle.line.specs.Line.{noRoute}
 use Rattle.line.specs.Book.{byteAt, countAt, trainsAt, postsOf, trainsOf, routeIn, total, lineOf, bookChecks}

@@ -7,6 +7,8 @@ ghost use Rattle.common.specs.Tabulate.{padded};
 ghost use Rattle.line.specs.Line.{noRoute, inRange};
 ghost use Rattle.line.specs.Book.{byteAt, postsOf, countAt, routeIn, emptyLine, refusedBy, readBook};
 ghost use Rattle.line.specs.Book.{numberOf, postsStage, tracksStage, trainsStage, routesStage};
+use crate::form::routes_on_line;
+use crate::form::tracks_in_range;
 use crate::refusal;
 use crate::route::Route;
 use crate::sorts::PostNo;
@@ -173,12 +175,8 @@ fn check_tracks(line: Line) -> Stage
     requires { ⌜ line .posts ≤ 8 ⌝ }
     ensures { λ r. ⌜ r ≡ tracksStage line ⌝ }
 {
-    let mut p: usize = 0;
-    while p < line.posts as usize {
-        if !in_range(1, 4, line.tracks[p]) {
-            return Stage::Stopped(refusal::TRACKS);
-        }
-        p += 1;
+    if !tracks_in_range(line) {
+        return Stage::Stopped(refusal::TRACKS);
     }
     Stage::Passed(line.posts)
 }
@@ -221,16 +219,8 @@ fn check_routes(line: Line) -> Stage
     requires { ⌜ line .trains ≤ 6 ⌝ }
     ensures { λ r. ⌜ r ≡ routesStage line ⌝ }
 {
-    let mut t: usize = 0;
-    while t < line.trains as usize {
-        let route = line.routes[t];
-        if line.posts <= route.start.0 {
-            return Stage::Stopped(refusal::OFF_THE_LINE);
-        }
-        if line.posts <= route.end.0 {
-            return Stage::Stopped(refusal::OFF_THE_LINE);
-        }
-        t += 1;
+    if !routes_on_line(line) {
+        return Stage::Stopped(refusal::OFF_THE_LINE);
     }
     Stage::Passed(line.trains)
 }
