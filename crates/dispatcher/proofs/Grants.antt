@@ -116,8 +116,6 @@ module _ (table : List ℕ) where
 
   pub settled-next : (w : Work) (t : ℕ) → Valid (w .state) → Turn table w t → settled table (granted w t) ≡ settled table w
   settled-next w t d f =
-      let less = granted-fewer w t f in
       let few = few-asked w in
-      grants-enough (w .state .trains) (w .state .trains) (granted w t) (omega arith) (omega arith) ∙
       sym (grants-next (w .state .trains) w t (some-oldest table (w .state) (d .distinct) t f)) ∙
       grants-enough (suc (w .state .trains)) (w .state .trains) w (omega arith) few
