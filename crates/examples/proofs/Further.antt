@@ -33,7 +33,8 @@ unfolding bytesOf opened ranFrom seenIn
 both-home = (refl, refl)
 
 pub precedence : Precedence
-unfolding bytesOf opened ranFrom answer valid wellFormed between nextPost countBelow allBelow valuesFrom refusal unlessRefused readFrame
+unfolding bytesOf opened ranFrom answer valid wellFormed between nextPost countBelow allBelow valuesFrom
+    refusal unlessRefused readFrame
 precedence = record {
   fresh = refl;
   later = refl;

@@ -9,7 +9,8 @@ use Rattle.dispatcher.specs.State.{located}
 use Rattle.assurance.specs.Types.{Message, Sent, RefusedBy}
 use Rattle.examples.specs.Reading.{fa, fe, afe, am, opened, refusalOf, ran, verdictsOf, answersIn, recordsIn}
 
--- "Book X: 00 0A 01 03 01 02 01 02 00 02 02 00.": its length, posts, track counts, number of trains and train 1's start may be others
+-- "Book X: 00 0A 01 03 01 02 01 02 00 02 02 00.": its length, posts, track counts, number of trains and train 1's start
+-- may be others
 abbrev pub likeX : ℕ → ℕ → ℕ → ℕ → ℕ → ℕ → ℕ → List ℕ
 likeX size posts a b c trains start = 0 ∷ size ∷ 1 ∷ posts ∷ a ∷ b ∷ c ∷ trains ∷ 0 ∷ 2 ∷ start ∷ 0 ∷ []
 
@@ -30,7 +31,8 @@ pub record Examples : Type 0 where
   -- "D. P 1 or 9: 15."
   pub d : (refusalOf (likeX 10 1 1 2 1 2 2) ≡ 15) × (refusalOf (likeX 10 9 1 2 1 2 2) ≡ 15)
   -- "E. X with first track count 0 or 5: 16; with 4 it opens."
-  pub e : (refusalOf (likeX 10 3 0 2 1 2 2) ≡ 16) × (refusalOf (likeX 10 3 5 2 1 2 2) ≡ 16) × (refusalOf (likeX 10 3 4 2 1 2 2) ≡ 0)
+  pub e : (refusalOf (likeX 10 3 0 2 1 2 2) ≡ 16) × (refusalOf (likeX 10 3 5 2 1 2 2) ≡ 16)
+      × (refusalOf (likeX 10 3 4 2 1 2 2) ≡ 0)
   -- "F. T 0: 17."
   pub f : refusalOf (likeX 10 3 1 2 1 0 2) ≡ 17
   -- "G. X with train 1 starting at post 0: 19."
@@ -57,4 +59,5 @@ sentInTheRun = fa 0 0 1 ∷ fa 1 2 1 ∷ am 0 0 1 ∷ fa 0 1 2 ∷ am 1 2 1 ∷ 
 abbrev pub PrintedRun : Type 0
 PrintedRun = recordsIn (ran bookX (map bytesOf sentInTheRun))
     ≡ map recordOf
-    (fa 0 0 1 ∷ fe 0 0 1 ∷ fa 1 2 1 ∷ fe 1 2 1 ∷ am 0 0 1 ∷ fa 0 1 2 ∷ afe 0 1 2 ∷ am 1 2 1 ∷ fe 0 1 2 ∷ fa 1 1 0 ∷ fe 1 1 0 ∷ am 0 1 2 ∷ am 1 1 0 ∷ [])
+    (fa 0 0 1 ∷ fe 0 0 1 ∷ fa 1 2 1 ∷ fe 1 2 1 ∷ am 0 0 1 ∷ fa 0 1 2 ∷ afe 0 1 2
+    ∷ am 1 2 1 ∷ fe 0 1 2 ∷ fa 1 1 0 ∷ fe 1 1 0 ∷ am 0 1 2 ∷ am 1 1 0 ∷ [])

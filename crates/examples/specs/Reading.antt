@@ -1,5 +1,5 @@
--- How the examples are read: books are opened and frames put to the box with blank stores, and the answers are read from the out buffers.
--- The `unfolding` lines say which definitions are worked out where these are evaluated.
+-- How the examples are read: books are opened and frames put to the box with blank stores, and the answers are read
+-- from the out buffers. The `unfolding` lines say which definitions are worked out where these are evaluated.
 use mathlib.Core.List.{List, [], _∷_, map}
 use Prim.Native.Nat.{ℕ}
 use lib.ListN.{take, replicate}
@@ -58,8 +58,8 @@ input frame = record { frame = frame; out = replicate outLength 0 }
 
 -- frames put to a box in the state s, with a table and a blank journal
 unfoldable pub ranFrom : State → List ℕ → List (List ℕ) → Ran
-unfolding run answer refusal unlessRefused replaced accepted framesOf recordOf readFrame messageOf bytesOf valid wellFormed between nextPost
-    countBelow allBelow grantable oldest grants update codeBelow
+unfolding run answer refusal unlessRefused replaced accepted framesOf recordOf readFrame messageOf bytesOf valid
+    wellFormed between nextPost countBelow allBelow grantable oldest grants update codeBelow
 ranFrom s table frames = run table s (replicate journalLength blank) (map input frames)
 
 -- frames put to the box that a book opened, with the table that the opening filled
