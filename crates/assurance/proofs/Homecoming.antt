@@ -2,7 +2,7 @@
 -- accepted. Every accepted frame raises the number of records that the trains can have taken, which is at most 168, so
 -- that this ends, with every train at its end.
 -- Assumes nothing.
-use mathlib.Core.Path.{_≡_, refl, ap, _∙_}
+use mathlib.Core.Path.{_≡_, refl, ap, subst, _∙_}
 use mathlib.Core.Bool.{Bool, false, not}
 use mathlib.Core.List.{List, [], _∷_, _++_}
 use Prim.Native.Nat.{ℕ, zero, suc, _+_, _≤_, _<_}
@@ -189,4 +189,7 @@ homecoming book table journal inputs e =
     let counted : Counted (openedState l) = rw (a .0) at (opened-counted book table journal e) in
     let home = home-after (filled l table) (long-table l table) (openedState l) journal (atOpening l)
     (opened-settled l table journal (a .1) (opened-line book)) counted inputs in
-    (home .0, rw (a .0) (λ t k. home .1 t k ∙ ap (λ (v : Line). routeOf v t .end .0) (opened-line book)))
+    let after : Line → Type 0 = λ v. (t : ℕ) → t < l .trains
+    → observe (atOpening l) (run (filled l table) (openedState l) journal (inputs ++ home .0) .exchanges) t .post
+    ≡ routeOf v t .end .0 in
+    (home .0, rw (a .0) (subst after (opened-line book) (home .1)))

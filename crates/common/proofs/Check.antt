@@ -71,5 +71,6 @@ never-refused n (c ∷ cs) h k e = by-cases (c .passes)
     (λ p. never-refused n cs h (and-right (not (eqb (c .number) n) || c .passes) (clear n cs) k) (rw p at e))
     (λ p.
     let same : c .number ≡ n = rw p at e in
-    let passes : c .passes ≡ true = rw (eq-eqb (c .number) n same) at (and-left (not (eqb (c .number) n) || c .passes) (clear n cs) k) in
+    let own = and-left (not (eqb (c .number) n) || c .passes) (clear n cs) k in
+    let passes : c .passes ≡ true = rw (eq-eqb (c .number) n same) at own in
     clash (c .passes) passes p)

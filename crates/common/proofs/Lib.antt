@@ -1,4 +1,5 @@
--- The laws of the definitions in `specs/`, each in the file of its name; `Tests` has the laws of Bools that the kit does not have, and `Sums` sums.
+-- The laws of the definitions in `specs/`, each in the file of its name; `Tests` has the laws of Bools that the kit
+-- does not have, and `Sums` sums.
 pub mod Tests
 pub mod Below
 pub mod Sums
