@@ -29,7 +29,7 @@ use Rattle.completion.proofs.Agreement.{completable-cong}
 use Rattle.completion.proofs.Rule.{bit-completable, completable-bit}
 use Rattle.dispatcher.specs.State.{noTrain, trainOf, lineOf, located, reached}
 use Rattle.dispatcher.specs.Granting.{grantable}
-use Rattle.dispatcher.specs.Opening.{openingChecks, fresh, openedState, opened, refusedBook, opening}
+use Rattle.dispatcher.specs.Opening.{openingChecks, fresh, openedState, opened, refusedBook, opening, openingWith}
 use Rattle.dispatcher.proofs.Validity.{Valid}
 use Rattle.dispatcher.proofs.Changes.{grantable-facts}
 use Rattle.assurance.specs.Types.{Line, Record}
@@ -46,26 +46,25 @@ pub record Accepted (l : Line) (table : List ℕ) (journal : List Record) : Type
   pub room : journalLength ≤ length journal
 
 module _ (book table : List ℕ) (journal : List Record) where
-  book-passed : refusal (openingChecks book table journal) ≡ 0 → Accepted (lineIn book) table journal
+  book-passed : refusal (openingChecks book table (length journal)) ≡ 0 → Accepted (lineIn book) table journal
   book-passed e =
-      let check = passed-at (openingChecks book table journal) refl e in
+      let check = passed-at (openingChecks book table (length journal)) refl e in
       record {
-        line = well-formed (lineIn book)
-            (well-formed-parts (lineIn book) (check 3 refl) (check 5 refl) (check 6 refl) (check 8 refl));
-        fits = feasible-of (lineIn book) start (check 9 refl);
-        bit = check 10 refl;
-        room = leb-true _ _ (and-right (leb tableLength (length table)) _ (check 0 refl));
+        line = well-formed (lineIn book) (well-formed-parts (lineIn book) (check 3) (check 5) (check 6) (check 8));
+        fits = feasible-of (lineIn book) start (check 9);
+        bit = check 10;
+        room = leb-true _ _ (and-right (leb tableLength (length table)) _ (check 0));
       }
 
   -- a book that is not refused passed them all
   pub opening-accepted : opening book table journal .number ≡ 0
       → (opening book table journal ≡ opened (lineIn book) table) × Accepted (lineIn book) table journal
-  unfolding opening
-  opening-accepted e = by-equality (refusal (openingChecks book table journal)) 0
+  unfolding openingWith
+  opening-accepted e = by-equality (refusal (openingChecks book table (length journal))) 0
       (λ q. (accepts (opened (lineIn book) table) (refusedBook (lineIn book) table) q, book-passed q))
       (λ h.
       let r =
-      refuses {n = refusal (openingChecks book table journal)} (opened (lineIn book) table)
+      refuses {n = refusal (openingChecks book table (length journal))} (opened (lineIn book) table)
       (refusedBook (lineIn book) table) (omega arith) in
       absurd (h (rw r at e)))
 

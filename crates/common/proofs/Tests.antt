@@ -3,9 +3,9 @@
 use mathlib.Core.Path.{_≡_, refl, sym, _∙_}
 use mathlib.Core.Logic.{_⊎_, inl, inr, _≢_}
 use mathlib.Core.Bool.{Bool, true, false, not, _&&_, _||_, true≢false, false≢true}
-use Prim.Native.Nat.{ℕ}
-use lib.Dec.{eqb}
-use borrow.Author.Tests.{eqb-true, eqb-false}
+use Prim.Native.Nat.{ℕ, _≤_, _<_}
+use lib.Dec.{eqb, ltb}
+use borrow.Author.Tests.{eqb-true, eqb-false, ltb-true, ltb-false}
 
 -- a test does not both pass and fail
 pub clash {ℓ} : {A : Type ℓ} (b : Bool) → b ≡ true → b ≡ false → A
@@ -19,6 +19,10 @@ by-cases false f g = g refl
 -- the same for two numbers, equal or not
 pub by-equality {ℓ} : {A : Type ℓ} (m n : ℕ) → (m ≡ n → A) → (m ≢ n → A) → A
 by-equality m n f g = by-cases (eqb m n) (λ e. f (eqb-true m n e)) (λ e. g (eqb-false m n e))
+
+-- and for two numbers in order
+pub by-order {ℓ} : {A : Type ℓ} (m n : ℕ) → (m < n → A) → (n ≤ m → A) → A
+by-order m n f g = by-cases (ltb m n) (λ e. f (ltb-true m n e)) (λ e. g (ltb-false m n e))
 
 pub not-passed : (b : Bool) → (b ≡ true → ⊥) → b ≡ false
 not-passed true h = absurd (h refl)
@@ -57,3 +61,10 @@ not-of-false b e = rw e
 
 pub not-of-true : (b : Bool) → b ≡ true → not b ≡ false
 not-of-true b e = rw e
+
+-- `&&` as code works it out: the first test passed, and the second decides; or it failed, and decides
+pub and-passed : (a b : Bool) → a ≡ true → b ≡ a && b
+and-passed a b p = rw p
+
+pub and-failed : (a b : Bool) → a ≡ false → a ≡ a && b
+and-failed a b p = rw p

@@ -1,6 +1,10 @@
 // The dispatcher's box: its state, who holds what, the granting, the answer to a frame and the
 // opening of a book.
+mod grantable;
+mod holding;
 mod state;
+mod train;
+mod valid;
 
 pub use state::State;
 pub use state::Status;

@@ -19,7 +19,7 @@ use Rattle.completion.specs.Table.{tableLength, movesOn, completableBy, complet
 use Rattle.dispatcher.specs.Valid.{valid}
 use Rattle.dispatcher.specs.Granting.{grantable, oldest, grants}
 use Rattle.dispatcher.specs.Answer.{outLength, accepted, framesOf, answer}
-use Rattle.dispatcher.specs.Opening.{Opening, opening}
+use Rattle.dispatcher.specs.Opening.{Opening, openingWith, opening}
 use Rattle.assurance.specs.Types.{Message, Fa, Fe, Afe, Am, Record, State, Verdict}
 use Rattle.assurance.specs.Run.{Input, Exchange, Ran, run}
 use Rattle.assurance.specs.Observer.{Seen, readFrames, answersOf, atOpening, hearAnswers, observe}
@@ -42,7 +42,7 @@ am t p q = Am (moveOf t p q)
 
 -- the opening of a book with blank stores
 unfoldable pub opened : List ℕ → Opening
-unfolding opening refusal unlessRefused valuesFrom padded countBelow allBelow anyBelow setBelow postAfter
+unfolding openingWith refusal unlessRefused valuesFrom padded countBelow allBelow anyBelow setBelow postAfter
     codeBelow within fits arrived feasible movesOn completableBy completableIn tableOf
 opened book = opening book (replicate tableLength 0) (replicate journalLength blank)
 

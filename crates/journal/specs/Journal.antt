@@ -1,11 +1,13 @@
--- 01, "The journal": "The journal is a lent run of records, at least 176: kind, train, from, to. An accepted frame is logged, then each answer
--- in order of sending. Records past the count are untouched."
+-- 01, "The journal": "The journal is a lent run of records, at least 176: kind, train, from, to. An accepted frame is
+-- logged, then each answer in order of sending. Records past the count are untouched."
+use mathlib.Core.Path.{_≡_}
 use mathlib.Core.Bool.{Bool, cond, _&&_}
-use mathlib.Core.List.{List}
+use mathlib.Core.List.{List, _++_}
 use Prim.Native.Nat.{ℕ, _+_}
 use lib.Dec.{leb, ltb}
-use lib.ListN.{length, getD, set, take, replicate}
-use lib.Seq.{paste}
+use lib.ListN.{length, getD, set, take, drop, replicate}
+use Rattle.frame.specs.Frame.{frameBytes, bytesOf}
+use Rattle.frame.specs.RoundTrip.{IsMessage}
 use Rattle.journal.specs.Types.{Move, Message, Fa, Fe, Afe, Am, Refused, Record, Batch}
 
 -- "at least 176"
@@ -29,6 +31,14 @@ recordOf (Fe m) = recordWith 2 m
 recordOf (Afe m) = recordWith 3 m
 recordOf (Am m) = recordWith 4 m
 recordOf (Refused n) = blank
+
+-- the seven bytes of the frame that a record was made of
+abbrev pub frameOf : Record → List ℕ
+frameOf r = frameBytes (r .kind) (record { train = r .train; from = r .from; to = r .to })
+
+-- the claim on records: a message is logged with the kind, train, from and to of its frame
+abbrev pub LoggedAsSent : Type 0
+LoggedAsSent = (m : Message) → IsMessage m → bytesOf m ≡ frameOf (recordOf m)
 
 -- the record of number i
 abbrev pub recordAt : List Record → ℕ → Record
@@ -63,4 +73,4 @@ fitting len at n = cond (fit len at n) n 0
 
 -- the journal j with the records of b from place `at` on; j itself where they do not fit
 unfoldable pub appended : List Record → ℕ → Batch → List Record
-appended j at b = cond (fit (length j) at (b .n)) (paste j at (b .items) (b .n)) j
+appended j at b = cond (fit (length j) at (b .n)) (take at j ++ records b ++ drop (at + b .n) j) j

@@ -1,6 +1,19 @@
-// stand-in
+// The journal: its records, the batch of records that one frame adds, and thin functions over the
+// lent run of records. 01: "An accepted frame is logged, then each answer in order of sending."
 mod batch;
+mod reading;
 mod record;
+mod writing;
 
+pub use batch::BATCH_LENGTH;
 pub use batch::Batch;
+pub use batch::empty;
+pub use batch::with;
+pub use reading::at;
 pub use record::Record;
+pub use record::blank;
+pub use record::record_of;
+pub use writing::append;
+
+// How many records a lent journal has at least.
+pub const JOURNAL_LENGTH: usize = 176;

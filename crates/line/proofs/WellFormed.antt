@@ -1,15 +1,16 @@
 -- A well-formed line, as facts about its numbers: what `completion` and `dispatcher` rest on.
 -- Assumes nothing.
 use mathlib.Core.Path.{_≡_}
-use mathlib.Core.Bool.{true, _&&_}
+use mathlib.Core.Bool.{true, false, _&&_, and-false}
 use Prim.Native.Nat.{ℕ, _≤_, _<_}
 use native.Mathlib.Omega.{arith}
 use lib.Dec.{leb, ltb}
-use borrow.Author.Tests.{ltb-true, leb-true, lt-ltb, le-leb}
+use borrow.Author.Tests.{ltb-true, leb-true, lt-ltb, le-ltb, le-leb, lt-leb}
 use Rattle.common.proofs.Tests.{and-left, and-right, and-both}
 use Rattle.common.proofs.Below.{all-below, below-all}
 use Rattle.line.specs.Sorts.{Line}
-use Rattle.line.specs.Line.{routeOf, tracksAt, inRange, postsInRange, tracksInRange, trainsInRange, routesOnLine, wellFormed}
+use Rattle.line.specs.Line.{routeOf, tracksAt, inRange, wellFormed}
+use Rattle.line.specs.Line.{postsInRange, tracksInRange, trainsInRange, routesOnLine}
 use Rattle.line.specs.Route.{routeLength}
 
 pub record WellFormed (l : Line) : Type 0 where
@@ -25,27 +26,70 @@ pub record WellFormed (l : Line) : Type 0 where
 low : (a b n : ℕ) → inRange a b n ≡ true → a ≤ n
 low a b n h = leb-true a n (and-left (leb a n) (leb n b) h)
 
-high : (a b n : ℕ) → inRange a b n ≡ true → n ≤ b
+pub high : (a b n : ℕ) → inRange a b n ≡ true → n ≤ b
 high a b n h = leb-true n b (and-right (leb a n) (leb n b) h)
 
-ranged : (a b n : ℕ) → a ≤ n → n ≤ b → inRange a b n ≡ true
+pub ranged : (a b n : ℕ) → a ≤ n → n ≤ b → inRange a b n ≡ true
 ranged a b n h k = and-both (leb a n) (leb n b) (le-leb a n h) (le-leb n b k)
+
+pub below-range : (a b n : ℕ) → n < a → inRange a b n ≡ false
+below-range a b n h = rw (lt-leb a n h)
+
+pub above-range : (a b n : ℕ) → b < n → inRange a b n ≡ false
+above-range a b n h = rw (lt-leb n b h) (and-false (leb a n))
+
+-- a route that starts or ends off a line of n posts
+pub off-start : (a e n : ℕ) → n ≤ a → ltb a n && ltb e n ≡ false
+off-start a e n h = rw (le-ltb a n h)
+
+pub off-end : (a e n : ℕ) → n ≤ e → ltb a n && ltb e n ≡ false
+off-end a e n h = rw (le-ltb e n h) (and-false (ltb a n))
 
 module _ (l : Line) where
   -- the parts that `wellFormed` is made of
-  pub well-formed-parts : postsInRange l ≡ true → tracksInRange l ≡ true → trainsInRange l ≡ true → routesOnLine l ≡ true → wellFormed l ≡ true
+  pub well-formed-parts : postsInRange l ≡ true → tracksInRange l ≡ true → trainsInRange l ≡ true
+      → routesOnLine l ≡ true → wellFormed l ≡ true
   unfolding wellFormed
   well-formed-parts p k t r = rw (p, k, t, r)
 
-  pub well-formed : wellFormed l ≡ true → WellFormed l
+  -- the test, part by part: the first that fails decides, and else the last
+  pub posts-fail : postsInRange l ≡ false → false ≡ wellFormed l
   unfolding wellFormed
-  well-formed h =
-      let posts = and-left (postsInRange l) (tracksInRange l && (trainsInRange l && routesOnLine l)) h in
+  posts-fail e = rw e
+
+  module _ (posts : postsInRange l ≡ true) where
+    pub tracks-fail : tracksInRange l ≡ false → false ≡ wellFormed l
+    unfolding wellFormed
+    tracks-fail e = rw (posts, e)
+
+    module _ (tracks : tracksInRange l ≡ true) where
+      pub trains-fail : trainsInRange l ≡ false → false ≡ wellFormed l
+      unfolding wellFormed
+      trains-fail e = rw (posts, tracks, e)
+
+      pub routes-decide : trainsInRange l ≡ true → routesOnLine l ≡ wellFormed l
+      unfolding wellFormed
+      routes-decide trains = rw (posts, tracks, trains)
+
+  pub formed-parts : wellFormed l ≡ true
+      → (postsInRange l ≡ true) × (tracksInRange l ≡ true) × (trainsInRange l ≡ true) × (routesOnLine l ≡ true)
+  unfolding wellFormed
+  formed-parts h =
       let rest = and-right (postsInRange l) (tracksInRange l && (trainsInRange l && routesOnLine l)) h in
-      let tracks = all-below (l .posts) _ (and-left (tracksInRange l) (trainsInRange l && routesOnLine l) rest) in
-      let last = and-right (tracksInRange l) (trainsInRange l && routesOnLine l) rest in
-      let trains = and-left (trainsInRange l) (routesOnLine l) last in
-      let routes = all-below (l .trains) _ (and-right (trainsInRange l) (routesOnLine l) last) in
+      let last = and-right (tracksInRange l) (trainsInRange l && routesOnLine l) rest in (
+        and-left (postsInRange l) (tracksInRange l && (trainsInRange l && routesOnLine l)) h,
+        and-left (tracksInRange l) (trainsInRange l && routesOnLine l) rest,
+        and-left (trainsInRange l) (routesOnLine l) last,
+        and-right (trainsInRange l) (routesOnLine l) last,
+      )
+
+  pub well-formed : wellFormed l ≡ true → WellFormed l
+  well-formed h =
+      let parts = formed-parts h in
+      let posts = parts .0 in
+      let tracks = all-below (l .posts) _ (parts .1) in
+      let trains = parts .2 in
+      let routes = all-below (l .trains) _ (parts .3) in
       record {
         some-posts = low 2 8 (l .posts) posts;
         few-posts = high 2 8 (l .posts) posts;
@@ -53,8 +97,8 @@ module _ (l : Line) where
         few-tracks = λ p k. high 1 4 (tracksAt l p) (tracks p k);
         some-trains = low 1 6 (l .trains) trains;
         few-trains = high 1 6 (l .trains) trains;
-        starts = λ t k. ltb-true (routeOf l t .start .0) (l .posts) (and-left (ltb (routeOf l t .start .0) (l .posts)) _ (routes t k));
-        ends = λ t k. ltb-true (routeOf l t .end .0) (l .posts) (and-right (ltb (routeOf l t .start .0) (l .posts)) _ (routes t k));
+        starts = λ t k. ltb-true _ _ (and-left (ltb (routeOf l t .start .0) (l .posts)) _ (routes t k));
+        ends = λ t k. ltb-true _ _ (and-right (ltb (routeOf l t .start .0) (l .posts)) _ (routes t k));
       }
 
   pub is-well-formed : WellFormed l → wellFormed l ≡ true

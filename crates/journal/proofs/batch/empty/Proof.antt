@@ -1,0 +1,14 @@
+-- `journal::empty` meets its contract: seven blank records.
+-- Assumes nothing.
+use borrow.Author.Needs.{needs}
+use Rattle.journal.proofs.batch.empty.Statement.{statement}
+use Rattle.journal.proofs.batch.empty.Tie as tie
+
+blank-requires : tie.Need-blank-requires
+blank-requires c κs = search needs
+
+returns : tie.Need-returns
+returns c = rw (c .blank .ensures)
+
+pub empty-spec : {M : Type 1} → statement M
+empty-spec = tie.close (tie.spec blank-requires returns)
