@@ -8,7 +8,7 @@ use Prim.Native.Nat.{ℕ, _+_, _≤_}
 use lib.ListN.{length}
 use native.Mathlib.Omega.{arith}
 use borrow.Author.Tests.{le-leb}
-use Rattle.common.specs.Check.{refusal}
+use Rattle.common.specs.Check.{Check, refusal}
 use Rattle.common.proofs.Tests.{and-both}
 use Rattle.common.proofs.Check.{not-given}
 use Rattle.frame.specs.Frame.{readFrame}
@@ -41,18 +41,20 @@ module _ (table : List ℕ) where
   })
 
   module _ (s : State) (j : List Record) (frame out : List ℕ) (k : Counted s) where
-    not-by : (n : ℕ) → refusal (frameChecks s (length table) (length j) frame (length out)) ≢ n → answer s table j frame out .verdict ≢ RefusedBy n
+    abbrev checks : List Check
+    checks = frameChecks s (length table) (length j) frame (length out)
+
+    not-by : (n : ℕ) → refusal checks ≢ n → answer s table j frame out .verdict ≢ RefusedBy n
     not-by n h =
         by-verdict s table j frame out (λ a. a .verdict ≢ RefusedBy n) (λ m q e. h (let z : m ≡ n = cc in q ∙ z))
         (λ p e. let z : _≡_ {A = ℕ} 0 1 = cc in omega arith)
 
     not-strange : answer s table j frame out .verdict ≢ RefusedBy strangeState
     not-strange =
-        not-by strangeState (not-given strangeState (frameChecks s (length table) (length j) frame (length out)) (omega arith)
-        (and-both _ _ (is-valid s (k .valid-state)) refl))
+        not-by strangeState (not-given strangeState checks (omega arith) (and-both _ _ (is-valid s (k .valid-state)) refl))
 
     not-full : answer s table j frame out .verdict ≢ RefusedBy journalFull
-    not-full = not-by journalFull (not-given journalFull (frameChecks s (length table) (length j) frame (length out)) (omega arith)
+    not-full = not-by journalFull (not-given journalFull checks (omega arith)
         (and-both _ _ (le-leb (s .logged + mostLogged) journalLength
         (omega (arith, k .bounded, few-records s (k .valid-state)))) refl))
 

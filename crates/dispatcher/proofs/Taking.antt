@@ -25,7 +25,8 @@ module _ (s : State) (table : List ℕ) (journal : List Record) (out : List ℕ)
   stores : leb tableLength (length table) && (leb journalLength (length journal) && leb outLength (length out)) ≡ true
   stores = and-both _ _ (le-leb _ _ table-long) (and-both _ _ (le-leb _ _ journal-long) (le-leb _ _ out-long))
 
-  passes : (a : Message) → Taken s a → Refuses (frameChecks s (length table) (length journal) (bytesOf a) (length out)) 0
+  passes : (a : Message) → Taken s a
+      → Refuses (frameChecks s (length table) (length journal) (bytesOf a) (length out)) 0
   unfolding readFrame refusal unlessRefused messageOf bytesOf
   passes a (request m q free idle) =
       pass (is-valid s d) (pass stores (pass refl (pass refl (pass refl (pass refl

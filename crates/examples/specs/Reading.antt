@@ -19,7 +19,7 @@ use Rattle.completion.specs.Table.{tableLength, movesOn, completableBy, complet
 use Rattle.dispatcher.specs.Valid.{valid}
 use Rattle.dispatcher.specs.Granting.{grantable, oldest, grants}
 use Rattle.dispatcher.specs.Answer.{outLength, accepted, framesOf, answer}
-use Rattle.dispatcher.specs.Opening.{Opening, opening, openingWith}
+use Rattle.dispatcher.specs.Opening.{Opening, openingWith, opening}
 use Rattle.assurance.specs.Types.{Message, Fa, Fe, Afe, Am, Record, State, Verdict}
 use Rattle.assurance.specs.Run.{Input, Exchange, Ran, run}
 use Rattle.assurance.specs.Observer.{Seen, readFrames, answersOf, atOpening, hearAnswers, observe}
