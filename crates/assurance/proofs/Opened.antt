@@ -51,7 +51,7 @@ module _ (book table : List ℕ) (journal : List Record) where
       record {
         line = well-formed (lineIn book) (well-formed-parts (lineIn book) (check 3) (check 5) (check 6) (check 8));
         fits = feasible-of (lineIn book) start (check 9);
-        bit = check 10 refl;
+        bit = check 10;
         room = leb-true _ _ (and-right (leb tableLength (length table)) _ (check 0));
       }
 
