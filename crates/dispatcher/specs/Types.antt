@@ -13,3 +13,4 @@ pub use Rattle.dispatcher.specs.declared.state.Train.{Train}
 pub use Rattle.dispatcher.specs.declared.state.State.{State}
 pub use Rattle.dispatcher.specs.declared.state.Verdict.{Verdict}
 pub use Rattle.dispatcher.specs.declared.state.Verdict.the-variants.{Sent, Refused as RefusedBy}
+pub use Rattle.dispatcher.specs.declared.opening.Opened.{Opened}

@@ -2,10 +2,13 @@
 // opening of a book.
 mod grantable;
 mod holding;
+mod opening;
 mod state;
 mod train;
 mod valid;
 
+pub use opening::Opened;
+pub use opening::open_with;
 pub use state::State;
 pub use state::Status;
 pub use state::Train;
