@@ -5,6 +5,7 @@ use mathlib.Core.Logic.{_≢_}
 use mathlib.Core.Bool.{Bool, true, false, _||_, false≢true}
 use Prim.Native.Nat.{ℕ, zero, suc, _+_, _≤_, _<_}
 use native.Mathlib.Nat.{not-suc-le-zero}
+use native.Mathlib.Numerals.{add-one}
 use native.Mathlib.Omega.{arith}
 use Rattle.common.specs.Below.{ofBool, countBelow, allBelow, anyBelow}
 use Rattle.common.proofs.Tests.{clash, by-cases, by-equality, not-passed, and-left, and-right, and-both, or-left, or-right}
@@ -139,3 +140,23 @@ pub any-cong : (n : ℕ) (f g : ℕ → Bool) → ((u : ℕ) → u < n → f u �
 unfolding anyBelow
 any-cong zero f g h = refl
 any-cong (suc n) f g h = rw (h n (omega arith), any-cong n f g (λ u l. h u (omega arith)))
+
+-- ---- a loop that tests the numbers below n one by one
+
+-- those below i passed
+pub record Passing (n : ℕ) (f : ℕ → Bool) (i : ℕ) : Type 0 where
+  pub within : i ≤ n
+  pub passed : (k : ℕ) → k < i → f k ≡ true
+
+pub passing-none : (n : ℕ) (f : ℕ → Bool) → Passing n f 0
+passing-none n f = record { within = omega arith; passed = λ k l. absurd (not-suc-le-zero l) }
+
+module _ {n : ℕ} {f : ℕ → Bool} {i : ℕ} (p : Passing n f i) where
+  pub passing-more : i < n → f i ≡ true → Passing n f (i + 1)
+  passing-more h e = record { within = omega arith; passed = rw add-one (below-suc i (p .passed) e) }
+
+  pub passing-fails : i < n → f i ≡ false → false ≡ allBelow n f
+  passing-fails h e = sym (not-all n f i h e)
+
+  pub passing-all : n ≤ i → true ≡ allBelow n f
+  passing-all h = sym (below-all n f (λ k l. p .passed k (omega arith)))

@@ -1,11 +1,12 @@
 -- Laws of the list of a function's values.
 -- Assumes nothing.
 use mathlib.Core.Path.{_≡_, refl, sym, ap, _∙_}
-use mathlib.Core.List.{List}
+use mathlib.Core.List.{List, map}
 use Prim.Native.Nat.{ℕ, zero, suc, _+_, _≤_, _<_}
 use native.Mathlib.Nat.{not-suc-le-zero, zero-add, add-zero, add-suc, suc-add}
 use native.Mathlib.Omega.{arith}
-use lib.ListN.{length, getD, set, replicate, length-set, length-replicate, getD-replicate, List·getD-eq-default}
+use lib.ListN.{length, getD, set, replicate, length-map, length-set, length-replicate, getD-replicate}
+use lib.ListN.{List·getD-map, List·getD-eq-default}
 use lib.Seq.{ext-getD, getD-set-same, getD-set-other}
 use borrow.Author.Tests.{lt-ltb, le-ltb}
 use Rattle.common.specs.Tabulate.{valuesFrom, tabulate, padded}
@@ -83,3 +84,9 @@ module _ {A : Type 0} (n : ℕ) (f : ℕ → A) (d : A) where
       (λ e. rw e (getD-set-same (padded n k f d) k (f k) d (rw length-padded h)))
       (λ e. getD-set-other (padded n k f d) k i (f k) d e ∙ at-padded n k f d i l (omega arith)))
       (λ i l. getD-set-other (padded n k f d) k i (f k) d (λ e. omega arith) ∙ past-padded n k f d i (omega arith))
+
+-- all of them, made of a list's elements one by one
+pub padded-map : {A B : Type 0} (g : A → B) (l : List A) (n : ℕ) (a : A) → length l ≡ n → padded n n (λ i. g (getD l i a)) (g a) ≡ map g l
+padded-map g l n a e = ext-getD (g a) (padded n n (λ i. g (getD l i a)) (g a)) (map g l)
+    (length-padded n n _ (g a) ∙ sym (length-map l g ∙ e))
+    (λ i m. let h : i < n = rw length-padded at m in at-padded n n _ (g a) i h h ∙ sym (List·getD-map g l i a))

@@ -61,3 +61,10 @@ not-of-false b e = rw e
 
 pub not-of-true : (b : Bool) → b ≡ true → not b ≡ false
 not-of-true b e = rw e
+
+-- `&&` as code works it out: the first test passed, and the second decides; or it failed, and decides
+pub and-passed : (a b : Bool) → a ≡ true → b ≡ a && b
+and-passed a b p = rw p
+
+pub and-failed : (a b : Bool) → a ≡ false → a ≡ a && b
+and-failed a b p = rw p

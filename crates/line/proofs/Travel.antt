@@ -3,7 +3,7 @@
 -- Assumes nothing.
 use mathlib.Core.Path.{_≡_, sym}
 use mathlib.Core.Logic.{_⊎_, inl, inr, ⊎-elim, _≢_}
-use mathlib.Core.Bool.{true, _&&_}
+use mathlib.Core.Bool.{true, false, _&&_}
 use Prim.Native.Nat.{ℕ, _+_, _-_, _≤_, _<_}
 use native.Mathlib.Omega.{arith}
 use lib.Dec.{leb}
@@ -50,6 +50,15 @@ unfolding between
 of-between a p e = ⊎-elim
     (λ k. or-left (leb a p && leb p e) (leb e p && leb p a) (in-order a p e k))
     (λ k. or-right (leb a p && leb p e) (leb e p && leb p a) (in-order e p a k))
+
+-- the test, upwards and else downwards
+pub between-up : (a p e : ℕ) → leb a p && leb p e ≡ true → true ≡ between a p e
+unfolding between
+between-up a p e h = rw h
+
+pub between-down : (a p e : ℕ) → leb a p && leb p e ≡ false → leb e p && leb p a ≡ between a p e
+unfolding between
+between-down a p e h = rw h
 
 pub start-between : (a e : ℕ) → Between a a e
 start-between a e = by-cases (leb a e)

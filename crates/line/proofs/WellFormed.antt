@@ -1,11 +1,11 @@
 -- A well-formed line, as facts about its numbers: what `completion` and `dispatcher` rest on.
 -- Assumes nothing.
 use mathlib.Core.Path.{_≡_}
-use mathlib.Core.Bool.{true, _&&_}
+use mathlib.Core.Bool.{true, false, _&&_, and-false}
 use Prim.Native.Nat.{ℕ, _≤_, _<_}
 use native.Mathlib.Omega.{arith}
 use lib.Dec.{leb, ltb}
-use borrow.Author.Tests.{ltb-true, leb-true, lt-ltb, le-leb}
+use borrow.Author.Tests.{ltb-true, leb-true, lt-ltb, le-ltb, le-leb, lt-leb}
 use Rattle.common.proofs.Tests.{and-left, and-right, and-both}
 use Rattle.common.proofs.Below.{all-below, below-all}
 use Rattle.line.specs.Sorts.{Line}
@@ -29,8 +29,21 @@ low a b n h = leb-true a n (and-left (leb a n) (leb n b) h)
 pub high : (a b n : ℕ) → inRange a b n ≡ true → n ≤ b
 high a b n h = leb-true n b (and-right (leb a n) (leb n b) h)
 
-ranged : (a b n : ℕ) → a ≤ n → n ≤ b → inRange a b n ≡ true
+pub ranged : (a b n : ℕ) → a ≤ n → n ≤ b → inRange a b n ≡ true
 ranged a b n h k = and-both (leb a n) (leb n b) (le-leb a n h) (le-leb n b k)
+
+pub below-range : (a b n : ℕ) → n < a → inRange a b n ≡ false
+below-range a b n h = rw (lt-leb a n h)
+
+pub above-range : (a b n : ℕ) → b < n → inRange a b n ≡ false
+above-range a b n h = rw (lt-leb n b h) (and-false (leb a n))
+
+-- a route that starts or ends off a line of n posts
+pub off-start : (a e n : ℕ) → n ≤ a → ltb a n && ltb e n ≡ false
+off-start a e n h = rw (le-ltb a n h)
+
+pub off-end : (a e n : ℕ) → n ≤ e → ltb a n && ltb e n ≡ false
+off-end a e n h = rw (le-ltb e n h) (and-false (ltb a n))
 
 module _ (l : Line) where
   -- the parts that `wellFormed` is made of
@@ -38,6 +51,25 @@ module _ (l : Line) where
       → routesOnLine l ≡ true → wellFormed l ≡ true
   unfolding wellFormed
   well-formed-parts p k t r = rw (p, k, t, r)
+
+  -- the test, part by part: the first that fails decides, and else the last
+  pub posts-fail : postsInRange l ≡ false → false ≡ wellFormed l
+  unfolding wellFormed
+  posts-fail e = rw e
+
+  module _ (posts : postsInRange l ≡ true) where
+    pub tracks-fail : tracksInRange l ≡ false → false ≡ wellFormed l
+    unfolding wellFormed
+    tracks-fail e = rw (posts, e)
+
+    module _ (tracks : tracksInRange l ≡ true) where
+      pub trains-fail : trainsInRange l ≡ false → false ≡ wellFormed l
+      unfolding wellFormed
+      trains-fail e = rw (posts, tracks, e)
+
+      pub routes-decide : trainsInRange l ≡ true → routesOnLine l ≡ wellFormed l
+      unfolding wellFormed
+      routes-decide trains = rw (posts, tracks, trains)
 
   pub formed-parts : wellFormed l ≡ true
       → (postsInRange l ≡ true) × (tracksInRange l ≡ true) × (trainsInRange l ≡ true) × (routesOnLine l ≡ true)

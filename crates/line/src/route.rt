@@ -1,6 +1,8 @@
 // A train's way along the line, from its start to its end.
 ghost use mathlib.Core.Path.{_≡_};
-ghost use Rattle.line.specs.Route.{nextPost, sectionOf};
+ghost use mathlib.Core.Bool.{_&&_};
+ghost use lib.Dec.{leb};
+ghost use Rattle.line.specs.Route.{nextPost, sectionOf, between};
 use crate::sorts::PostNo;
 use crate::sorts::SectionNo;
 
@@ -31,4 +33,20 @@ pub fn section(p: PostNo, q: PostNo) -> SectionNo
     } else {
         SectionNo(q.0)
     }
+}
+
+// Whether `at` lies between two posts, both counted.
+pub fn between(start: PostNo, at: PostNo, end: PostNo) -> bool
+    ensures { λ r. ⌜ r ≡ between (start .0) (at .0) (end .0) ⌝ }
+{
+    if in_order(start, at, end) {
+        return true;
+    }
+    in_order(end, at, start)
+}
+
+fn in_order(a: PostNo, b: PostNo, c: PostNo) -> bool
+    ensures { λ r. ⌜ r ≡ leb (a .0) (b .0) && leb (b .0) (c .0) ⌝ }
+{
+    a.0 <= b.0 && b.0 <= c.0
 }

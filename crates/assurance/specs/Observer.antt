@@ -1,0 +1,102 @@
+-- The observer (01: tally): "Who asked and who holds is told by a tally, kept from book, frames, answers and refusals, never from state or journal."
+use mathlib.Core.Bool.{Bool, true, false, cond, _&&_}
+use mathlib.Core.List.{List, [], _∷_}
+use Prim.Native.Nat.{ℕ, zero, suc}
+use lib.Dec.{eqb}
+use lib.ListN.{take, drop}
+use Rattle.common.specs.Update.{update}
+use Rattle.line.specs.Line.{routeOf}
+use Rattle.line.specs.Holding.{Whereabouts, at, moving}
+use Rattle.frame.specs.Frame.{readFrame}
+use Rattle.assurance.specs.Types.{Line, Move, Message, Fa, Fe, Afe, Am, Refused, Verdict, Sent, RefusedBy}
+use Rattle.assurance.specs.Run.{Exchange}
+
+-- "For each train it has a post and one of these: nothing, asked, or an authority for one move."
+pub data Claim : Type 0 where
+  nothing : Claim
+  asked : Claim
+  authority : ℕ → ℕ → Claim
+
+pub record Seen : Type 0 where
+  pub post : ℕ
+  pub claim : Claim
+
+abbrev pub Observer : Type 0
+Observer = ℕ → Seen
+
+-- "It begins with every train at its start, with nothing."
+abbrev pub atOpening : Line → Observer
+atOpening l t = record { post = routeOf l t .start .0; claim = nothing }
+
+abbrev pub isFor : Claim → ℕ → ℕ → Bool
+isFor nothing p q = false
+isFor asked p q = false
+isFor (authority a b) p q = eqb a p && eqb b q
+
+-- an accepted frame: "An accepted FA makes its train asked. An accepted AM for the move its train has an authority for puts the train at that move's
+-- to post, with nothing. .. All else changes nothing."
+abbrev pub hearFrame : Observer → Message → Observer
+hearFrame o (Fa m) = update o (m .train .0) (record { post = o (m .train .0) .post; claim = asked })
+hearFrame o (Am m) =
+    cond (isFor (o (m .train .0) .claim) (m .from .0) (m .to .0))
+    (update o (m .train .0) (record { post = m .to .0; claim = nothing }))
+    o
+hearFrame o (Fe m) = o
+hearFrame o (Afe m) = o
+hearFrame o (Refused n) = o
+
+-- an answer: "Then each FE among the answers, in order of writing, gives its train the authority for the move it names."
+abbrev pub hearAnswer : Observer → Message → Observer
+hearAnswer o (Fe m) = update o (m .train .0) (record { post = o (m .train .0) .post; claim = authority (m .from .0) (m .to .0) })
+hearAnswer o (Fa m) = o
+hearAnswer o (Afe m) = o
+hearAnswer o (Am m) = o
+hearAnswer o (Refused n) = o
+
+unfoldable pub hearAnswers : Observer → List Message → Observer
+hearAnswers o [] = o
+hearAnswers o (a ∷ l) = hearAnswers (hearAnswer o a) l
+
+-- the answers are read from the out buffer: its first n frames
+unfoldable pub readFrames : ℕ → List ℕ → List Message
+readFrames zero out = []
+readFrames (suc n) out = readFrame (take 7 out) ∷ readFrames n (drop 7 out)
+
+-- the answers written for a frame; none for a refused one
+abbrev pub answersOf : Verdict → List ℕ → List Message
+answersOf (RefusedBy n) out = []
+answersOf (Sent n) out = readFrames n out
+
+-- one exchange: "A refused frame changes nothing in it."
+abbrev pub hearBy : Observer → List ℕ → Verdict → List ℕ → Observer
+hearBy o frame (RefusedBy n) out = o
+hearBy o frame (Sent n) out = hearAnswers (hearFrame o (readFrame frame)) (readFrames n out)
+
+abbrev pub hear : Observer → Exchange → Observer
+hear o e = hearBy o (e .frame) (e .verdict) (e .out)
+
+-- a whole list of them
+unfoldable pub observe : Observer → List Exchange → Observer
+observe o [] = o
+observe o (e ∷ es) = observe (hear o e) es
+
+-- ---- what is told of a train
+
+-- "a train with an authority holds as a Running train does, between the posts of its move; any other holds at its post in the tally"
+abbrev pub locatedBy : ℕ → Claim → Whereabouts
+locatedBy p nothing = at p
+locatedBy p asked = at p
+locatedBy p (authority a b) = moving a b
+
+abbrev pub located : Observer → ℕ → Whereabouts
+located o t = locatedBy (o t .post) (o t .claim)
+
+abbrev pub hasAuthority : Claim → Bool
+hasAuthority nothing = false
+hasAuthority asked = false
+hasAuthority (authority p q) = true
+
+abbrev pub hasAsked : Claim → Bool
+hasAsked nothing = false
+hasAsked asked = true
+hasAsked (authority p q) = false

@@ -1,0 +1,33 @@
+-- A run over a list of frames. 01: "The list may be empty, and its frames are any bytes of any length, each with any out buffer. The first frame gets
+-- the state, table and journal that an accepted opening left. Each later one gets them as the frame before it, accepted or refused, left them".
+use mathlib.Core.List.{List, [], _∷_}
+use Prim.Native.Nat.{ℕ}
+use Rattle.dispatcher.specs.Answer.{Answer, answer}
+use Rattle.assurance.specs.Types.{Record, State, Verdict}
+
+-- a frame that is put to the box, with the out buffer that is lent for it
+pub record Input : Type 0 where
+  pub frame : List ℕ
+  pub out : List ℕ
+
+-- what the outside sees of it: the frame, the verdict, and the out buffer afterwards
+pub record Exchange : Type 0 where
+  pub frame : List ℕ
+  pub verdict : Verdict
+  pub out : List ℕ
+
+pub record Ran : Type 0 where
+  pub state : State
+  pub journal : List Record
+  pub exchanges : List Exchange
+
+abbrev pub exchange : Input → Answer → Exchange
+exchange i a = record { frame = i .frame; verdict = a .verdict; out = a .out }
+
+-- the table is only read
+unfoldable pub run : List ℕ → State → List Record → List Input → Ran
+run table s journal [] = record { state = s; journal = journal; exchanges = [] }
+run table s journal (i ∷ is) =
+    let a = answer s table journal (i .frame) (i .out) in
+    let r = run table (a .state) (a .journal) is in
+    record { state = r .state; journal = r .journal; exchanges = exchange i a ∷ r .exchanges }

@@ -1,0 +1,73 @@
+-- Demand 3, the claim over a whole list of frames: "Take every line book that the box accepts, and every list of frames put to it from the opening
+-- on, whatever crews send and in whatever order, torn and refused ones included." What it says after the list is the record `Assured`.
+use mathlib.Core.Path.{_≡_}
+use mathlib.Core.Logic.{_≢_}
+use mathlib.Core.Bool.{Bool, true, false, _&&_}
+use mathlib.Core.List.{List, List·Memᴰ}
+use Prim.Native.Nat.{ℕ, _+_, _≤_, _<_}
+use lib.Dec.{eqb}
+use Rattle.common.specs.Below.{ofBool, countBelow}
+use Rattle.line.specs.Route.{distance}
+use Rattle.line.specs.Line.{routeOf, tracksAt}
+use Rattle.line.specs.Holding.{holdsSection, postHolders}
+use Rattle.line.specs.Book.{lineOf}
+use Rattle.journal.specs.Journal.{recordAt, recordOf}
+use Rattle.dispatcher.specs.State.{reached}
+use Rattle.dispatcher.specs.Valid.{valid}
+use Rattle.dispatcher.specs.Opening.{opening}
+use Rattle.assurance.specs.Types.{Line, Move, Fa, Fe, Record}
+use Rattle.assurance.specs.Run.{Input, Exchange, Ran, run}
+use Rattle.assurance.specs.Observer.{Observer, atOpening, answersOf, observe, located, hasAuthority, hasAsked}
+
+-- "An authority written, that is an FE, has its logged request if, below the journal count, the journal has that FE and, at a lower number, an FA of
+-- the same train, from and to."
+pub record Requested (r : Ran) (m : Move) : Type 0 where
+  pub granted : ℕ
+  pub below : granted < r .state .logged
+  pub authority : recordAt (r .journal) granted ≡ recordOf (Fe m)
+  pub requested : ℕ
+  pub lower : requested < granted
+  pub request : recordAt (r .journal) requested ≡ recordOf (Fa m)
+
+-- train t's FE records below the journal count
+abbrev pub isFeOf : ℕ → Record → Bool
+isFeOf t e = eqb (e .kind) 2 && eqb (e .train .0) t
+
+abbrev pub authorities : Ran → ℕ → ℕ
+authorities r t = countBelow (r .state .logged) (λ i. isFeOf t (recordAt (r .journal) i))
+
+-- "A train is short of its end if its post in the tally is not its end."
+abbrev pub ShortOfEnd : Line → Observer → ℕ → Type 0
+ShortOfEnd l o t = o t .post ≢ routeOf l t .end .0
+
+-- a train that is short of its end and has an authority or has not asked for its next section
+pub record Unhindered (l : Line) (o : Observer) : Type 0 where
+  pub train : ℕ
+  pub known : train < l .trains
+  pub short : ShortOfEnd l o train
+  pub unasked : hasAsked (o train .claim) ≡ false
+
+pub record Assured (l : Line) (r : Ran) (o : Observer) : Type 0 where
+  -- "no section has two holders"
+  pub sections : (i t u : ℕ) → t < l .trains → u < l .trains → holdsSection (located o t) i ≡ true → holdsSection (located o u) i ≡ true → t ≡ u
+  -- "no post is held by more trains than it has tracks"
+  pub posts : (p : ℕ) → p < l .posts → postHolders (l .trains) (located o) p ≤ tracksAt l p
+  -- "Every authority written has its logged request."
+  pub requests : (e : Exchange) → List·Memᴰ e (r .exchanges) → (m : Move) → List·Memᴰ (Fe m) (answersOf (e .verdict) (e .out)) → Requested r m
+  -- "While any train is short of its end, at least one such train has an authority or has not asked for its next section."
+  pub onward : (t : ℕ) → t < l .trains → ShortOfEnd l o t → Unhindered l o
+  -- "a train's FE records number its posts travelled, plus one while it is Running": by the state, and as the observer tells it
+  pub authorities-given : (t : ℕ) → t < l .trains → authorities r t ≡ reached (r .state) t
+  pub authorities-seen : (t : ℕ) → t < l .trains
+      → authorities r t ≡ distance (routeOf l t .start .0) (o t .post) + ofBool (hasAuthority (o t .claim))
+  -- the state is valid, so that no frame of a run is refused by 1
+  pub valid-state : valid (r .state) ≡ true
+
+-- every book, table, journal and list of inputs that the opening accepts
+abbrev pub WholeList : Type 0
+WholeList = (book table : List ℕ) (journal : List Record) (inputs : List Input)
+    → let o = opening book table journal in
+    o .number ≡ 0
+    → let l = lineOf book in
+    let r = run (o .table) (o .state) journal inputs in
+    Assured l r (observe (atOpening l) (r .exchanges))

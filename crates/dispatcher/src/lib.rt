@@ -1,0 +1,15 @@
+// The dispatcher's box: its state, who holds what, the granting, the answer to a frame and the
+// opening of a book.
+mod grantable;
+mod holding;
+mod opening;
+mod state;
+mod train;
+mod valid;
+
+pub use opening::Opened;
+pub use opening::open_with;
+pub use state::State;
+pub use state::Status;
+pub use state::Train;
+pub use state::Verdict;
