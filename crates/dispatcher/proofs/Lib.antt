@@ -9,5 +9,7 @@ pub mod GrantTest
 pub mod Oldest
 pub mod Grants
 pub mod Settling
+pub mod Askers
+pub mod Working
 pub mod Acceptance
 pub mod Frames

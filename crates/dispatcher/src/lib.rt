@@ -1,6 +1,8 @@
 // The dispatcher's box: its state, who holds what, the granting, the answer to a frame and the
 // opening of a book.
+mod asking;
 mod grantable;
+mod granting;
 mod holding;
 mod state;
 mod train;
