@@ -1,0 +1,15 @@
+-- The whole list of frames: what ties state, journal and observer together, that every frame keeps it, and that it says what is claimed.
+pub mod Invariant
+pub mod Standstill
+pub mod Logging
+pub mod Steps
+pub mod Accept
+pub mod Exchanged
+pub mod Opened
+pub mod Ran
+pub mod Told
+pub mod WholeList
+pub mod OneFrame
+pub mod Records
+pub mod NeverRefused
+pub mod Homecoming

@@ -38,7 +38,9 @@ count-change (suc n) f g t l h = at (λ k. count-change n f g t k (λ u k′ z. 
     at : (t < n → countBelow n g + ofBool (f t) ≡ countBelow n f + ofBool (g t))
         → (ofBool (g n) + countBelow n g) + ofBool (f t) ≡ (ofBool (f n) + countBelow n f) + ofBool (g t)
     at ih = by-equality t n
-        (λ q. let r : countBelow n g ≡ countBelow n f = count-cong n g f (λ u k. h u (omega arith) (λ z. omega arith)) in rw (q, r) (omega arith))
+        (λ q.
+        let r : countBelow n g ≡ countBelow n f = count-cong n g f (λ u k. h u (omega arith) (λ z. omega arith)) in
+        rw (q, r) (omega arith))
         (λ q. let r = ih (omega arith) in let s : g n ≡ f n = h n (omega arith) (λ z. q (sym z)) in rw s (omega arith))
 
 pub count-le : (n : ℕ) (f : ℕ → Bool) → countBelow n f ≤ n
@@ -57,14 +59,17 @@ count-some zero f u l e = absurd (not-suc-le-zero l)
 count-some (suc n) f u l e = at (λ k. count-some n f u k e)
   where
     at : (u < n → 0 < countBelow n f) → 0 < ofBool (f n) + countBelow n f
-    at ih = by-equality u n (λ q. let z : f n ≡ true = rw q at e in rw z (omega arith)) (λ q. let z = ih (omega arith) in omega arith)
+    at ih = by-equality u n
+        (λ q. let z : f n ≡ true = rw q at e in rw z (omega arith))
+        (λ q. let z = ih (omega arith) in omega arith)
 
 -- no number passes where the count is 0
 pub none-counted : (n : ℕ) (f : ℕ → Bool) → countBelow n f ≡ 0 → (u : ℕ) → u < n → f u ≡ false
 none-counted n f e u l = not-passed (f u) (λ p. let z = count-some n f u l p in omega arith)
 
 -- a count of at most one: two numbers that pass are the same
-pub one-counted : (n : ℕ) (f : ℕ → Bool) → countBelow n f ≤ 1 → (t u : ℕ) → t < n → u < n → f t ≡ true → f u ≡ true → t ≡ u
+pub one-counted : (n : ℕ) (f : ℕ → Bool) → countBelow n f ≤ 1
+    → (t u : ℕ) → t < n → u < n → f t ≡ true → f u ≡ true → t ≡ u
 unfolding countBelow
 one-counted zero f h t u kt ku p q = absurd (not-suc-le-zero kt)
 one-counted (suc n) f h t u kt ku p q = at (λ z lt lu. one-counted n f z t u lt lu p q)
@@ -75,14 +80,19 @@ one-counted (suc n) f h t u kt ku p q = at (λ z lt lu. one-counted n f z t u lt
     at : (countBelow n f ≤ 1 → t < n → u < n → t ≡ u) → t ≡ u
     at ih = by-equality t n
         (λ a. by-equality u n (λ b. omega arith) (λ b. let z : f n ≡ true = rw a at p in absurd (alone u (omega arith) q z)))
-        (λ a. by-equality u n (λ b. let z : f n ≡ true = rw b at q in absurd (alone t (omega arith) p z)) (λ b. ih (omega arith) (omega arith) (omega arith)))
+        (λ a. by-equality u n
+        (λ b. let z : f n ≡ true = rw b at q in absurd (alone t (omega arith) p z))
+        (λ b. ih (omega arith) (omega arith) (omega arith)))
 
 -- where two numbers that pass are always the same, the count is at most one
-pub counted-one : (n : ℕ) (f : ℕ → Bool) → ((t u : ℕ) → t < n → u < n → f t ≡ true → f u ≡ true → t ≡ u) → countBelow n f ≤ 1
+pub counted-one : (n : ℕ) (f : ℕ → Bool)
+    → ((t u : ℕ) → t < n → u < n → f t ≡ true → f u ≡ true → t ≡ u) → countBelow n f ≤ 1
 unfolding countBelow
 counted-one zero f h = omega arith
 counted-one (suc n) f h = by-cases (f n)
-    (λ e. let z : countBelow n f ≡ 0 = count-none n f (λ u l. not-passed (f u) (λ p. let y = h u n (omega arith) (omega arith) p e in omega arith)) in rw (e, z) (omega arith))
+    (λ e.
+    let alone : (u : ℕ) → u < n → f u ≡ true → ⊥ = λ u l p. let y = h u n (omega arith) (omega arith) p e in omega arith in
+    rw (e, count-none n f (λ u l. not-passed (f u) (alone u l))) (omega arith))
     (λ e. rw e (omega (arith, counted-one n f (λ t u kt ku. h t u (omega arith) (omega arith)))))
 
 -- ---- all and any
@@ -114,7 +124,9 @@ below-any zero f u k e = absurd (not-suc-le-zero k)
 below-any (suc n) f u k e = at (λ l. below-any n f u l e)
   where
     at : (u < n → anyBelow n f ≡ true) → f n || anyBelow n f ≡ true
-    at ih = by-equality u n (λ q. or-left (f n) (anyBelow n f) (rw q at e)) (λ q. or-right (f n) (anyBelow n f) (ih (omega arith)))
+    at ih = by-equality u n
+        (λ q. or-left (f n) (anyBelow n f) (rw q at e))
+        (λ q. or-right (f n) (anyBelow n f) (ih (omega arith)))
 
 pub not-any : (n : ℕ) (f : ℕ → Bool) → ((u : ℕ) → u < n → f u ≡ false) → anyBelow n f ≡ false
 not-any n f h = not-passed (anyBelow n f) (λ e. let r = any-below n f e in clash (f (r .0)) (r .2) (h (r .0) (r .1)))

@@ -1,16 +1,17 @@
 -- Laws of checks in order. A proof about a refusal passes the checks one by one and stops at the one that fails.
 -- Assumes nothing.
-use mathlib.Core.Path.{_≡_, refl}
-use mathlib.Core.Bool.{Bool, true, false, _&&_}
-use mathlib.Core.List.{List, [], _∷_}
+use mathlib.Core.Path.{_≡_, refl, subst, _∙_}
+use mathlib.Core.Logic.{_≢_}
+use mathlib.Core.Bool.{Bool, true, false, not, _&&_, _||_}
+use mathlib.Core.List.{List, [], _∷_, _++_}
 use Prim.Native.Nat.{ℕ, zero, suc, _<_}
 use native.Mathlib.Nat.{not-suc-le-zero}
 use native.Mathlib.Omega.{arith}
-use lib.Dec.{ltb}
-use lib.ListN.{length, getD}
-use borrow.Author.Tests.{ltb-true, lt-ltb}
+use lib.Dec.{eqb, ltb}
+use lib.ListN.{getD}
+use borrow.Author.Tests.{eq-eqb, ltb-true}
 use Rattle.common.specs.Check.{Check, check, refusal, unlessRefused}
-use Rattle.common.proofs.Tests.{by-cases, and-left, and-right}
+use Rattle.common.proofs.Tests.{clash, by-cases, and-left, and-right}
 
 -- how the number of a list of checks comes about: checks that pass, then one that fails or the end of the list
 pub data Refuses : List Check → ℕ → Type 0 where
@@ -24,23 +25,73 @@ refusal-is none = refl
 refusal-is (stop e) = rw e
 refusal-is (pass e r) = rw e (refusal-is r)
 
--- every check has a number; for a list that is written out this computes
+-- a number that is not 0 for each check
 abbrev pub numbered : List Check → Bool
 numbered [] = true
 numbered (c ∷ cs) = ltb 0 (c .number) && numbered cs
 
--- what is not refused passes each check, read off by its place in the list
-pub passed-at : (cs : List Check) → numbered cs ≡ true → refusal cs ≡ 0 → (i : ℕ) → ltb i (length cs) ≡ true → getD cs i (check 0 true) .passes ≡ true
+-- what is not refused passes each check: at its place in the list
+pub passed-at : (cs : List Check) → numbered cs ≡ true → refusal cs ≡ 0 → (i : ℕ) → getD cs i (check 0 true) .passes ≡ true
 unfolding refusal
-passed-at [] n e i l = absurd (not-suc-le-zero (ltb-true i 0 l))
-passed-at (c ∷ cs) n e i l = by-cases (c .passes)
-    (λ p. at p (passed-at cs (and-right (ltb 0 (c .number)) (numbered cs) n) (rw p at e)) i l)
-    (λ p. let z : c .number ≡ 0 = rw p at e in absurd (let y = ltb-true 0 (c .number) (and-left (ltb 0 (c .number)) (numbered cs) n) in omega arith))
+passed-at [] k e i = refl
+passed-at (c ∷ cs) k e i = by-cases (c .passes)
+    (λ p. at p (passed-at cs (and-right (ltb 0 (c .number)) (numbered cs) k) (rw p at e)) i)
+    (λ p. absurd (positive (rw p at e)))
   where
-    at : c .passes ≡ true → ((j : ℕ) → ltb j (length cs) ≡ true → getD cs j (check 0 true) .passes ≡ true)
-        → (i : ℕ) → ltb i (length (c ∷ cs)) ≡ true → getD (c ∷ cs) i (check 0 true) .passes ≡ true
-    at p ih zero l = p
-    at p ih (suc j) l = ih j (lt-ltb j (length cs) (let z = ltb-true (suc j) (suc (length cs)) l in omega arith))
+    at : c .passes ≡ true → ((j : ℕ) → getD cs j (check 0 true) .passes ≡ true)
+        → (i : ℕ) → getD (c ∷ cs) i (check 0 true) .passes ≡ true
+    at p ih zero = p
+    at p ih (suc j) = ih j
+
+    positive : c .number ≡ 0 → ⊥
+    positive z = let n = ltb-true 0 (c .number) (and-left (ltb 0 (c .number)) (numbered cs) k) in omega arith
+
+-- every check of the number n passes
+abbrev pub clear : ℕ → List Check → Bool
+clear n [] = true
+clear n (c ∷ cs) = (not (eqb (c .number) n) || c .passes) && clear n cs
+
+-- then nothing is refused by n
+pub not-given : (n : ℕ) (cs : List Check) → 0 < n → clear n cs ≡ true → refusal cs ≢ n
+unfolding refusal
+not-given n [] h k e = omega arith
+not-given n (c ∷ cs) h k e = by-cases (c .passes)
+    (λ p. not-given n cs h (and-right (not (eqb (c .number) n) || c .passes) (clear n cs) k) (rw p at e))
+    (λ p.
+    let own : not (eqb (c .number) n) || c .passes ≡ true = and-left (not (eqb (c .number) n) || c .passes) (clear n cs) k in
+    let same : c .number ≡ n = rw p at e in
+    let passes : c .passes ≡ true = rw (eq-eqb (c .number) n same) at own in
+    clash (c .passes) passes p)
+
+-- ---- checks in two parts
+
+pub second-part : (cs ds : List Check) → numbered cs ≡ true → refusal cs ≡ 0 → refusal (cs ++ ds) ≡ refusal ds
+unfolding refusal
+second-part [] ds k e = refl
+second-part (c ∷ cs) ds k e =
+    let p : c .passes ≡ true = passed-at (c ∷ cs) k e 0 in
+    rw p (second-part cs ds (and-right (ltb 0 (c .number)) (numbered cs) k) (rw p at e))
+
+pub first-part : (cs ds : List Check) → 0 < refusal cs → refusal (cs ++ ds) ≡ refusal cs
+unfolding refusal
+first-part [] ds h = absurd (not-suc-le-zero h)
+first-part (c ∷ cs) ds h = by-cases (c .passes) (λ p. rw p (first-part cs ds (rw p at h))) (λ p. rw p)
+
+-- the same as the way that the number comes about
+refuses-of : (cs : List Check) {n : ℕ} → refusal cs ≡ n → Refuses cs n
+unfolding refusal
+refuses-of [] e = subst (Refuses []) e none
+refuses-of (c ∷ cs) e = by-cases (c .passes)
+    (λ p. pass p (refuses-of cs (rw p at e)))
+    (λ p. let z : c .number ≡ _ = rw p at e in subst (Refuses (c ∷ cs)) z (stop p))
+
+pub stop-within : (cs ds : List Check) → 0 < refusal cs → Refuses (cs ++ ds) (refusal cs)
+stop-within cs ds h = refuses-of (cs ++ ds) (first-part cs ds h)
+
+pub pass-all : (cs : List Check) {ds : List Check} {n : ℕ} → numbered cs ≡ true → refusal cs ≡ 0 → Refuses ds n → Refuses (cs ++ ds) n
+pass-all cs {ds = ds} k e r = refuses-of (cs ++ ds) (second-part cs ds k e ∙ refusal-is r)
+
+-- ---- the answer
 
 pub accepts : {A : Type 0} {n : ℕ} (x : A) (f : ℕ → A) → n ≡ 0 → unlessRefused n x f ≡ x
 unfolding unlessRefused
@@ -51,8 +102,9 @@ unfolding unlessRefused
 refuses {n = zero} x f h = absurd (not-suc-le-zero h)
 refuses {n = suc n} x f h = refl
 
--- what stands where nothing but a refusal can stand for the other case
-pub accepted-if : {A : Type 0} (P : A → Type 0) (n : ℕ) (x : A) (f : ℕ → A) → ((k : ℕ) → P (f k) → ⊥) → P (unlessRefused n x f) → (n ≡ 0) × P x
+-- where what holds cannot hold of a refusal, nothing was refused
+pub accepted-if : {A : Type 0} (P : A → Type 0) (n : ℕ) (x : A) (f : ℕ → A)
+    → ((k : ℕ) → P (f k) → ⊥) → P (unlessRefused n x f) → (n ≡ 0) × P x
 unfolding unlessRefused
 accepted-if P zero x f h p = (refl, p)
 accepted-if P (suc n) x f h p = absurd (h (suc n) p)

@@ -1,4 +1,5 @@
--- Counts and quantifiers over the numbers below a bound. A definition that must compute has its recursion behind a `let`, which waits.
+-- Counts and quantifiers over the numbers below a bound. A definition that must compute has its recursion behind a `let`,
+-- which waits.
 use mathlib.Core.Bool.{Bool, true, false, _&&_, _||_}
 use Prim.Native.Nat.{ℕ, zero, suc, _+_}
 

@@ -11,9 +11,9 @@ use lib.Dec.{leb, eqb}
 use lib.ListN.{length, length-append, length-set}
 use borrow.Author.Tests.{ltb-true, leb-true, eqb-true, eqb-false, not-true}
 use Rattle.common.specs.Check.{refusal}
-use Rattle.common.proofs.Tests.{by-cases, and-left, and-right}
+use Rattle.common.proofs.Tests.{by-cases, by-equality, and-left, and-right}
 use Rattle.common.proofs.Below.{count-le, count-some}
-use Rattle.common.proofs.Check.{passed-at}
+use Rattle.common.proofs.Check.{passed-at, accepts, refuses}
 use Rattle.frame.specs.Frame.{readFrame}
 use Rattle.frame.specs.RoundTrip.{IsMessage}
 use Rattle.journal.specs.Journal.{journalLength}
@@ -21,7 +21,7 @@ use Rattle.completion.specs.Table.{tableLength}
 use Rattle.dispatcher.specs.Types.{Line, Move, Message, Fa, Fe, Afe, Am, Refused, Record, Asked, Train, State}
 use Rattle.dispatcher.specs.State.{isAsked, isRunning, nextOf, trainOf, lineOf, withStatus, arrivedNext, oneLogged}
 use Rattle.dispatcher.specs.Granting.{grantable, Work, log, settled}
-use Rattle.dispatcher.specs.Answer.{outLength, mostLogged, isFa, isAm, moveIn, frameChecks, taken, declined, accepted, sent}
+use Rattle.dispatcher.specs.Answer.{outLength, mostLogged, isFa, isAm, moveIn, frameChecks, taken, declined, accepted, sent, Answer, answered, refused, answer}
 use Rattle.dispatcher.proofs.Trains.{changed-line}
 use Rattle.dispatcher.proofs.Validity.{Valid, valid-facts}
 use Rattle.dispatcher.proofs.Changes.{valid-logged, valid-request, valid-arrival}
@@ -52,27 +52,27 @@ pub record Passed (s : State) (table : List ℕ) (journal : List Record) (frame 
   pub message : Taken s (readFrame frame)
 
 module _ (s : State) (table : List ℕ) (journal : List Record) (frame out : List ℕ) where
-  pub frame-passed : refusal (frameChecks s table journal frame out) ≡ 0 → Passed s table journal frame out
+  pub frame-passed : refusal (frameChecks s (length table) (length journal) frame (length out)) ≡ 0 → Passed s table journal frame out
   frame-passed e =
-      let check = passed-at (frameChecks s table journal frame out) refl e in
+      let check = passed-at (frameChecks s (length table) (length journal) frame (length out)) refl e in
       let stores = check 1 refl in
       let rest = and-right (leb tableLength (length table)) _ stores in
       let m = moveIn (readFrame frame) in
       let x = trainOf s (m .train .0) in
       record {
-        valid-state = valid-facts s (check 0 refl);
+        valid-state = valid-facts s (check 0);
         long-table = leb-true _ _ (and-left (leb tableLength (length table)) _ stores);
         long-journal = leb-true _ _ (and-left (leb journalLength (length journal)) _ rest);
         long-out = leb-true _ _ (and-right (leb journalLength (length journal)) _ rest);
-        message = read (readFrame frame) (check 5 refl)
+        message = read (readFrame frame) (check 5)
             (record {
-              known = ltb-true _ _ (check 6 refl);
-              short = eqb-false _ _ (not-true _ (check 7 refl));
-              from = eqb-true _ _ (and-left (eqb (m .from .0) (x .at .0)) _ (check 8 refl));
-              to = eqb-true _ _ (and-right (eqb (m .from .0) (x .at .0)) _ (check 8 refl));
-              space = leb-true _ _ (check 12 refl);
+              known = ltb-true _ _ (check 6);
+              short = eqb-false _ _ (not-true _ (check 7));
+              from = eqb-true _ _ (and-left (eqb (m .from .0) (x .at .0)) _ (check 8));
+              to = eqb-true _ _ (and-right (eqb (m .from .0) (x .at .0)) _ (check 8));
+              space = leb-true _ _ (check 12);
             })
-            (check 9 refl) (check 10 refl) (check 11 refl);
+            (check 9) (check 10) (check 11);
       }
     where
       read : (a : Message) → isFa a || isAm a ≡ true → NextMove s (moveIn a)
@@ -85,6 +85,21 @@ module _ (s : State) (table : List ℕ) (journal : List Record) (frame out : Lis
       read (Fe m) kind next a b c = absurd (false≢true kind)
       read (Afe m) kind next a b c = absurd (false≢true kind)
       read (Refused n) kind next a b c = absurd (false≢true kind)
+
+-- ---- the answer, by cases
+
+-- what holds of the answer to a refused frame and of that to an accepted one holds of the answer
+pub by-verdict : (s : State) (table : List ℕ) (journal : List Record) (frame out : List ℕ) (P : Answer → Type 0)
+    → ((n : ℕ) → refusal (frameChecks s (length table) (length journal) frame (length out)) ≡ n → P (refused s journal out n))
+    → (Passed s table journal frame out → P (answered (s .logged) journal out (accepted table s (readFrame frame))))
+    → P (answer s table journal frame out)
+unfolding answer
+by-verdict s table journal frame out P declines takes =
+    let n = refusal (frameChecks s (length table) (length journal) frame (length out)) in
+    let a = answered (s .logged) journal out (accepted table s (readFrame frame)) in
+    by-equality n 0
+    (λ e. rw (accepts a (refused s journal out) e) (takes (frame-passed s table journal frame out e)))
+    (λ h. rw (refuses {n = n} a (refused s journal out) (omega arith)) (declines n refl))
 
 -- ---- what is left
 

@@ -43,18 +43,22 @@ pub record Change (s : State) (t : ℕ) (x : Train) (n : ℕ) : Type 0 where
   pub number : (u : ℕ) → u < s .trains → u ≢ t → isAsked (x .status) ≡ true → isAsked (trainOf s u .status) ≡ true
       → askedAs (x .status) ≢ askedAs (trainOf s u .status)
 
+-- the others' numbers stay as they were
+pub distinct-change : (s : State) (t : ℕ) (x : Train) (n : ℕ) → t < length (s .fleet)
+    → ((u : ℕ) → u < s .trains → u ≢ t → isAsked (x .status) ≡ true → isAsked (trainOf s u .status) ≡ true
+    → askedAs (x .status) ≢ askedAs (trainOf s u .status))
+    → Distinct s → Distinct (changed s t x n)
+distinct-change s t x n place number d u v ku kv = by-equality u t
+    (λ e. by-equality v t
+    (λ f p q z. e ∙ sym f)
+    (λ f. rw (e, changed-own s t x n place, changed-other s t x n v f) (λ p q z. absurd (number v kv f p q z))))
+    (λ e. by-equality v t
+    (λ f. rw (f, changed-own s t x n place, changed-other s t x n u e) (λ p q z. absurd (number u ku e q p (sym z))))
+    (λ f. rw (changed-other s t x n u e, changed-other s t x n v f) (d u v ku kv)))
+
 module _ (s : State) (d : Valid s) (t : ℕ) (known : t < s .trains) (x : Train) (n : ℕ) (c : Change s t x n) where
   later : (y : Train) → TrainValid y (s .logged) → TrainValid y n
   later y v = record { inside = v .inside; busy = v .busy; numbered = λ q. omega (arith, v .numbered q, c .more) }
-
-  distinct-after : Distinct (changed s t x n)
-  distinct-after u v ku kv = by-equality u t
-      (λ e. by-equality v t
-      (λ f p q z. e ∙ sym f)
-      (λ f. rw (e, changed-own s t x n (c .place), changed-other s t x n v f) (λ p q z. absurd (c .number v kv f p q z))))
-      (λ e. by-equality v t
-      (λ f. rw (f, changed-own s t x n (c .place), changed-other s t x n u e) (λ p q z. absurd (c .number u ku e q p (sym z))))
-      (λ f. rw (changed-other s t x n u e, changed-other s t x n v f) (d .distinct u v ku kv)))
 
   pub valid-change : Valid (changed s t x n)
   valid-change = record {
@@ -63,7 +67,7 @@ module _ (s : State) (d : Valid s) (t : ℕ) (known : t < s .trains) (x : Train)
     sections = λ i k. omega (arith, changed-count s t x n (λ y. holdsSection (locatedAt y) i) (s .trains) known (c .place), c .section i k);
     posts = λ p k. omega (arith, changed-count s t x n (λ y. holdsPost (locatedAt y) p) (s .trains) known (c .place), c .post p k);
     few-logged = c .few;
-    distinct = distinct-after;
+    distinct = distinct-change s t x n (c .place) (c .number) (d .distinct);
   }
 
 -- ---- what the test of a grant says

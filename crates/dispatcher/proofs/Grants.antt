@@ -69,7 +69,7 @@ module _ (table : List ℕ) where
 
   -- ---- fuel
 
-  none-asked : (w : Work) → askedCount (w .state) ≡ 0 → Nobody table (w .state) (w .state .trains)
+  pub none-asked : (w : Work) → askedCount (w .state) ≡ 0 → Nobody table (w .state) (w .state .trains)
   none-asked w e = record {
     barred = λ u k. not-passed (grantable table (w .state) u) (λ g.
         clash (isAsked (trainOf (w .state) u .status)) (grantable-facts table (w .state) u g .asks)
@@ -105,11 +105,14 @@ module _ (table : List ℕ) where
 
   -- ---- until none can be granted
 
-  few-asked : (w : Work) → askedCount (w .state) ≤ w .state .trains
+  pub few-asked : (w : Work) → askedCount (w .state) ≤ w .state .trains
   few-asked w = count-le (w .state .trains) (λ t. isAsked (trainOf (w .state) t .status))
 
+  pub settled-end : (w : Work) → let v = settled table w in Nobody table (v .state) (v .state .trains)
+  settled-end w = grants-end _ w (few-asked w)
+
   pub settled-stop : (w : Work) → Nobody table (w .state) (w .state .trains) → settled table w ≡ w
-  settled-stop w h = grants-stop (w .state .trains) w h
+  settled-stop w h = grants-stop _ w h
 
   pub settled-next : (w : Work) (t : ℕ) → Valid (w .state) → Turn table w t → settled table (granted w t) ≡ settled table w
   settled-next w t d f =
@@ -118,6 +121,3 @@ module _ (table : List ℕ) where
       grants-enough (w .state .trains) (w .state .trains) (granted w t) (omega arith) (omega arith) ∙
       sym (grants-next (w .state .trains) w t (some-oldest table (w .state) (d .distinct) t f)) ∙
       grants-enough (suc (w .state .trains)) (w .state .trains) w (omega arith) few
-
-  pub settled-end : (w : Work) → let v = settled table w in Nobody table (v .state) (v .state .trains)
-  settled-end w = grants-end (w .state .trains) w (few-asked w)

@@ -13,3 +13,4 @@ pub mod Askers
 pub mod Working
 pub mod Acceptance
 pub mod Frames
+pub mod Taking

@@ -46,13 +46,14 @@ moveIn (Am m) = m
 moveIn (Refused n) = moveOf 0 0 0
 
 -- "Checks in order: 1, 2, 3, 4, 5, 6, 7, 8 (at its end), 9, then 10 or 11 for FA, 12 for AM, then 13."
-abbrev pub frameChecks : State → List ℕ → List Record → List ℕ → List ℕ → List Check
-frameChecks s table journal frame out =
+-- Of the table, the journal and the out buffer only the sizes are looked at.
+abbrev pub frameChecks : State → ℕ → ℕ → List ℕ → ℕ → List Check
+frameChecks s table records frame room =
     let a = readFrame frame in
     let m = moveIn a in
     let x = trainOf s (m .train .0) in
     check strangeState (valid s)
-    ∷ check shortStore (leb tableLength (length table) && (leb journalLength (length journal) && leb outLength (length out)))
+    ∷ check shortStore (leb tableLength table && (leb journalLength records && leb outLength room))
     ∷ readChecks frame
     ++ (check wrongEnd (isFa a || isAm a)
     ∷ check unknownTrain (ltb (m .train .0) (s .trains))
@@ -115,6 +116,6 @@ refused s journal out n = record { state = s; verdict = RefusedBy n; journal = j
 
 unfoldable pub answer : State → List ℕ → List Record → List ℕ → List ℕ → Answer
 answer s table journal frame out =
-    unlessRefused (refusal (frameChecks s table journal frame out))
+    unlessRefused (refusal (frameChecks s (length table) (length journal) frame (length out)))
     (answered (s .logged) journal out (accepted table s (readFrame frame)))
     (refused s journal out)

@@ -15,10 +15,11 @@ use Rattle.completion.specs.Table.{tableLength, bitOf, filled}
 use Rattle.dispatcher.specs.Types.{Route, Line, Record, Free, Train, State}
 
 -- "Checks in order: 2; 14 ..; 4; 15; 14 ..; 16; 17; 14 ..; 18; 19; 20."
-abbrev pub openingChecks : List ℕ → List ℕ → List Record → List Check
-openingChecks book table journal =
+-- Of the journal only the number of records is looked at.
+abbrev pub openingChecks : List ℕ → List ℕ → ℕ → List Check
+openingChecks book table records =
     let l = lineIn book in
-    check shortStore (leb tableLength (length table) && leb journalLength (length journal))
+    check shortStore (leb tableLength (length table) && leb journalLength records)
     ∷ bookChecks book
     ++ (check overfull (feasible l start)
     ∷ check noWayThrough (bitOf (filled l table) (code l start))
@@ -48,8 +49,11 @@ opened l table = record { state = openedState l; number = 0; table = filled l ta
 abbrev pub refusedBook : Line → List ℕ → ℕ → Opening
 refusedBook l table n = record { state = emptyState; number = n; table = cond (eqb n noWayThrough) (filled l table) table }
 
--- the journal is untouched
-unfoldable pub opening : List ℕ → List ℕ → List Record → Opening
-opening book table journal =
+-- with a journal of so many records, which is untouched
+unfoldable pub openingWith : List ℕ → List ℕ → ℕ → Opening
+openingWith book table records =
     let l = lineIn book in
-    unlessRefused (refusal (openingChecks book table journal)) (opened l table) (refusedBook l table)
+    unlessRefused (refusal (openingChecks book table records)) (opened l table) (refusedBook l table)
+
+abbrev pub opening : List ℕ → List ℕ → List Record → Opening
+opening book table journal = openingWith book table (length journal)

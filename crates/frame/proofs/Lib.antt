@@ -1,4 +1,5 @@
--- The laws of reading and placing that the functions' proofs cite, and the round trip.
+-- The laws of reading and placing that the functions' proofs cite, the round trip, and what a message tells of the checks.
 pub mod Cases
 pub mod Placing
 pub mod RoundTrip
+pub mod Outcome

@@ -39,7 +39,8 @@ spell s (suc n) i e =
     ∙ ap (λ (r : List ℕ). getD s i 0 ∷ r) (spell s n (suc i) (suc-add i n ∙ sym (add-suc i n) ∙ e))
 
 -- the message of a kind byte has that kind byte: it is n, or the later tests decide
-kind-kept : (k n : ℕ) (m : Move) (y z : Message) → bytesOf y ≡ frameBytes n m → (IsMessage z → bytesOf z ≡ frameBytes k m)
+kind-kept : (k n : ℕ) (m : Move) (y z : Message)
+    → bytesOf y ≡ frameBytes n m → (IsMessage z → bytesOf z ≡ frameBytes k m)
     → IsMessage (cond (eqb k n) y z) → bytesOf (cond (eqb k n) y z) ≡ frameBytes k m
 kind-kept k n m y z e f = by-equality k n
     (λ q. rw (eq-eqb k n q) (λ h. e ∙ ap (λ (x : ℕ). frameBytes x m) (sym q)))
@@ -47,7 +48,8 @@ kind-kept k n m y z e f = by-equality k n
 
 message-bytes : (k : ℕ) (m : Move) → IsMessage (messageOf k m) → bytesOf (messageOf k m) ≡ frameBytes k m
 unfolding messageOf bytesOf IsMessage
-message-bytes k m = kind-kept k 1 m _ _ refl (kind-kept k 2 m _ _ refl (kind-kept k 3 m _ _ refl (kind-kept k 4 m _ _ refl absurd)))
+message-bytes k m =
+    kind-kept k 1 m _ _ refl (kind-kept k 2 m _ _ refl (kind-kept k 3 m _ _ refl (kind-kept k 4 m _ _ refl absurd)))
 
 no-message : (n : ℕ) → IsMessage (Refused n) → ⊥
 unfolding IsMessage
@@ -59,11 +61,12 @@ only s h =
     let m = messageOf (getD s 3 0) (namedMove s) in
     let a = accepted-if IsMessage (refusal (readChecks s)) m Refused no-message h in
     let passed = passed-at (readChecks s) refl (a .0) in
-    let size : length s ≡ 7 = eqb-true _ _ (and-left (eqb (length s) 7) _ (passed 0 refl)) in
-    let five : word (getD s 0 0) (getD s 1 0) ≡ 5 = eqb-true _ _ (and-right (eqb (length s) 7) _ (passed 0 refl)) in
+    let size : length s ≡ 7 = eqb-true _ _ (and-left (eqb (length s) 7) _ (passed 0)) in
+    let five : word (getD s 0 0) (getD s 1 0) ≡ 5
+    = eqb-true _ _ (and-right (eqb (length s) 7) _ (passed 0)) in
     let high : getD s 0 0 ≡ 0 = omega arith in
     let low : getD s 1 0 ≡ 5 = omega arith in
-    let version : getD s 2 0 ≡ 1 = eqb-true _ _ (passed 1 refl) in
+    let version : getD s 2 0 ≡ 1 = eqb-true _ _ (passed 1) in
     ap bytesOf (accepts m Refused (a .0)) ∙ message-bytes (getD s 3 0) (namedMove s) (a .1) ∙ cc (spell s 7 0 (sym size))
 
 pub round-trip : RoundTrip

@@ -25,12 +25,18 @@ readChecks f =
 
 -- "Kinds: kind 1 FA, 2 FE, 3 AFE, 4 AM"
 unfoldable pub messageOf : ℕ → Move → Message
-messageOf k m = cond (eqb k 1) (Fa m) (cond (eqb k 2) (Fe m) (cond (eqb k 3) (Afe m) (cond (eqb k 4) (Am m) (Refused unknownKind))))
+messageOf k m =
+    cond (eqb k 1) (Fa m)
+    (cond (eqb k 2) (Fe m)
+    (cond (eqb k 3) (Afe m)
+    (cond (eqb k 4) (Am m) (Refused unknownKind))))
 
 -- "A frame reads as one of four messages or as a refusal."
 unfoldable pub readFrame : List ℕ → Message
 readFrame f =
-    unlessRefused (refusal (readChecks f)) (messageOf (getD f 3 0) (moveOf (getD f 4 0) (getD f 5 0) (getD f 6 0))) Refused
+    unlessRefused (refusal (readChecks f))
+    (messageOf (getD f 3 0) (moveOf (getD f 4 0) (getD f 5 0) (getD f 6 0)))
+    Refused
 
 -- ---- writing
 

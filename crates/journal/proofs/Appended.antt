@@ -1,14 +1,14 @@
--- Laws of the journal with a batch appended. First what the code that writes cites: how many records are written, and the
--- list while they are. Then what the crates above cite: the length, and the records below, in and above the part written.
+-- Laws of the journal with a batch appended. First what the code that writes cites: how many records are written, and
+-- the list while they are. Then what the crates above cite: the length, and the records below, in and above the part.
 -- Assumes nothing.
-use mathlib.Core.Path.{_≡_, refl, sym, ap, _∙_}
-use mathlib.Core.Bool.{true, false}
+use mathlib.Core.Path.{_≡_, refl, sym, ap}
+use mathlib.Core.Bool.{true}
 use mathlib.Core.List.{List, _++_}
 use Prim.Native.Nat.{ℕ, _+_, _≤_, _<_}
 use native.Mathlib.Omega.{arith}
 use native.Mathlib.Numerals.{add-one}
 use lib.Dec.{leb}
-use lib.ListN.{length, getD, set, take}
+use lib.ListN.{length, set, take}
 use lib.Seq.{paste, paste-zero, paste-suc, length-paste, take-paste}
 use borrow.Author.Tests.{le-leb, lt-leb, leb-true}
 use Rattle.common.proofs.Tests.{by-cases, and-left, and-right}
@@ -96,7 +96,8 @@ module _ (j : List Record) (at : ℕ) (b : Batch) where
   appended-fits few room = rw (fits (length j) at (b .n) few room)
 
   -- what holds of the journal as it was, and of a copy, holds of it afterwards
-  pub appended-either : (P : List Record → Type 0) → P j → (b .n ≤ batchLength → at + b .n ≤ length j → P (written (b .n))) → P (appended j at b)
+  pub appended-either : (P : List Record → Type 0) → P j
+      → (b .n ≤ batchLength → at + b .n ≤ length j → P (written (b .n))) → P (appended j at b)
   unfolding appended
   appended-either P old copy = by-cases (fit (length j) at (b .n))
       (λ e. rw e (copy (fit-few (length j) at (b .n) e) (fit-room (length j) at (b .n) e)))
@@ -108,7 +109,8 @@ module _ (j : List Record) (at : ℕ) (b : Batch) where
 
   module _ (seven : length (b .items) ≡ batchLength) where
     pub length-appended : length (appended j at b) ≡ length j
-    length-appended = appended-either (λ l. length l ≡ length j) refl (λ few room. length-paste j at (b .items) (b .n) room (omega arith))
+    length-appended = appended-either (λ l. length l ≡ length j) refl
+        (λ few room. length-paste j at (b .items) (b .n) room (omega arith))
 
     -- records below `at` stay
     pub appended-below : (i : ℕ) → i < at → recordAt (appended j at b) i ≡ recordAt j i

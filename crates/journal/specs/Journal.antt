@@ -1,13 +1,12 @@
--- 01, "The journal": "The journal is a lent run of records, at least 176: kind, train, from, to. An accepted frame is logged,
--- then each answer in order of sending. Records past the count are untouched."
+-- 01, "The journal": "The journal is a lent run of records, at least 176: kind, train, from, to. An accepted frame is
+-- logged, then each answer in order of sending. Records past the count are untouched."
 use mathlib.Core.Path.{_≡_}
 use mathlib.Core.Bool.{Bool, cond, _&&_}
-use mathlib.Core.List.{List, [], _∷_}
+use mathlib.Core.List.{List, _++_}
 use Prim.Native.Nat.{ℕ, _+_}
 use lib.Dec.{leb, ltb}
-use lib.ListN.{length, getD, set, take, replicate}
-use lib.Seq.{paste}
-use Rattle.frame.specs.Frame.{bytesOf}
+use lib.ListN.{length, getD, set, take, drop, replicate}
+use Rattle.frame.specs.Frame.{frameBytes, bytesOf}
 use Rattle.frame.specs.RoundTrip.{IsMessage}
 use Rattle.journal.specs.Types.{Move, Message, Fa, Fe, Afe, Am, Refused, Record, Batch}
 
@@ -35,7 +34,7 @@ recordOf (Refused n) = blank
 
 -- the seven bytes of the frame that a record was made of
 abbrev pub frameOf : Record → List ℕ
-frameOf r = 0 ∷ 5 ∷ 1 ∷ r .kind ∷ r .train .0 ∷ r .from .0 ∷ r .to .0 ∷ []
+frameOf r = frameBytes (r .kind) (record { train = r .train; from = r .from; to = r .to })
 
 -- the claim on records: a message is logged with the kind, train, from and to of its frame
 abbrev pub LoggedAsSent : Type 0
@@ -74,4 +73,4 @@ fitting len at n = cond (fit len at n) n 0
 
 -- the journal j with the records of b from place `at` on; j itself where they do not fit
 unfoldable pub appended : List Record → ℕ → Batch → List Record
-appended j at b = cond (fit (length j) at (b .n)) (paste j at (b .items) (b .n)) j
+appended j at b = cond (fit (length j) at (b .n)) (take at j ++ records b ++ drop (at + b .n) j) j

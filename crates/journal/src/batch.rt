@@ -1,8 +1,7 @@
 // The records that one frame adds, by value: its own and those of its answers, in order.
 ghost use mathlib.Core.Path.{_≡_};
 ghost use Prim.Native.Nat.{_<_};
-ghost use lib.ListN.{getD};
-ghost use Rattle.journal.specs.Journal.{blank, batchLength, emptyBatch, withRecord};
+ghost use Rattle.journal.specs.Journal.{recordAt, batchLength, emptyBatch, withRecord};
 use crate::record::Record;
 use crate::record::blank;
 
@@ -41,7 +40,7 @@ pub fn with(batch: Batch, next: Record) -> Batch
 // The k-th record of a batch.
 pub fn nth(batch: Batch, k: usize) -> Record
     requires { ⌜ k < batchLength ⌝ }
-    ensures { λ r. ⌜ r ≡ getD (batch .items) k blank ⌝ }
+    ensures { λ r. ⌜ r ≡ recordAt (batch .items) k ⌝ }
 {
     let items = batch.items;
     items[k]

@@ -1,4 +1,5 @@
--- A train on its way: the next post, the posts travelled, and the post that they lead to. All of it is arithmetic of a start a, a post p and an end e.
+-- A train on its way: the next post, the posts travelled, and the post that they lead to. All of it is arithmetic of a
+-- start a, a post p and an end e.
 -- Assumes nothing.
 use mathlib.Core.Path.{_≡_, sym}
 use mathlib.Core.Logic.{_⊎_, inl, inr, ⊎-elim, _≢_}
@@ -41,11 +42,14 @@ in-order a b c h = and-both (leb a b) (leb b c) (le-leb a b (h .0)) (le-leb b c 
 
 pub between-of : (a p e : ℕ) → between a p e ≡ true → Between a p e
 unfolding between
-between-of a p e h = ⊎-elim (λ k. inl (ordered a p e k)) (λ k. inr (ordered e p a k)) (or-either (leb a p && leb p e) (leb e p && leb p a) h)
+between-of a p e h =
+    ⊎-elim (λ k. inl (ordered a p e k)) (λ k. inr (ordered e p a k)) (or-either (leb a p && leb p e) (leb e p && leb p a) h)
 
 pub of-between : (a p e : ℕ) → Between a p e → between a p e ≡ true
 unfolding between
-of-between a p e = ⊎-elim (λ k. or-left (leb a p && leb p e) (leb e p && leb p a) (in-order a p e k)) (λ k. or-right (leb a p && leb p e) (leb e p && leb p a) (in-order e p a k))
+of-between a p e = ⊎-elim
+    (λ k. or-left (leb a p && leb p e) (leb e p && leb p a) (in-order a p e k))
+    (λ k. or-right (leb a p && leb p e) (leb e p && leb p a) (in-order e p a k))
 
 -- the test, upwards and else downwards
 pub between-up : (a p e : ℕ) → leb a p && leb p e ≡ true → true ≡ between a p e
@@ -57,7 +61,9 @@ unfolding between
 between-down a p e h = rw h
 
 pub start-between : (a e : ℕ) → Between a a e
-start-between a e = by-cases (leb a e) (λ h. let z = leb-true a e h in inl (omega arith)) (λ h. let z = leb-false a e h in inr (omega arith))
+start-between a e = by-cases (leb a e)
+    (λ h. let z = leb-true a e h in inl (omega arith))
+    (λ h. let z = leb-false a e h in inr (omega arith))
 
 pub travelled-within : (a p e : ℕ) → Between a p e → distance a p ≤ distance a e
 travelled-within a p e = ⊎-elim (λ r. omega arith) (λ r. omega arith)
@@ -100,7 +106,8 @@ module _ (r : Route) where
       (λ down. let z = leb-false (r .start .0) (r .end .0) down in rw down (⊎-elim (λ k. omega arith) (λ k. omega arith) b))
 
   -- one more of them leads to the next post
-  pub post-next : (p : ℕ) → Between (r .start .0) p (r .end .0) → p ≢ r .end .0 → postAfter r (distance (r .start .0) p + 1) ≡ nextPost p (r .end .0)
+  pub post-next : (p : ℕ) → Between (r .start .0) p (r .end .0) → p ≢ r .end .0
+      → postAfter r (distance (r .start .0) p + 1) ≡ nextPost p (r .end .0)
   post-next p b short =
       rw (← next-travelled (r .start .0) p (r .end .0) b short)
       (post-travelled (nextPost p (r .end .0)) (next-between (r .start .0) p (r .end .0) b short))

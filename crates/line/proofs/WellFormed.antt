@@ -9,7 +9,8 @@ use borrow.Author.Tests.{ltb-true, leb-true, lt-ltb, le-ltb, le-leb, lt-leb}
 use Rattle.common.proofs.Tests.{and-left, and-right, and-both}
 use Rattle.common.proofs.Below.{all-below, below-all}
 use Rattle.line.specs.Sorts.{Line}
-use Rattle.line.specs.Line.{routeOf, tracksAt, inRange, postsInRange, tracksInRange, trainsInRange, routesOnLine, wellFormed}
+use Rattle.line.specs.Line.{routeOf, tracksAt, inRange, wellFormed}
+use Rattle.line.specs.Line.{postsInRange, tracksInRange, trainsInRange, routesOnLine}
 use Rattle.line.specs.Route.{routeLength}
 
 pub record WellFormed (l : Line) : Type 0 where
@@ -25,7 +26,7 @@ pub record WellFormed (l : Line) : Type 0 where
 low : (a b n : ℕ) → inRange a b n ≡ true → a ≤ n
 low a b n h = leb-true a n (and-left (leb a n) (leb n b) h)
 
-high : (a b n : ℕ) → inRange a b n ≡ true → n ≤ b
+pub high : (a b n : ℕ) → inRange a b n ≡ true → n ≤ b
 high a b n h = leb-true n b (and-right (leb a n) (leb n b) h)
 
 pub ranged : (a b n : ℕ) → a ≤ n → n ≤ b → inRange a b n ≡ true
@@ -46,7 +47,8 @@ off-end a e n h = rw (le-ltb e n h) (and-false (ltb a n))
 
 module _ (l : Line) where
   -- the parts that `wellFormed` is made of
-  pub well-formed-parts : postsInRange l ≡ true → tracksInRange l ≡ true → trainsInRange l ≡ true → routesOnLine l ≡ true → wellFormed l ≡ true
+  pub well-formed-parts : postsInRange l ≡ true → tracksInRange l ≡ true → trainsInRange l ≡ true
+      → routesOnLine l ≡ true → wellFormed l ≡ true
   unfolding wellFormed
   well-formed-parts p k t r = rw (p, k, t, r)
 
@@ -69,15 +71,25 @@ module _ (l : Line) where
       unfolding wellFormed
       routes-decide trains = rw (posts, tracks, trains)
 
-  pub well-formed : wellFormed l ≡ true → WellFormed l
+  pub formed-parts : wellFormed l ≡ true
+      → (postsInRange l ≡ true) × (tracksInRange l ≡ true) × (trainsInRange l ≡ true) × (routesOnLine l ≡ true)
   unfolding wellFormed
-  well-formed h =
-      let posts = and-left (postsInRange l) (tracksInRange l && (trainsInRange l && routesOnLine l)) h in
+  formed-parts h =
       let rest = and-right (postsInRange l) (tracksInRange l && (trainsInRange l && routesOnLine l)) h in
-      let tracks = all-below (l .posts) _ (and-left (tracksInRange l) (trainsInRange l && routesOnLine l) rest) in
-      let last = and-right (tracksInRange l) (trainsInRange l && routesOnLine l) rest in
-      let trains = and-left (trainsInRange l) (routesOnLine l) last in
-      let routes = all-below (l .trains) _ (and-right (trainsInRange l) (routesOnLine l) last) in
+      let last = and-right (tracksInRange l) (trainsInRange l && routesOnLine l) rest in (
+        and-left (postsInRange l) (tracksInRange l && (trainsInRange l && routesOnLine l)) h,
+        and-left (tracksInRange l) (trainsInRange l && routesOnLine l) rest,
+        and-left (trainsInRange l) (routesOnLine l) last,
+        and-right (trainsInRange l) (routesOnLine l) last,
+      )
+
+  pub well-formed : wellFormed l ≡ true → WellFormed l
+  well-formed h =
+      let parts = formed-parts h in
+      let posts = parts .0 in
+      let tracks = all-below (l .posts) _ (parts .1) in
+      let trains = parts .2 in
+      let routes = all-below (l .trains) _ (parts .3) in
       record {
         some-posts = low 2 8 (l .posts) posts;
         few-posts = high 2 8 (l .posts) posts;
@@ -85,8 +97,8 @@ module _ (l : Line) where
         few-tracks = λ p k. high 1 4 (tracksAt l p) (tracks p k);
         some-trains = low 1 6 (l .trains) trains;
         few-trains = high 1 6 (l .trains) trains;
-        starts = λ t k. ltb-true (routeOf l t .start .0) (l .posts) (and-left (ltb (routeOf l t .start .0) (l .posts)) _ (routes t k));
-        ends = λ t k. ltb-true (routeOf l t .end .0) (l .posts) (and-right (ltb (routeOf l t .start .0) (l .posts)) _ (routes t k));
+        starts = λ t k. ltb-true _ _ (and-left (ltb (routeOf l t .start .0) (l .posts)) _ (routes t k));
+        ends = λ t k. ltb-true _ _ (and-right (ltb (routeOf l t .start .0) (l .posts)) _ (routes t k));
       }
 
   pub is-well-formed : WellFormed l → wellFormed l ≡ true

@@ -1,10 +1,9 @@
 -- 01, "The line and its book": what the bytes of a book say, when a book is refused, and which bytes a line has.
--- "Book: a two-byte big-endian length (the bytes after it), version byte 1, P, P track counts, T, then start and end of each train, one byte each."
-use mathlib.Core.Bool.{Bool, _&&_}
+use mathlib.Core.Bool.{_&&_}
 use mathlib.Core.List.{List, [], _∷_, _++_}
-use Prim.Native.Nat.{ℕ, zero, suc, _+_, _*_, _-_, _/_, _%_}
+use Prim.Native.Nat.{ℕ, _+_, _*_, _-_, _/_, _%_}
 use lib.Dec.{leb, eqb}
-use lib.ListN.{length, getD, replicate}
+use lib.ListN.{length, getD, take, drop, replicate}
 use Rattle.common.specs.Check.{Check, check, refusal, unlessRefused}
 use Rattle.common.specs.Tabulate.{tabulate, padded}
 use Rattle.common.specs.Word.{word}
@@ -14,6 +13,8 @@ use Rattle.line.specs.Line.{noRoute, routeOf, tracksAt, postsInRange, tr
 
 -- ---- where the parts of a book stand
 
+-- "Book: a two-byte big-endian length (the bytes after it), version byte 1, P, P track counts, T, then start and end of
+-- each train, one byte each."
 abbrev pub versionAt : ℕ
 versionAt = 2
 
@@ -24,11 +25,10 @@ postsAt = 3
 abbrev pub countAt : ℕ → ℕ
 countAt p = 4 + p
 
--- the number of trains, after the track counts of n posts
+-- after the track counts of n posts: the number of trains, and the start and the end of train t
 abbrev pub trainsAt : ℕ → ℕ
 trainsAt n = 4 + n
 
--- the start of train t, and its end, after the track counts of n posts
 abbrev pub startAt : ℕ → ℕ → ℕ
 startAt n t = 5 + n + 2 * t
 
@@ -44,43 +44,46 @@ total n t = 5 + n + 2 * t
 abbrev pub byteAt : List ℕ → ℕ → ℕ
 byteAt b i = getD b i 0
 
-abbrev pub routeBetween : ℕ → ℕ → Route
-routeBetween s e = record { start = record { 0 = s }; end = record { 0 = e } }
+-- how many bytes the book has by its length field
+abbrev pub named : List ℕ → ℕ
+named b = word (byteAt b 0) (byteAt b 1) + 2
+
+abbrev pub postsOf : List ℕ → ℕ
+postsOf b = byteAt b postsAt
+
+abbrev pub trainsOf : List ℕ → ℕ
+trainsOf b = byteAt b (trainsAt (postsOf b))
+
+abbrev pub route : ℕ → ℕ → Route
+route s e = record { start = record { 0 = s }; end = record { 0 = e } }
 
 -- the route of train t, after the track counts of n posts
 abbrev pub routeIn : List ℕ → ℕ → ℕ → Route
-routeIn b n t = routeBetween (byteAt b (startAt n t)) (byteAt b (endAt n t))
+routeIn b n t = route (byteAt b (startAt n t)) (byteAt b (endAt n t))
 
 -- the line; its places for posts from P on and trains from T on are 0
 abbrev pub lineOf : List ℕ → Line
-lineOf b =
-    let n = byteAt b postsAt in
-    let t = byteAt b (trainsAt n) in
-    record {
-      posts = n;
-      tracks = padded 8 n (λ p. byteAt b (countAt p)) 0;
-      trains = t;
-      routes = padded 6 t (routeIn b n) noRoute;
-    }
+lineOf b = record {
+  posts = postsOf b;
+  tracks = padded 8 (postsOf b) (λ p. byteAt b (countAt p)) 0;
+  trains = trainsOf b;
+  routes = padded 6 (trainsOf b) (routeIn b (postsOf b)) noRoute;
+}
 
 -- ---- when a book is refused
 
--- the length field counts the bytes after it
-abbrev pub lengthRight : List ℕ → Bool
-lengthRight b = eqb (word (byteAt b 0) (byteAt b 1) + 2) (length b)
-
--- "Checks in order: .. 14 if under 4 bytes or the length is wrong; 4; 15; 14 if under 5 + P bytes; 16; 17; 14 if the total differs; 18". Those that
--- want a table or a placing, 2 before these and 19 and 20 after them, are the opening's.
+-- "Checks in order: .. 14 if under 4 bytes or the length is wrong; 4; 15; 14 if under 5 + P bytes; 16; 17; 14 if the
+-- total differs; 18". What needs a table or a placing is the opening's: 2 before these, 19 and 20 after them.
 abbrev pub bookChecks : List ℕ → List Check
-bookChecks b = let l = lineOf b in
-    check number.tornBook (leb 4 (length b) && lengthRight b)
+bookChecks b =
+    check number.tornBook (leb 4 (length b) && eqb (named b) (length b))
     ∷ check number.otherEdition (eqb (byteAt b versionAt) 1)
-    ∷ check number.posts (postsInRange l)
-    ∷ check number.tornBook (leb (total (l .posts) 0) (length b))
-    ∷ check number.tracks (tracksInRange l)
-    ∷ check number.trains (trainsInRange l)
-    ∷ check number.tornBook (eqb (length b) (total (l .posts) (l .trains)))
-    ∷ check number.offTheLine (routesOnLine l)
+    ∷ check number.posts (postsInRange (lineOf b))
+    ∷ check number.tornBook (leb (5 + postsOf b) (length b))
+    ∷ check number.tracks (tracksInRange (lineOf b))
+    ∷ check number.trains (trainsInRange (lineOf b))
+    ∷ check number.tornBook (eqb (length b) (total (postsOf b) (trainsOf b)))
+    ∷ check number.offTheLine (routesOnLine (lineOf b))
     ∷ []
 
 -- ---- reading a book
@@ -97,18 +100,37 @@ refusedBy n = record { outcome = Refused n; line = emptyLine }
 unfoldable pub readBook : List ℕ → Reading
 readBook b = unlessRefused (refusal (bookChecks b)) (accepted (lineOf b)) refusedBy
 
--- the paper's number for what reading answers; 0 where a book is read
+-- the paper's number for an outcome; 0 where a book is read
 abbrev pub outcomeNumber : Outcome → ℕ
 outcomeNumber Read = 0
 outcomeNumber (Refused n) = n
 
--- a stage of the reading: v where its checks pass, else the number of the first that fails
+-- ---- the stages of the reading
+
+-- v where the checks of a stage pass, else the number of the first that fails
 abbrev pub stageOf : List Check → ℕ → Stage
 stageOf cs v = unlessRefused (refusal cs) (Passed v) Stopped
 
+-- the number that a stage stopped at; 0 of one that passed
 abbrev pub numberOf : Stage → ℕ
 numberOf (Passed n) = 0
 numberOf (Stopped n) = n
+
+-- the book's first four checks
+unfoldable pub postsStage : List ℕ → Stage
+postsStage b = stageOf (take 4 (bookChecks b)) (postsOf b)
+
+-- the fifth
+unfoldable pub tracksStage : Line → Stage
+tracksStage l = stageOf (check number.tracks (tracksInRange l) ∷ []) (l .posts)
+
+-- the sixth and the seventh
+unfoldable pub trainsStage : List ℕ → Stage
+trainsStage b = stageOf (take 2 (drop 5 (bookChecks b))) (trainsOf b)
+
+-- the eighth
+unfoldable pub routesStage : Line → Stage
+routesStage l = stageOf (check number.offTheLine (routesOnLine l) ∷ []) (l .trains)
 
 -- ---- the bytes of a line
 
@@ -120,4 +142,5 @@ routeBytes (r ∷ rs) = r .start .0 ∷ r .end .0 ∷ routeBytes rs
 unfoldable pub bytesOf : Line → List ℕ
 bytesOf l =
     let n = total (l .posts) (l .trains) - 2 in
-    n / 256 ∷ n % 256 ∷ 1 ∷ l .posts ∷ (tabulate (l .posts) (tracksAt l) ++ (l .trains ∷ routeBytes (tabulate (l .trains) (routeOf l))))
+    n / 256 ∷ n % 256 ∷ 1 ∷ l .posts
+    ∷ tabulate (l .posts) (tracksAt l) ++ (l .trains ∷ routeBytes (tabulate (l .trains) (routeOf l)))

@@ -34,7 +34,8 @@ trainsInRange l = inRange 1 6 (l .trains)
 
 -- "each with a start and an end post"
 abbrev pub routesOnLine : Line → Bool
-routesOnLine l = allBelow (l .trains) (λ t. ltb (routeOf l t .start .0) (l .posts) && ltb (routeOf l t .end .0) (l .posts))
+routesOnLine l =
+    allBelow (l .trains) (λ t. ltb (routeOf l t .start .0) (l .posts) && ltb (routeOf l t .end .0) (l .posts))
 
 -- all of that; places for posts from P on and trains from T on are not read
 unfoldable pub wellFormed : Line → Bool

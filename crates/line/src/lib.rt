@@ -5,11 +5,11 @@ mod form;
 pub mod refusal;
 mod route;
 mod sorts;
+pub mod word;
 
 pub use book::Line;
 pub use book::Outcome;
 pub use book::Reading;
-pub use book::Stage;
 pub use form::well_formed;
 pub use route::Route;
 pub use route::between;

@@ -11,7 +11,8 @@ use Rattle.common.specs.Word.{word}
 use Rattle.line.specs.Refusal.{unknownKind}
 use Rattle.frame.specs.Types.{Refused}
 use Rattle.frame.specs.Frame.{readFrame, messageOf}
-use Rattle.frame.proofs.Cases.{namedMove, other-size, other-length, other-version, other-kind, known-kind, not-a-kind}
+use Rattle.frame.proofs.Cases.{namedMove, other-size, other-length, other-version, other-kind}
+use Rattle.frame.proofs.Cases.{known-kind, not-a-kind}
 use Rattle.frame.proofs.reading.read.Statement.{statement}
 use Rattle.frame.proofs.reading.read.Tie as tie
 
@@ -34,7 +35,8 @@ shared-slice-read-if4 : tie.Need-shared-slice-read-if4
 shared-slice-read-if4 c = search needs
 
 returns-4 : tie.Need-returns-4
-returns-4 c = other-version _ (c .before .before .before .before .before .before .if1 .left) (omega arith) (c .if4 .taken)
+returns-4 c =
+    other-version _ (c .before .before .before .before .before .before .if1 .left) (omega arith) (c .if4 .taken)
 
 shared-slice-read-kind : tie.Need-shared-slice-read-kind
 shared-slice-read-kind c = search needs

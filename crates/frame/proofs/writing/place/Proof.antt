@@ -1,5 +1,5 @@
--- `frame::place` meets its contract. The loop's invariant: the first i bytes are copied, the rest of the buffer is as it was; the measure is
--- what is left of the seven.
+-- `frame::place` meets its contract. The loop's invariant: the first i bytes are copied, the rest of the buffer is as it
+-- was; the measure is what is left of the seven.
 -- Assumes nothing.
 use Prim.Native.Nat.{_-_}
 use native.Mathlib.Omega.{arith}
@@ -27,7 +27,12 @@ returns-2 c = no-room _ _ (c .before .before .args .t1) (search needs) (omega ar
 loop-holds : tie.Need-loop-holds Inv-loop μ-loop
 loop-holds c =
     let a = c .before .before .args in
-    record { few = omega arith; room = omega arith; seven = search needs; copied = paste-zero (a .out .now) (a .at) (a .t1) }
+    record {
+      few = omega arith;
+      room = omega arith;
+      seven = search needs;
+      copied = paste-zero (a .out .now) (a .at) (a .t1);
+    }
 
 array-read-out : tie.Need-array-read-out Inv-loop μ-loop
 array-read-out c = omega arith

@@ -1,9 +1,9 @@
 -- `journal::at` meets its contract: a walk of its MIR, by hand.
--- Where i is below the length, a copy of the `&` is looked into: the record at i is taken out of the row, read, and put back.
--- Past the end the answer is that of `blank`, of which the walk knows only that it meets its contract. Both arms leave the
--- record in _5, and `tail` hands it out.
--- Places: of the nine locals, _i stands at 2 · (8 − i) after what a comment names in front of them, and is followed by what
--- frees it, shown as "…". A comment before a step gives its statement and, in brackets, the context.
+-- Where i is below the length, a copy of the `&` is looked into: the record at i is taken out of the row, read, and put
+-- back. Past the end the answer is that of `blank`, of which the walk knows only that it meets its contract. Both arms
+-- leave the record in _5, and `tail` hands it out.
+-- Places: of the nine locals, _i stands at 2 · (8 − i) after what a comment names in front of them, and is followed by
+-- what frees it, shown as "…". A comment before a step gives its statement and, in brackets, the context.
 -- Assumes nothing.
 use mathlib.Core.Path.{_≡_, refl, sym, _∙_}
 use mathlib.Core.List.{[], _∷_, List}
@@ -93,7 +93,8 @@ module _ {M : Type 1} (𝓤 : URA M) (H : Heap 𝓤) (A : Atoms 𝓤) (mem : Mem
 
 -- the journal at the pointer (b, o) has the records ys
 module _ {M : Type 1} (𝓤 : URA M) (H : Heap 𝓤) (A : Atoms 𝓤) (W : Given 𝓤 H A) (mem : Memory → SProp 𝓤) (run : Routine → Fun 𝓤)
-    (κ : Lft) (q : Share) (b o : ℕ) (γ : GName) (ys : List Record) (i : ℕ) (i-fits : i < 2 ^ 64) (room : Room R.the-row (length ys)) where
+    (κ : Lft) (q : Share) (b o : ℕ) (γ : GName) (ys : List Record) (i : ℕ)
+    (i-fits : i < 2 ^ 64) (room : Room R.the-row (length ys)) where
   -- ---- the arguments, their machine values, and what stands at exit
 
   abbrev Arg : Type 0
@@ -199,7 +200,8 @@ module _ {M : Type 1} (𝓤 : URA M) (H : Heap 𝓤) (A : Atoms 𝓤) (W : Given
           (from ! (stop !)) (init ! 8 refl (typed elem mach is)) $
           elem-back ! R.the-row q′ ys i blank (mach ∷ []) b o within $ shuts-slice ! tt R.the-row q′ ys b o $
           -- _5 = _8: [the token; three of the copy; the `&`; _8; …]
-          assigns-last ! (of-opd ! (load ! (from ! (stop !)) (look ! 5 refl))) (from ! (stop !)) (init ! 11 refl (typed elem mach is)) $
+          assigns-last ! (of-opd ! (load ! (from ! (stop !)) (look ! 5 refl)))
+          (from ! (stop !)) (init ! 11 refl (typed elem mach is)) $
           exec ! (𝓣 .C) (𝓣 .Λ) En code-mir.t-4 (atRet En Post) $ forget ! 5 refl $ forget ! 7 refl $ forget ! 9 refl $
           keep ! (0 ∷ 4 ∷ 5 ∷ 6 ∷ 7 ∷ 8 ∷ 9 ∷ 10 ∷ 11 ∷ 12 ∷ 13 ∷ 14 ∷ 15 ∷ 16 ∷ 17 ∷ 18 ∷ 19 ∷ 20 ∷ 21 ∷ 22 ∷ []) $
           tail elem mach is refl)))
@@ -212,17 +214,20 @@ module _ {M : Type 1} (𝓤 : URA M) (H : Heap 𝓤) (A : Atoms 𝓤) (W : Given
           (id⊢ 𝓤 _) $ await ! tt $ pick ! (λ r. split ! $ move ! (1 ∷ []) $
           use1 W (raw (fact 𝓤 (r ≡ blank))) (blank-says 𝓤 H A mem run r) $ heard ! (r ≡ blank) (λ e.
           split ! $ drop ! $ peeks ! R.the-row (Is R.the-row) (shows 𝓤 H A R.the-row) r (v ∷ []) (λ is.
-          land-last ! (from ! (stop !)) (init ! 9 refl (typed r v is)) $ exec ! (𝓣 .C) (𝓣 .Λ) En code-mir.t-4 (atRet En Post) $ drop ! $
+          land-last ! (from ! (stop !)) (init ! 9 refl (typed r v is)) $
+          exec ! (𝓣 .C) (𝓣 .Λ) En code-mir.t-4 (atRet En Post) $ drop ! $
           tail r v is (e ∙ sym (List·getD-eq-default ys blank beyond)))))))
 
     -- from the entry to the branch
-    walk : ent 𝓤 (onEntry 𝓤 H A at′.signature (κ, tt) (q, tt) a vals) (WpFn 𝓤 H (𝓣 .C) (𝓣 .Λ) code.function (s ∷ vint w64 i ∷ []) Post)
+    walk : ent 𝓤 (onEntry 𝓤 H A at′.signature (κ, tt) (q, tt) a vals)
+        (WpFn 𝓤 H (𝓣 .C) (𝓣 .Λ) code.function (s ∷ vint w64 i ∷ []) Post)
     walk =
         qed W ((‵ (flft κ q) ⊛ ‵ ftrue) ∷ ‵ (owns (ShrSlice (named 0) κ R.the-row ∷ usize ∷ []) a vals) ∷ []) ∵
         enter ! (𝓣 .C) (𝓣 .Λ) code.function (s ∷ vint w64 i ∷ []) _ $
         alloc1 ! (λ l₀. alloc1 ! (λ l₁. alloc1 ! (λ l₂. alloc1 ! (λ l₃. alloc1 ! (λ l₄. alloc1 ! (λ l₅.
         alloc1 ! (λ l₆. alloc1 ! (λ l₇. alloc1 ! (λ l₈. alloc0 ! $ params1 ! $
-        pass1 ! (init ! 14 refl (tt, (tt, (record { fits = room .0 }, tt)))) $ pass1 ! (init ! 12 refl (tt, record { fits = i-fits })) $ pass0 ! $
+        pass1 ! (init ! 14 refl (tt, (tt, (record { fits = room .0 }, tt)))) $
+        pass1 ! (init ! 12 refl (tt, record { fits = i-fits })) $ pass0 ! $
         -- _3 = _1.1, _4 = _2 < _3: [_8; …; the token; what the parameters own]
         assigns ! (of-opd ! (load ! (from ! (fld ! refl (stop !))) (look-in ! 14 (sub ! 1 refl (whole !)))))
         (from ! (stop !)) (init ! 10 refl (tt, record { fits = room .0 })) $

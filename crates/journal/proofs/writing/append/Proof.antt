@@ -1,10 +1,10 @@
 -- `journal::append` meets its contract: a walk of its MIR, by hand.
--- `fitting` answers how many records are written, `count`, and the loop turns that often. The borrow is opened once, before
--- the loop, and closed once, after it. At the loop's head the first k records of the batch stand in their places (`written`).
--- A turn has the k-th from `nth`, of which the walk knows only that it meets its contract, and stores it. After the last turn
--- the list is `appended`. The laws of these lists are those of `Appended`.
--- Places: of the twelve locals, _i stands at 2 · (11 − i) after what a comment names in front of them, and is followed by what
--- frees it, shown as "…". A comment before a step gives its statement and, in brackets, the context.
+-- `fitting` answers how many records are written, `count`, and the loop turns that often. The borrow is opened once,
+-- before the loop, and closed once, after it. At the loop's head the first k records of the batch stand in their places
+-- (`written`). A turn has the k-th from `nth`, of which the walk knows only that it meets its contract, and stores it.
+-- After the last turn the list is `appended`. The laws of these lists are those of `Appended`.
+-- Places: of the twelve locals, _i stands at 2 · (11 − i) after what a comment names in front of them, and is followed by
+-- what frees it, shown as "…". A comment before a step gives its statement and, in brackets, the context.
 -- Assumes nothing.
 use mathlib.Core.Path.{_≡_, refl, sym, ap, subst, _∙_}
 use mathlib.Core.Bool.{Bool, true, false}
@@ -308,7 +308,8 @@ module _ {M : Type 1} (𝓤 : URA M) (H : Heap 𝓤) (A : Atoms 𝓤) (W : Given
           rewrite ! 0 Row (ap upto end ∙ all-written ys at h) refl $ closes-slice ! tt R.the-row ys zs long b o $
           -- _0 = (): [what is seen; the borrow; the token; _11; …]
           assigns ! (of-opd ! (unit-lit !)) (from ! (stop !)) (init ! 25 refl (tt, tt)) $ returns ! (look ! 25 refl) $
-          forget ! 11 refl $ forget ! 15 refl $ forget ! 17 refl $ forget ! 19 refl $ forget ! 21 refl $ forget ! 23 refl $ forget ! 25 refl $
+          forget ! 11 refl $ forget ! 15 refl $ forget ! 17 refl $ forget ! 19 refl $
+          forget ! 21 refl $ forget ! 23 refl $ forget ! 25 refl $
           move ! (25 ∷ 26 ∷ []) $ free1 ! $ move ! (23 ∷ 24 ∷ []) $ free1 ! $ move ! (21 ∷ 22 ∷ []) $ free1 ! $
           move ! (19 ∷ 20 ∷ []) $ free1 ! $ move ! (17 ∷ 18 ∷ []) $ free1 ! $ move ! (15 ∷ 16 ∷ []) $ free1 ! $
           move ! (13 ∷ 14 ∷ []) $ free1 ! $ move ! (11 ∷ 12 ∷ []) $ free1 ! $ move ! (9 ∷ 10 ∷ []) $ free1 ! $
@@ -327,7 +328,8 @@ module _ {M : Type 1} (𝓤 : URA M) (H : Heap 𝓤) (A : Atoms 𝓤) (W : Given
         enter ! (𝓣 .C) (𝓣 .Λ) code.function (s ∷ vint w64 at ∷ mach ∷ []) _ $
         alloc1 ! (λ l₀. alloc1 ! (λ l₁. alloc1 ! (λ l₂. alloc1 ! (λ l₃. alloc1 ! (λ l₄. alloc1 ! (λ l₅.
         alloc1 ! (λ l₆. alloc1 ! (λ l₇. alloc1 ! (λ l₈. alloc1 ! (λ l₉. alloc1 ! (λ l₁₀. alloc1 ! (λ l₁₁. alloc0 ! $ params1 ! $
-        pass1 ! (init ! 20 refl (tt, (tt, (record { fits = room .0 }, tt)))) $ pass1 ! (init ! 18 refl (tt, record { fits = at-fits })) $
+        pass1 ! (init ! 20 refl (tt, (tt, (record { fits = room .0 }, tt)))) $
+        pass1 ! (init ! 18 refl (tt, record { fits = at-fits })) $
         pass1 ! (init ! 16 refl (LL.lawful B.the-type B′.the-laws 𝓤 H A W .typed h _ is .0)) $ pass0 ! $
         -- _6 = _1.1: [_11; …; the token; what the parameters own]
         assigns ! (of-opd ! (load ! (from ! (fld ! refl (stop !))) (look-in ! 20 (sub ! 1 refl (whole !)))))

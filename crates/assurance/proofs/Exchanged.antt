@@ -1,0 +1,82 @@
+-- One frame: the answers are read back from the out buffer, and the answer to any frame, accepted or refused, keeps the invariant.
+-- Assumes nothing.
+use mathlib.Core.Path.{_≡_, refl}
+use mathlib.Core.List.{List, [], _∷_, _++_, append-assoc, map, List·Memᴰ, List·Memᴰ·head, List·Memᴰ·tail, List·Memᴰ·not-nil}
+use Prim.Native.Nat.{ℕ, _+_}
+use native.Mathlib.Omega.{arith}
+use lib.ListN.{length, drop}
+use lib.Seq.{take-at, drop-at}
+use Rattle.common.specs.Part.{replaced}
+use Rattle.common.proofs.Part.{replaced-before}
+use Rattle.frame.specs.Frame.{readFrame, bytesOf}
+use Rattle.frame.specs.RoundTrip.{IsMessage}
+use Rattle.frame.proofs.RoundTrip.{round-trip}
+use Rattle.journal.specs.Journal.{blank, recordOf}
+use Rattle.dispatcher.specs.State.{lineOf}
+use Rattle.dispatcher.specs.Answer.{accepted, framesOf, sent, Answer, answered, refused, answer}
+use Rattle.dispatcher.proofs.Oldest.{Nobody}
+use Rattle.dispatcher.proofs.Frames.{bytes-length}
+use Rattle.dispatcher.proofs.Acceptance.{Passed, by-verdict, accepted-facts}
+use Rattle.assurance.specs.Types.{Move, Message, Fe, Record, State}
+use Rattle.assurance.specs.Observer.{Observer, readFrames, answersOf, hearBy}
+use Rattle.assurance.specs.WholeList.{Requested}
+use Rattle.assurance.proofs.Invariant.{Invariant}
+use Rattle.assurance.proofs.Logging.{Later, later-same, left}
+use Rattle.assurance.proofs.Accept.{accepted-worked}
+
+-- ---- frames read back
+
+read-back : (l : List Message) (rest : List ℕ) → ((a : Message) → List·Memᴰ a l → IsMessage a) → readFrames (length l) (framesOf l ++ rest) ≡ l
+unfolding readFrames framesOf
+read-back [] rest h = refl
+read-back (a ∷ l) rest h =
+    let message : readFrame (bytesOf a) ≡ a = round-trip .back a (h a (List·Memᴰ·head refl)) in
+    let others : readFrames (length l) (framesOf l ++ rest) ≡ l = read-back l rest (λ b q. h b (List·Memᴰ·tail q)) in
+    rw (
+      append-assoc (bytesOf a) (framesOf l) rest,
+      take-at (bytesOf a) (framesOf l ++ rest) 7 (bytes-length a),
+      drop-at (bytesOf a) (framesOf l ++ rest) 7 (bytes-length a),
+      message,
+      others,
+    )
+
+pub answers-back : (l : List Message) (out : List ℕ) → ((a : Message) → List·Memᴰ a l → IsMessage a) → readFrames (length l) (replaced out 0 (framesOf l)) ≡ l
+unfolding replaced
+answers-back l out h = read-back l (drop (0 + length (framesOf l)) out) h
+
+-- ---- one frame
+
+-- the invariant between frames: nobody can be granted
+pub record Settled (table : List ℕ) (s : State) (j : List Record) (o : Observer) : Type 0 where
+  pub kept : Invariant table s j o
+  pub nobody : Nobody table s (s .trains)
+
+-- what the answer to a frame leaves
+pub record Exchanged (table : List ℕ) (s : State) (j : List Record) (o : Observer) (frame : List ℕ) (a : Answer) : Type 0 where
+  pub after : Settled table (a .state) (a .journal) (hearBy o frame (a .verdict) (a .out))
+  pub line : lineOf (a .state) ≡ lineOf s
+  pub requested : (m : Move) → List·Memᴰ (Fe m) (answersOf (a .verdict) (a .out)) → Requested (left (a .state) (a .journal)) m
+  pub later : Later s j (a .state) (a .journal)
+
+module _ (table : List ℕ) (s : State) (j : List Record) (o : Observer) (k : Settled table s j o) (frame out : List ℕ) where
+  refused-kept : (n : ℕ) → Exchanged table s j o frame (refused s j out n)
+  refused-kept n = record { after = k; line = refl; requested = λ m h. absurd (List·Memᴰ·not-nil h); later = later-same s j }
+
+  accepted-kept : Passed s table j frame out → Exchanged table s j o frame (answered (s .logged) j out (accepted table s (readFrame frame)))
+  accepted-kept p =
+      let w = accepted table s (readFrame frame) in
+      let facts = accepted-facts table s (k .kept .valid-state) (readFrame frame) (p .message) in
+      let worked = accepted-worked table s j o (k .kept) (readFrame frame) (p .message) in
+      let back : readFrames (length (sent w)) (replaced out 0 (framesOf (sent w))) ≡ sent w = answers-back (sent w) out (facts .messages) in
+      record {
+        after = rw back (record { kept = worked .kept; nobody = facts .nobody });
+        line = facts .line;
+        requested = rw back (worked .requested);
+        later = record {
+          more = omega (arith, facts .counted);
+          same = λ i l. replaced-before j (s .logged) (map recordOf (w .logged)) i blank l (omega (arith, k .kept .room, k .kept .valid-state .few-logged));
+        };
+      }
+
+  pub answer-kept : Exchanged table s j o frame (answer s table j frame out)
+  answer-kept = by-verdict s table j frame out (Exchanged table s j o frame) (λ n e. refused-kept n) accepted-kept

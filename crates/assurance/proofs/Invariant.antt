@@ -1,0 +1,123 @@
+-- What ties the state, the journal and the observer together, and one law for every change of one train's record with one message logged.
+-- Assumes nothing.
+use mathlib.Core.Path.{_≡_, refl, sym, ap, subst, _∙_}
+use mathlib.Core.Logic.{_≢_}
+use mathlib.Core.Bool.{true, false}
+use mathlib.Core.List.{List}
+use Prim.Native.Nat.{ℕ, _+_, _≤_, _<_}
+use native.Mathlib.Omega.{arith}
+use native.Mathlib.Numerals.{add-one}
+use lib.ListN.{length, set, length-set}
+use lib.Seq.{getD-set-same, getD-set-other}
+use borrow.Author.Tests.{ne-eqb}
+use Rattle.common.specs.Below.{ofBool, countBelow}
+use Rattle.common.specs.Update.{update}
+use Rattle.common.proofs.Tests.{by-equality}
+use Rattle.common.proofs.Below.{count-cong}
+use Rattle.common.proofs.Update.{update-own, update-other}
+use Rattle.frame.specs.Frame.{moveOf}
+use Rattle.journal.specs.Journal.{journalLength, blank, recordOf, recordAt}
+use Rattle.completion.specs.Configuration.{Configuration, Within, Completable, code}
+use Rattle.completion.specs.Table.{bitOf}
+use Rattle.completion.proofs.Agreement.{completable-cong}
+use Rattle.dispatcher.specs.declared.state.Status.{Status}
+use Rattle.dispatcher.specs.declared.state.Status.the-variants.{Free, Asked, Running}
+use Rattle.dispatcher.specs.declared.state.Train.{Train}
+use Rattle.dispatcher.specs.State.{isAsked, askedAs, nextOf, reachedBy, trainOf, lineOf, reached}
+use Rattle.dispatcher.specs.Answer.{moveIn}
+use Rattle.dispatcher.proofs.Trains.{changed, changed-own, changed-other, changed-each, changed-line}
+use Rattle.dispatcher.proofs.Validity.{Valid}
+use Rattle.assurance.specs.Types.{Line, Message, Fa, Fe, Afe, Am, Refused, Record, State}
+use Rattle.assurance.specs.Observer.{Claim, nothing, asked, authority, Seen, Observer}
+use Rattle.assurance.specs.WholeList.{isFeOf}
+
+-- what the observer has of a train, by its record
+abbrev pub claimOf : Status → ℕ → ℕ → Claim
+claimOf Free p q = nothing
+claimOf (Asked n) p q = asked
+claimOf Running p q = authority p q
+
+abbrev pub seenOf : Train → Seen
+seenOf x = record { post = x .at .0; claim = claimOf (x .status) (x .at .0) (nextOf x) }
+
+-- train t's FE records among the first n of a journal
+abbrev pub given : ℕ → List Record → ℕ → ℕ
+given n j t = countBelow n (λ i. isFeOf t (recordAt j i))
+
+-- train t's record x, where the journal j has n records and the observer has y
+pub record Tracked (n : ℕ) (j : List Record) (y : Seen) (t : ℕ) (x : Train) : Type 0 where
+  pub seen : y ≡ seenOf x
+  -- the number of an Asked train is that of its FA
+  pub request : isAsked (x .status) ≡ true → recordAt j (askedAs (x .status)) ≡ recordOf (Fa (moveOf t (x .at .0) (nextOf x)))
+  pub authorities : given n j t ≡ reachedBy x
+
+-- the table's bits are those of the line's completable configurations
+pub record Right (l : Line) (table : List ℕ) : Type 0 where
+  pub sound : (c : Configuration) → Within l c → bitOf table (code l c) ≡ true → Completable l c
+  pub full : (c : Configuration) → Completable l c → bitOf table (code l c) ≡ true
+
+pub record Invariant (table : List ℕ) (s : State) (j : List Record) (o : Observer) : Type 0 where
+  pub valid-state : Valid s
+  pub right : Right (lineOf s) table
+  pub room : journalLength ≤ length j
+  pub each : (t : ℕ) → t < s .trains → Tracked (s .logged) j (o t) t (trainOf s t)
+  -- with every Running train at its next post, all trains can still reach their ends
+  pub completable : Completable (lineOf s) (reached s)
+
+-- ---- one record more
+
+pub given-more : (n : ℕ) (j : List Record) (r : Record) (u : ℕ) → n < length j → given (n + 1) (set j n r) u ≡ ofBool (isFeOf u r) + given n j u
+unfolding countBelow
+given-more n j r u h =
+    let own : recordAt (set j n r) n ≡ r = getD-set-same j n r blank h in
+    let below : given n (set j n r) u ≡ given n j u = count-cong n _ _ (λ i k. ap (isFeOf u) (getD-set-other j n i r blank (λ z. omega arith))) in
+    rw (add-one, own, below)
+
+-- a message of another train gives u no authority
+other-train : (u : ℕ) (a : Message) → moveIn a .train .0 ≢ u → isFeOf u (recordOf a) ≡ false
+unfolding recordOf
+other-train u (Fa m) h = refl
+other-train u (Fe m) h = ne-eqb (m .train .0) u h
+other-train u (Afe m) h = refl
+other-train u (Am m) h = refl
+other-train u (Refused n) h = refl
+
+-- ---- one change
+
+module _ (table : List ℕ) (s : State) (j : List Record) (o o′ : Observer) (t : ℕ) (a : Message) (x : Train) (inv : Invariant table s j o)
+    (own : moveIn a .train .0 ≡ t) (space : s .logged < journalLength) (others : (u : ℕ) → u ≢ t → o′ u ≡ o u)
+    (place : t < length (s .fleet)) (route : x .route ≡ trainOf s t .route) (after : Valid (changed s t x (s .logged + 1)))
+    (tracked : Tracked (s .logged + 1) (set j (s .logged) (recordOf a)) (o′ t) t x)
+    (onward : Completable (lineOf s) (update (reached s) t (reachedBy x))) where
+  journal-room : s .logged < length j
+  journal-room = omega (arith, inv .room)
+
+  same-line : lineOf (changed s t x (s .logged + 1)) ≡ lineOf s
+  same-line = changed-line s t x (s .logged + 1) route
+
+  tracked-other : (u : ℕ) → u < s .trains → u ≢ t → Tracked (s .logged + 1) (set j (s .logged) (recordOf a)) (o′ u) u (trainOf s u)
+  tracked-other u k h =
+      let v = inv .each u k in
+      let none : isFeOf u (recordOf a) ≡ false = other-train u a (λ e. h (sym e ∙ own)) in
+      record {
+        seen = others u h ∙ v .seen;
+        request = λ q.
+            getD-set-other j (s .logged) (askedAs (trainOf s u .status)) (recordOf a) blank (λ z. omega (arith, inv .valid-state .each u k .numbered q))
+            ∙ v .request q;
+        authorities = given-more (s .logged) j (recordOf a) u journal-room ∙ rw (none, v .authorities) (omega arith);
+      }
+
+  agrees : (u : ℕ) → update (reached s) t (reachedBy x) u ≡ reached (changed s t x (s .logged + 1)) u
+  agrees u = by-equality u t
+      (λ e. rw (e, changed-own s t x (s .logged + 1) place) (update-own (reached s) t (reachedBy x)))
+      (λ h. rw (changed-other s t x (s .logged + 1) u h) (update-other (reached s) t (reachedBy x) u h))
+
+  pub changed-kept : Invariant table (changed s t x (s .logged + 1)) (set j (s .logged) (recordOf a)) o′
+  changed-kept = record {
+    valid-state = after;
+    right = subst (λ (l : Line). Right l table) (sym same-line) (inv .right);
+    room = rw length-set (inv .room);
+    each = λ u k. changed-each s t x (s .logged + 1) (λ v y. Tracked (s .logged + 1) (set j (s .logged) (recordOf a)) (o′ v) v y) place tracked u (tracked-other u k);
+    completable = subst (λ (l : Line). Completable l (reached (changed s t x (s .logged + 1)))) (sym same-line)
+        (completable-cong (lineOf s) (update (reached s) t (reachedBy x)) (reached (changed s t x (s .logged + 1))) (λ u k. agrees u) onward);
+  }

@@ -1,0 +1,82 @@
+-- The claims of `specs/OneFrame.antt`, proved over the laws of an accepted frame and of the granting.
+-- Assumes nothing.
+use mathlib.Core.Path.{_≡_, refl, sym, ap, _∙_}
+use mathlib.Core.Bool.{true, false≢true}
+use mathlib.Core.Option.{Option, none, some}
+use mathlib.Core.List.{List, [], _∷_, append-assoc}
+use Prim.Native.Nat.{ℕ, zero, suc, _+_, _≤_}
+use native.Mathlib.Omega.{arith}
+use Rattle.common.proofs.Tests.{by-equality}
+use Rattle.frame.specs.Frame.{readFrame}
+use Rattle.dispatcher.specs.declared.state.Status.the-variants.{Running}
+use Rattle.dispatcher.specs.State.{trainOf, nextMove, withStatus}
+use Rattle.dispatcher.specs.Valid.{valid}
+use Rattle.dispatcher.specs.Granting.{oldest, Work, granted, proceed, grants}
+use Rattle.dispatcher.specs.Answer.{answer}
+use Rattle.dispatcher.proofs.Validity.{Distinct, valid-facts, is-valid}
+use Rattle.dispatcher.proofs.Changes.{distinct-change}
+use Rattle.dispatcher.proofs.Oldest.{Oldest, oldest-none, oldest-some, earlier}
+use Rattle.dispatcher.proofs.Grants.{askedCount, Turn, granted-fewer, granted-place, none-asked, few-asked, settled-next}
+use Rattle.dispatcher.proofs.Settling.{settled-settles}
+use Rattle.dispatcher.proofs.Acceptance.{by-verdict, accepted-facts}
+use Rattle.assurance.specs.Types.{Fe, Record, State, Sent}
+use Rattle.assurance.specs.OneFrame.{ValidKept, NoneLeft, First, Granting, done, next, ExactGrant, OldestFirst}
+
+pub valid-kept : ValidKept
+valid-kept s table journal frame out e =
+    by-verdict s table journal frame out (λ a. valid (a .state) ≡ true) (λ n q. e)
+    (λ p. is-valid _ (accepted-facts table s (p .valid-state) (readFrame frame) (p .message) .valid-state))
+
+none-left : (s : State) (table : List ℕ) (journal : List Record) (frame out : List ℕ) (n : ℕ)
+    → answer s table journal frame out .verdict ≡ Sent n → NoneLeft table (answer s table journal frame out .state)
+none-left s table journal frame out n =
+    by-verdict s table journal frame out (λ a. a .verdict ≡ Sent n → NoneLeft table (a .state))
+    (λ k q e. absurd (let z : _≡_ {A = ℕ} 0 1 = cc in omega arith))
+    (λ p e. accepted-facts table s (p .valid-state) (readFrame frame) (p .message) .nobody .barred)
+
+-- ---- the chain of grants
+
+module _ (table : List ℕ) where
+  turn-first : (s : State) → Distinct s → (t : ℕ) → Oldest table s (s .trains) t → First table s t
+  turn-first s d t f = record { known = f .known; can = f .can; first = earlier table s d t f }
+
+  first-turn : (s : State) (t : ℕ) → First table s t → Oldest table s (s .trains) t
+  first-turn s t f = record {
+    known = f .known;
+    can = f .can;
+    least = λ u k g. by-equality u t (λ e. rw e (omega arith)) (λ h. omega (arith, f .first u k h g));
+  }
+
+  -- a grant takes a number away, and the others stay distinct
+  granted-distinct : (w : Work) (t : ℕ) → Turn table w t → Distinct (w .state) → Distinct (granted w t .state)
+  granted-distinct w t f =
+      distinct-change (w .state) t (withStatus (trainOf (w .state) t) Running) (w .state .logged + 1) (granted-place table w t f)
+      (λ u k h p. absurd (false≢true p))
+
+  chain : (n : ℕ) (w : Work) → Distinct (w .state) → askedCount (w .state) ≤ n → Granting table w (grants table n w)
+  unfolding grants
+  chain zero w d few = done w (none-asked table w (omega arith) .barred)
+  chain (suc n) w d few = at (oldest table (w .state) (w .state .trains)) refl (λ t a b. chain n (granted w t) a b)
+    where
+      at : (r : Option ℕ) → oldest table (w .state) (w .state .trains) ≡ r
+          → ((t : ℕ) → Distinct (granted w t .state) → askedCount (granted w t .state) ≤ n → Granting table (granted w t) (grants table n (granted w t)))
+          → Granting table w (proceed r w (λ t. grants table n (granted w t)))
+      at none e rest = done w (oldest-none table (w .state) (w .state .trains) e .barred)
+      at (some t) e rest =
+          let f = oldest-some table (w .state) (w .state .trains) t e in
+          next w _ t (turn-first (w .state) d t f) (rest t (granted-distinct w t f d) (omega (arith, granted-fewer table w t f)))
+
+pub exact-grant : ExactGrant
+exact-grant = record {
+  chain = λ table w e.
+      chain table (w .state .trains) w (valid-facts (w .state) e .distinct) (few-asked table w);
+  none-left = none-left;
+}
+
+pub oldest-first : OldestFirst
+oldest-first table w t e f =
+    let d = valid-facts (w .state) e in
+    let rest = settled-settles table (granted w t) in (
+      rest .answers,
+      ap (λ (v : Work). v .logged) (sym (settled-next table w t d (first-turn table (w .state) t f))) ∙ rest .added ∙ append-assoc (w .logged) (Fe (nextMove (w .state) t) ∷ []) (rest .answers),
+    )

@@ -1,0 +1,117 @@
+-- An accepted opening establishes the invariant: the line is that of the book and well formed, the table is right, and every train stands at its start.
+-- Assumes nothing.
+use mathlib.Core.Path.{_≡_, refl, sym, subst}
+use mathlib.Core.Bool.{true, false≢true, true≢false}
+use mathlib.Core.List.{List}
+use Prim.Native.Nat.{ℕ, _≤_, _<_}
+use native.Mathlib.Omega.{arith}
+use lib.Dec.{leb}
+use lib.ListN.{length}
+use borrow.Author.Tests.{leb-true}
+use Rattle.common.specs.Below.{countBelow}
+use Rattle.common.specs.Check.{refusal}
+use Rattle.common.specs.Tabulate.{valuesFrom, padded}
+use Rattle.common.proofs.Tests.{by-equality, not-passed, and-right}
+use Rattle.common.proofs.Below.{count-none, count-cong}
+use Rattle.common.proofs.Tabulate.{at-tabulate}
+use Rattle.common.proofs.Check.{passed-at, accepts, refuses}
+use Rattle.line.specs.Line.{routeOf}
+use Rattle.line.specs.Holding.{holdsPost, holdsSection}
+use Rattle.line.specs.Book.{lineOf as lineIn}
+use Rattle.line.proofs.Travel.{start-between, post-start}
+use Rattle.line.proofs.WellFormed.{WellFormed, well-formed-parts, well-formed}
+use Rattle.journal.specs.Journal.{journalLength}
+use Rattle.completion.specs.Configuration.{Feasible, Completable, start, code, whereabouts}
+use Rattle.completion.specs.Table.{tableLength, bitOf, filled}
+use Rattle.completion.proofs.Feasibility.{feasible-of}
+use Rattle.completion.proofs.Agreement.{completable-cong}
+use Rattle.completion.proofs.Rule.{bit-completable, completable-bit}
+use Rattle.dispatcher.specs.State.{noTrain, trainOf, lineOf, located, reached}
+use Rattle.dispatcher.specs.Granting.{grantable}
+use Rattle.dispatcher.specs.Opening.{openingChecks, fresh, openedState, opened, refusedBook, opening, openingWith}
+use Rattle.dispatcher.proofs.Validity.{Valid}
+use Rattle.dispatcher.proofs.Changes.{grantable-facts}
+use Rattle.assurance.specs.Types.{Line, Record}
+use Rattle.assurance.specs.Observer.{atOpening}
+use Rattle.assurance.proofs.Invariant.{Right, Invariant}
+use Rattle.assurance.proofs.Exchanged.{Settled}
+
+-- ---- the checks
+
+pub record Accepted (l : Line) (table : List ℕ) (journal : List Record) : Type 0 where
+  pub line : WellFormed l
+  pub fits : Feasible l start
+  pub bit : bitOf (filled l table) (code l start) ≡ true
+  pub room : journalLength ≤ length journal
+
+module _ (book table : List ℕ) (journal : List Record) where
+  book-passed : refusal (openingChecks book table (length journal)) ≡ 0 → Accepted (lineIn book) table journal
+  book-passed e =
+      let check = passed-at (openingChecks book table (length journal)) refl e in
+      record {
+        line = well-formed (lineIn book) (well-formed-parts (lineIn book) (check 3) (check 5) (check 6) (check 8));
+        fits = feasible-of (lineIn book) start (check 9);
+        bit = check 10 refl;
+        room = leb-true _ _ (and-right (leb tableLength (length table)) _ (check 0));
+      }
+
+  -- a book that is not refused passed them all
+  pub opening-accepted : opening book table journal .number ≡ 0 → (opening book table journal ≡ opened (lineIn book) table) × Accepted (lineIn book) table journal
+  unfolding openingWith
+  opening-accepted e = by-equality (refusal (openingChecks book table (length journal))) 0
+      (λ q. (accepts (opened (lineIn book) table) (refusedBook (lineIn book) table) q, book-passed q))
+      (λ h.
+      let r = refuses {n = refusal (openingChecks book table (length journal))} (opened (lineIn book) table) (refusedBook (lineIn book) table) (omega arith) in
+      absurd (h (rw r at e)))
+
+-- ---- the opened state
+
+-- it is one of the book's line
+pub opened-line : (book : List ℕ) → lineOf (openedState (lineIn book)) ≡ lineIn book
+unfolding valuesFrom padded
+opened-line book = refl
+
+module _ (l : Line) (table : List ℕ) (journal : List Record) (a : Accepted l table journal) (same : lineOf (openedState l) ≡ l) where
+  fresh-train : (t : ℕ) → t < l .trains → trainOf (openedState l) t ≡ fresh (routeOf l t)
+  fresh-train t k = at-tabulate 6 (λ u. fresh (routeOf l u)) t noTrain (omega (arith, a .line .few-trains))
+
+  opened-valid : Valid (openedState l)
+  opened-valid = record {
+    line = subst WellFormed (sym same) (a .line);
+    each = λ t k. rw (fresh-train t k) (record {
+      inside = start-between _ _;
+      busy = λ q. absurd (true≢false q);
+      numbered = λ q. absurd (false≢true q);
+    });
+    sections = λ i k. omega (arith, count-none (l .trains) (λ t. holdsSection (located (openedState l) t) i) (λ t kt. rw (fresh-train t kt)));
+    posts = λ p k.
+        rw (count-cong (l .trains) (λ t. holdsPost (located (openedState l) t) p) (λ t. holdsPost (whereabouts l start t) p)
+        (λ t kt. rw (fresh-train t kt, post-start (routeOf l t))))
+        (a .fits .fits p k);
+    few-logged = omega arith;
+    distinct = λ t u kt ku p. absurd (false≢true (rw (fresh-train t kt) at p));
+  }
+
+  right : Right l (filled l table)
+  right = record { sound = bit-completable l (a .line) table; full = λ c f. completable-bit l (a .line) table c (f .feasible .within) f }
+
+  opened-kept : Invariant (filled l table) (openedState l) journal (atOpening l)
+  unfolding countBelow
+  opened-kept = record {
+    valid-state = opened-valid;
+    right = subst (λ (z : Line). Right z (filled l table)) (sym same) right;
+    room = a .room;
+    each = λ t k. rw (fresh-train t k) (record { seen = refl; request = λ q. absurd (false≢true q); authorities = omega arith });
+    completable = subst (λ (z : Line). Completable z (reached (openedState l))) (sym same)
+        (completable-cong l start (reached (openedState l)) (λ t k. rw (fresh-train t k) (omega arith))
+        (bit-completable l (a .line) table start (a .fits .within) (a .bit)));
+  }
+
+  pub opened-settled : Settled (filled l table) (openedState l) journal (atOpening l)
+  opened-settled = record {
+    kept = opened-kept;
+    nobody = record {
+      barred = λ t k. not-passed (grantable (filled l table) (openedState l) t) (λ e.
+          false≢true (rw (fresh-train t k) at (grantable-facts (filled l table) (openedState l) t e .asks)));
+    };
+  }

@@ -1,0 +1,126 @@
+-- How many records there can be. Each post travelled takes at most four, FA, AFE, FE and AM, so that a train's record says how many it can have taken
+-- so far, and the journal's count is at most their sum: at most 168, since six trains travel at most seven posts each. Every accepted frame raises
+-- the sum. For any table.
+-- Assumes nothing.
+use mathlib.Core.Path.{_≡_, refl, sym, ap}
+use mathlib.Core.Bool.{true, false, false≢true}
+use mathlib.Core.List.{List}
+use Prim.Native.Nat.{ℕ, _+_, _*_, _≤_, _<_}
+use native.Mathlib.Nat.{mul-le-mul-right}
+use native.Mathlib.Omega.{arith}
+use lib.ListN.{length}
+use Rattle.common.proofs.Tests.{by-cases}
+use Rattle.common.proofs.Sums.{sumBelow, sum-change, sum-le}
+use Rattle.line.specs.Route.{distance}
+use Rattle.line.proofs.Travel.{travelled-within, next-within, next-travelled}
+use Rattle.line.proofs.WellFormed.{short-route}
+use Rattle.dispatcher.specs.declared.state.Status.{Status}
+use Rattle.dispatcher.specs.declared.state.Status.the-variants.{Free, Asked, Running}
+use Rattle.dispatcher.specs.declared.state.Train.{Train}
+use Rattle.dispatcher.specs.State.{isFree, isAsked, isRunning, trainOf, lineOf, withStatus, arrivedNext}
+use Rattle.dispatcher.specs.Granting.{Work, granted, settled}
+use Rattle.dispatcher.specs.Answer.{taken, declined, accepted}
+use Rattle.dispatcher.proofs.Trains.{running-is, route-of, changed, changed-own, changed-other}
+use Rattle.dispatcher.proofs.Validity.{Valid}
+use Rattle.dispatcher.proofs.Changes.{grantable-facts, short-place}
+use Rattle.dispatcher.proofs.Grants.{Turn, grants-keep, granted-place}
+use Rattle.dispatcher.proofs.Acceptance.{Taken, request, arrival}
+use Rattle.assurance.specs.Types.{Move, Message, Fa, Am, State}
+
+-- ---- one train
+
+-- FA and AFE; then FE
+abbrev askedFor : Status → ℕ
+askedFor Free = 0
+askedFor (Asked n) = 2
+askedFor Running = 3
+
+abbrev recordsOf : Train → ℕ
+recordsOf x = 4 * distance (x .route .start .0) (x .at .0) + askedFor (x .status)
+
+free-none : (w : Status) → isFree w ≡ true → askedFor w ≡ 0
+free-none Free e = refl
+free-none (Asked n) e = absurd (false≢true e)
+free-none Running e = absurd (false≢true e)
+
+asked-two : (w : Status) → isAsked w ≡ true → askedFor w ≡ 2
+asked-two Free e = absurd (false≢true e)
+asked-two (Asked n) e = refl
+asked-two Running e = absurd (false≢true e)
+
+most-three : (w : Status) → askedFor w ≤ 3
+most-three Free = omega arith
+most-three (Asked n) = omega arith
+most-three Running = omega arith
+
+neither : (w : Status) → isAsked w ≡ false → isRunning w ≡ false → isFree w ≡ true
+neither Free a b = refl
+neither (Asked n) a b = absurd (false≢true (sym a))
+neither Running a b = absurd (false≢true (sym b))
+
+-- ---- all trains
+
+abbrev pub recordsIn : State → ℕ
+recordsIn s = sumBelow (s .trains) (λ t. recordsOf (trainOf s t))
+
+-- the count is at most that, with e to spare, and that is at least n
+pub record Bounded (e n : ℕ) (s : State) : Type 0 where
+  pub spare : s .logged + e ≤ recordsIn s
+  pub raised : n ≤ recordsIn s
+
+changed-records : (s : State) (t : ℕ) (x : Train) (n : ℕ) → t < s .trains → t < length (s .fleet)
+    → recordsIn (changed s t x n) + recordsOf (trainOf s t) ≡ recordsIn s + recordsOf x
+changed-records s t x n k l =
+    let c = sum-change (s .trains) (λ u. recordsOf (trainOf s u)) (λ u. recordsOf (trainOf (changed s t x n) u)) t k
+    (λ u ku h. ap recordsOf (changed-other s t x n u h)) in
+    let e : recordsOf (trainOf (changed s t x n) t) ≡ recordsOf x = ap recordsOf (changed-own s t x n l) in
+    omega arith
+
+pub few-records : (s : State) → Valid s → recordsIn s ≤ 168
+few-records s d =
+    let all = sum-le (s .trains) 28 (λ t. recordsOf (trainOf s t)) each in
+    omega (arith, mul-le-mul-right 28 (d .line .few-trains))
+  where
+    each : (t : ℕ) → t < s .trains → recordsOf (trainOf s t) ≤ 28
+    each t k =
+        let x = trainOf s t in
+        let far : distance (x .route .start .0) (x .route .end .0) ≤ 7 = rw (route-of s t) at (short-route (lineOf s) (d .line) t k) in
+        by-cases (isFree (x .status))
+        (λ e. omega (arith, free-none (x .status) e, travelled-within _ _ _ (d .each t k .inside)))
+        (λ e. omega (arith, most-three (x .status), next-within _ _ _ (d .each t k .inside) (d .each t k .busy e)))
+
+-- ---- an accepted frame
+
+module _ (table : List ℕ) (e n : ℕ) where
+  granted-bounded : (w : Work) (t : ℕ) → Bounded e n (w .state) → Turn table w t → Bounded e n (granted w t .state)
+  granted-bounded w t b f =
+      let two = asked-two (trainOf (w .state) t .status) (grantable-facts table (w .state) t (f .can) .asks) in
+      let c = changed-records (w .state) t (withStatus (trainOf (w .state) t) Running) (w .state .logged + 1) (f .known) (granted-place table w t f) in
+      record { spare = omega (arith, b .spare); raised = omega (arith, b .raised) }
+
+  settled-bounded : (w : Work) → Bounded e n (w .state) → Bounded e n (settled table w .state)
+  settled-bounded w = grants-keep table (λ v. Bounded e n (v .state)) granted-bounded (w .state .trains) w
+
+-- an AFE is paid for by the request
+declined-bounded : (n : ℕ) (m : Move) (w : Work) → Bounded 1 n (w .state) → Bounded 0 n (declined m w .state)
+declined-bounded n m w b = by-cases (isAsked (trainOf (w .state) (m .train .0) .status))
+    (λ q. rw q (record { spare = omega (arith, b .spare); raised = b .raised }))
+    (λ q. rw q (record { spare = omega (arith, b .spare); raised = b .raised }))
+
+-- every accepted frame keeps the count bounded, and raises the bound
+pub accepted-bounded : (table : List ℕ) (s : State) → Valid s → (a : Message) → Taken s a → s .logged ≤ recordsIn s
+    → Bounded 0 (recordsIn s + 1) (accepted table s a .state)
+unfolding accepted
+accepted-bounded table s d a (request m q free idle) b =
+    let t = m .train .0 in
+    let none = free-none (trainOf s t .status) (neither (trainOf s t .status) free idle) in
+    let c = changed-records s t (withStatus (trainOf s t) (Asked (s .logged))) (s .logged + 1) (q .known) (short-place s t (q .short)) in
+    let w = taken s (Fa m) (withStatus (trainOf s t) (Asked (s .logged))) in
+    declined-bounded (recordsIn s + 1) m (settled table w)
+    (settled-bounded table 1 (recordsIn s + 1) w (record { spare = omega arith; raised = omega arith }))
+accepted-bounded table s d a (arrival m q runs) b =
+    let t = m .train .0 in
+    let three : askedFor (trainOf s t .status) ≡ 3 = rw (running-is (trainOf s t .status) runs) in
+    let c = changed-records s t (arrivedNext (trainOf s t)) (s .logged + 1) (q .known) (short-place s t (q .short)) in
+    let far = next-travelled _ _ _ (d .each t (q .known) .inside) (q .short) in
+    settled-bounded table 0 (recordsIn s + 1) (taken s (Am m) (arrivedNext (trainOf s t))) (record { spare = omega arith; raised = omega arith })

@@ -1,0 +1,56 @@
+-- Rows of bytes in a book: the values at a row of places make that part of it, and a route's two bytes stand at its two
+-- places.
+-- Assumes nothing.
+use mathlib.Core.Path.{_≡_, refl, sym}
+use mathlib.Core.List.{List, [], _∷_, _++_}
+use Prim.Native.Nat.{ℕ, zero, suc, _+_, _*_, _≤_, _<_}
+use native.Mathlib.Omega.{arith}
+use lib.ListN.{length, getD, drop, drop-of-length-le}
+use lib.Seq.{drop-cons}
+use Rattle.common.specs.Tabulate.{valuesFrom}
+use Rattle.line.specs.Sorts.{Route}
+use Rattle.line.specs.Line.{noRoute}
+use Rattle.line.specs.Book.{byteAt, startAt, routeIn, routeBytes}
+
+module _ (b : List ℕ) where
+  -- n places from k on, and what stands after them
+  pub places : (k j n : ℕ) → k + j + n ≤ length b
+      → valuesFrom j n (λ i. byteAt b (k + i)) ++ drop (k + j + n) b ≡ drop (k + j) b
+  unfolding valuesFrom
+  places k j zero h = let e : k + j + 0 ≡ k + j = omega arith in rw e
+  places k j (suc n) h =
+      let e : k + j + suc n ≡ k + suc j + n = omega arith in
+      let s : k + suc j ≡ suc (k + j) = omega arith in
+      let l : k + j < length b = omega arith in
+      let r = places k (suc j) n (omega arith) in
+      rw (e, r, s) (sym (drop-cons b (k + j) 0 l))
+
+  -- n routes at the end of a book of p posts
+  pub routes-end : (p j n : ℕ) → length b ≡ startAt p j + 2 * n
+      → routeBytes (valuesFrom j n (routeIn b p)) ≡ drop (startAt p j) b
+  unfolding valuesFrom routeBytes
+  routes-end p j zero h = sym (drop-of-length-le b {i = startAt p j} (omega arith))
+  routes-end p j (suc n) h =
+      let l : startAt p j < length b = omega arith in
+      let m : startAt p j + 1 < length b = omega arith in
+      let a : suc (startAt p j) ≡ startAt p j + 1 = omega arith in
+      let s : suc (startAt p j + 1) ≡ startAt p (suc j) = omega arith in
+      let r = routes-end p (suc j) n (omega arith) in
+      rw (r, ← s, ← drop-cons b (startAt p j + 1) 0 m, ← a, ← drop-cons b (startAt p j) 0 l)
+
+pub length-routes : (rs : List Route) → length (routeBytes rs) ≡ 2 * length rs
+unfolding routeBytes
+length-routes [] = refl
+length-routes (r ∷ rs) = let e = length-routes rs in omega arith
+
+pub start-byte : (rs : List Route) (t : ℕ) → byteAt (routeBytes rs) (2 * t) ≡ getD rs t noRoute .start .0
+unfolding routeBytes
+start-byte [] t = refl
+start-byte (r ∷ rs) zero = refl
+start-byte (r ∷ rs) (suc t) = let e : 2 * suc t ≡ suc (suc (2 * t)) = omega arith in rw e (start-byte rs t)
+
+pub end-byte : (rs : List Route) (t : ℕ) → byteAt (routeBytes rs) (suc (2 * t)) ≡ getD rs t noRoute .end .0
+unfolding routeBytes
+end-byte [] t = refl
+end-byte (r ∷ rs) zero = refl
+end-byte (r ∷ rs) (suc t) = let e : 2 * suc t ≡ suc (suc (2 * t)) = omega arith in rw e (end-byte rs t)

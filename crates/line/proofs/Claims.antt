@@ -1,0 +1,224 @@
+-- The claims about the line book. What is read passes every check, so its bytes are spelled out part by part (`only`);
+-- the bytes of a well-formed line stand where the reading looks for them, so every check passes (`back`).
+-- Assumes nothing.
+use mathlib.Core.Path.{_≡_, refl, sym, ap, _∙_}
+use mathlib.Core.Logic.{_≢_}
+use mathlib.Core.Bool.{true}
+use mathlib.Core.List.{List, _∷_, _++_}
+use Prim.Native.Nat.{ℕ, zero, suc, _+_, _*_, _-_, _/_, _%_, _≤_, _<_}
+use native.Mathlib.Omega.{arith}
+use lib.Dec.{leb, ltb, eqb}
+use lib.ListN.{length, getD, drop, length-append, List·getD-append}
+use lib.Seq.{drop-cons, getD-drop, getD-at, getD-append-add}
+use borrow.Author.Tests.{leb-true, ltb-true, eqb-true, le-leb, eq-eqb}
+use Rattle.common.specs.Check.{check, refusal, unlessRefused}
+use Rattle.common.specs.Tabulate.{tabulate}
+use Rattle.common.proofs.Tests.{and-left, and-right, and-both}
+use Rattle.common.proofs.Check.{none, pass, refusal-is, passed-at, clear, not-given, accepts}
+use Rattle.common.proofs.Tabulate.{length-tabulate, at-tabulate, tabulate-cong}
+use Rattle.common.proofs.Tabulate.{length-padded, at-padded, past-padded, padded-is}
+use Rattle.line.specs.Refusal as number
+use Rattle.line.specs.Sorts.{Line, Reading}
+use Rattle.line.specs.Line.{noRoute, routeOf, tracksAt, wellFormed}
+use Rattle.line.specs.Book.{byteAt, versionAt, countAt, trainsAt, startAt, endAt, total}
+use Rattle.line.specs.Book.{named, postsOf, trainsOf, routeIn, lineOf, bookChecks}
+use Rattle.line.specs.Book.{accepted, refusedBy, readBook, outcomeNumber, routeBytes, bytesOf}
+use Rattle.line.specs.Claims.{Padded, ReadAs, LineBook}
+use Rattle.line.proofs.WellFormed.{WellFormed, well-formed, well-formed-parts, formed-parts}
+use Rattle.line.proofs.InOrder.{line-is}
+use Rattle.line.proofs.Bytes.{places, routes-end, length-routes, start-byte, end-byte}
+
+-- ---- what an answer says of the refusal
+
+number-of : (n : ℕ) (l : Line) → outcomeNumber (unlessRefused n (accepted l) refusedBy .outcome) ≡ n
+unfolding unlessRefused
+number-of zero l = refl
+number-of (suc n) l = refl
+
+accepted-of : (n : ℕ) (m l : Line) → unlessRefused n (accepted m) refusedBy ≡ accepted l → (n ≡ 0) × (l ≡ m)
+unfolding unlessRefused
+accepted-of zero m l e = (refl, sym (ap (λ (r : Reading). r .line) e))
+accepted-of (suc n) m l e =
+    let z : suc n ≡ 0 = ap (λ (r : Reading). outcomeNumber (r .outcome)) e in
+    absurd (let y : ⊥ = omega arith in y)
+
+pub read-number : (b : List ℕ) → outcomeNumber (readBook b .outcome) ≡ refusal (bookChecks b)
+unfolding readBook
+read-number b = number-of (refusal (bookChecks b)) (lineOf b)
+
+pub read-line : (b : List ℕ) (l : Line) → readBook b ≡ accepted l → (refusal (bookChecks b) ≡ 0) × (l ≡ lineOf b)
+unfolding readBook
+read-line b l e = accepted-of (refusal (bookChecks b)) (lineOf b) l e
+
+not-met : (n : ℕ) (b : List ℕ) → ltb 0 n ≡ true → clear n (bookChecks b) ≡ true
+    → outcomeNumber (readBook b .outcome) ≢ n
+not-met n b h k = rw read-number (not-given n (bookChecks b) (ltb-true 0 n h) k)
+
+-- ---- a book whose parts are right is read
+
+module _ (b : List ℕ) (right : named b ≡ length b) (edition : byteAt b versionAt ≡ 1)
+    (formed : wellFormed (lineOf b) ≡ true) (whole : length b ≡ total (postsOf b) (trainsOf b)) where
+  all-pass : refusal (bookChecks b) ≡ 0
+  all-pass =
+      let parts = formed-parts (lineOf b) formed in
+      let some = well-formed (lineOf b) formed .some-posts in
+      let four : 4 ≤ length b = omega arith in
+      let room : 5 + postsOf b ≤ length b = omega arith in
+      let lengths = and-both _ _ (le-leb 4 (length b) four) (eq-eqb (named b) (length b) right) in
+      refusal-is (pass lengths
+      (pass (eq-eqb (byteAt b versionAt) 1 edition)
+      (pass (parts .0)
+      (pass (le-leb (5 + postsOf b) (length b) room)
+      (pass (parts .1)
+      (pass (parts .2)
+      (pass (eq-eqb (length b) (total (postsOf b) (trainsOf b)) whole)
+      (pass (parts .3) none))))))))
+
+-- ---- a book that is read, part by part
+
+module _ (b : List ℕ) (unrefused : refusal (bookChecks b) ≡ 0) where
+  passed : (i : ℕ) → getD (bookChecks b) i (check 0 true) .passes ≡ true
+  passed = passed-at (bookChecks b) refl unrefused
+
+  formed : wellFormed (lineOf b) ≡ true
+  formed = well-formed-parts (lineOf b) (passed 2) (passed 4) (passed 5) (passed 7)
+
+  facts : WellFormed (lineOf b)
+  facts = well-formed (lineOf b) formed
+
+  four : 4 ≤ length b
+  four = leb-true 4 (length b) (and-left (leb 4 (length b)) _ (passed 0))
+
+  right : named b ≡ length b
+  right = eqb-true (named b) (length b) (and-right (leb 4 (length b)) _ (passed 0))
+
+  edition : byteAt b versionAt ≡ 1
+  edition = eqb-true (byteAt b versionAt) 1 (passed 1)
+
+  whole : length b ≡ total (postsOf b) (trainsOf b)
+  whole = eqb-true (length b) (total (postsOf b) (trainsOf b)) (passed 6)
+
+  -- the places after the posts and the trains
+  rest-0 : Padded (lineOf b)
+  rest-0 = record {
+    eight = length-padded 8 (postsOf b) _ 0;
+    six = length-padded 6 (trainsOf b) _ noRoute;
+    no-tracks = past-padded 8 (postsOf b) _ 0;
+    no-routes = past-padded 6 (trainsOf b) _ noRoute;
+  }
+
+  counts-same : tabulate (postsOf b) (tracksAt (lineOf b)) ≡ tabulate (postsOf b) (λ p. byteAt b (countAt p))
+  counts-same = tabulate-cong (postsOf b) _ _ (λ p h. at-padded 8 (postsOf b) _ 0 p (omega (arith, facts .few-posts)) h)
+
+  routes-same : tabulate (trainsOf b) (routeOf (lineOf b)) ≡ tabulate (trainsOf b) (routeIn b (postsOf b))
+  routes-same =
+      tabulate-cong (trainsOf b) _ _ (λ t h. at-padded 6 (trainsOf b) _ noRoute t (omega (arith, facts .few-trains)) h)
+
+  -- the number of trains and their routes are the end of the book
+  trains-end : trainsOf b ∷ routeBytes (tabulate (trainsOf b) (routeOf (lineOf b))) ≡ drop (trainsAt (postsOf b)) b
+  trains-end =
+      let l : trainsAt (postsOf b) < length b = omega (arith, whole) in
+      let next : startAt (postsOf b) 0 ≡ suc (trainsAt (postsOf b)) = omega arith in
+      let ends = routes-end b (postsOf b) 0 (trainsOf b) (omega (arith, whole)) in
+      rw (routes-same, ends, next) (sym (drop-cons b (trainsAt (postsOf b)) 0 l))
+
+  -- with the track counts before them
+  counts-end : tabulate (postsOf b) (tracksAt (lineOf b)) ++ drop (trainsAt (postsOf b)) b ≡ drop 4 b
+  counts-end = rw counts-same (places b 4 0 (postsOf b) (omega (arith, whole)))
+
+  -- with the length, the version and the number of posts before them
+  spelled : bytesOf (lineOf b) ≡ b
+  unfolding bytesOf
+  spelled =
+      let n = total (postsOf b) (trainsOf b) - 2 in
+      let high : n / 256 ≡ byteAt b 0 = omega (arith, right, whole, facts .few-posts, facts .few-trains) in
+      let low : n % 256 ≡ byteAt b 1 = omega (arith, right, whole, facts .few-posts, facts .few-trains) in
+      let long = four in
+      let d0 = drop-cons b 0 0 (omega arith) in
+      let d1 = drop-cons b 1 0 (omega arith) in
+      let d2 = drop-cons b 2 0 (omega arith) in
+      let d3 = drop-cons b 3 0 (omega arith) in
+      cc (high, low, edition, trains-end, counts-end)
+
+-- ---- the bytes of a line
+
+module _ (l : Line) where
+  count-byte : (p : ℕ) → p < l .posts → byteAt (bytesOf l) (countAt p) ≡ tracksAt l p
+  unfolding bytesOf
+  count-byte p h =
+      sym (getD-drop 4 (bytesOf l) p 0)
+      ∙ List·getD-append (tabulate (l .posts) (tracksAt l)) _ 0 p (rw length-tabulate h)
+      ∙ at-tabulate (l .posts) (tracksAt l) p 0 h
+
+  trains-byte : byteAt (bytesOf l) (trainsAt (l .posts)) ≡ l .trains
+  unfolding bytesOf
+  trains-byte =
+      let counts = tabulate (l .posts) (tracksAt l) in
+      sym (getD-drop 4 (bytesOf l) (l .posts) 0)
+      ∙ getD-at counts (l .trains) _ 0 (l .posts) (length-tabulate (l .posts) (tracksAt l))
+
+  -- a place in the run of routes
+  route-byte : (k : ℕ) → byteAt (bytesOf l) (5 + l .posts + k) ≡ byteAt (routeBytes (tabulate (l .trains) (routeOf l))) k
+  unfolding bytesOf
+  route-byte k =
+      let counts = tabulate (l .posts) (tracksAt l) in
+      let rest = l .trains ∷ routeBytes (tabulate (l .trains) (routeOf l)) in
+      let e : 5 + l .posts + k ≡ 4 + (length counts + suc k) = rw length-tabulate (omega arith) in
+      rw e (sym (getD-drop 4 (bytesOf l) (length counts + suc k) 0) ∙ getD-append-add counts rest (suc k) 0)
+
+  route-is : (t : ℕ) → t < l .trains → routeIn (bytesOf l) (l .posts) t ≡ routeOf l t
+  route-is t h =
+      let rs = tabulate (l .trains) (routeOf l) in
+      let e : endAt (l .posts) t ≡ 5 + l .posts + suc (2 * t) = omega arith in
+      let a : getD rs t noRoute ≡ routeOf l t = at-tabulate (l .trains) (routeOf l) t noRoute h in
+      rw (e, route-byte (2 * t), route-byte (suc (2 * t)), start-byte rs t, end-byte rs t, a)
+
+  length-bytes : length (bytesOf l) ≡ total (l .posts) (l .trains)
+  unfolding bytesOf
+  length-bytes = simp (length-append, length-tabulate, length-routes) (omega arith)
+
+  length-field : named (bytesOf l) ≡ length (bytesOf l)
+  unfolding bytesOf
+  length-field = let n = length-bytes in omega arith
+
+  version-byte : byteAt (bytesOf l) versionAt ≡ 1
+  unfolding bytesOf
+  version-byte = refl
+
+  module _ (well : wellFormed l ≡ true) (pad : Padded l) where
+    line-back : lineOf (bytesOf l) ≡ l
+    unfolding bytesOf
+    line-back = sym (line-is l (lineOf (bytesOf l)) refl
+        (padded-is 8 (l .posts) _ 0 (l .tracks) (pad .eight) (λ p k h. sym (count-byte p h)) (pad .no-tracks))
+        (sym trains-byte)
+        (rw trains-byte
+        (padded-is 6 (l .trains) _ noRoute (l .routes) (pad .six) (λ t k h. sym (route-is t h)) (pad .no-routes))))
+
+    read-back : readBook (bytesOf l) ≡ accepted l
+    unfolding readBook
+    read-back =
+        let whole = length-bytes ∙ ap (λ (m : Line). total (m .posts) (m .trains)) (sym line-back) in
+        accepts (accepted (lineOf (bytesOf l))) refusedBy (all-pass (bytesOf l) length-field version-byte (rw line-back well) whole)
+        ∙ ap accepted line-back
+
+-- ---- the claims
+
+read-as : (b : List ℕ) (l : Line) → readBook b ≡ accepted l → ReadAs b l
+read-as b l e =
+    let r = read-line b l e in
+    let f = facts b (r .0) in
+    rw (r .1) record {
+      formed = formed b (r .0);
+      padded = rest-0 b (r .0);
+      bytes = spelled b (r .0);
+      short = omega (arith, whole b (r .0), f .few-posts, f .few-trains);
+    }
+
+pub line-book : LineBook
+line-book = record {
+  only = read-as;
+  back = read-back;
+  not-2 = λ b. not-met number.shortStore b refl refl;
+  not-19 = λ b. not-met number.overfull b refl refl;
+  not-20 = λ b. not-met number.noWayThrough b refl refl;
+}

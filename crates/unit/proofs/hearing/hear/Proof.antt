@@ -1,0 +1,247 @@
+-- `hear` meets its contract: at each `return` the message and the tests that led there say which case of `hearFrame`
+-- holds.
+-- Assumes nothing.
+use mathlib.Core.Path.{_≡_, sym, _∙_}
+use mathlib.Core.Bool.{true}
+use mathlib.Core.List.{List}
+use Prim.Native.Nat.{ℕ}
+use denote.Ref.{now}
+use borrow.Author.Tests.{not-true, not-false}
+use Rattle.frame.specs.Frame.{readFrame}
+use Rattle.unit.specs.Types.{Move, Fe, Afe, Unit}
+use Rattle.unit.specs.State.{validUnit}
+use Rattle.unit.proofs.Frames as frames
+use borrow.Author.Needs.{needs}
+use Rattle.unit.proofs.hearing.hear.Statement.{statement}
+use Rattle.unit.proofs.hearing.hear.Tie as tie
+
+valid-requires : tie.Need-valid-requires
+valid-requires c κs = search needs
+
+answered-requires : tie.Need-answered-requires
+answered-requires c κs = search needs
+
+returns : tie.Need-returns
+returns c =
+    c .answered .ensures
+    ∙ frames.strange _ _ (sym (c .before .before .valid .ensures) ∙ not-true _ (c .before .if1 .taken))
+
+module _ (c : tie.After-read) where
+  abbrev unit : Unit
+  unit = c .before .before .before .before .args .unit
+
+  abbrev bytes : List ℕ
+  bytes = now (c .before .before .before .before .args .frame)
+
+  good : validUnit unit ≡ true
+  good = sym (c .before .before .valid .ensures) ∙ not-false _ (c .before .if1 .left)
+
+-- an FE was read
+module _ (c : tie.After-m) where
+  abbrev fe : Move
+  fe = c .m .given .0 .0
+
+  is-fe : readFrame (bytes (c .before .before)) ≡ Fe fe
+  is-fe = sym (c .before .before .read .ensures) ∙ c .m .given .1
+
+-- an AFE was read
+module _ (c : tie.After-m2) where
+  abbrev afe : Move
+  afe = c .m2 .given .0 .0
+
+  is-afe : readFrame (bytes (c .before .before)) ≡ Afe afe
+  is-afe = sym (c .before .before .read .ensures) ∙ c .m2 .given .1
+
+read-requires : tie.Need-read-requires
+read-requires c κs = search needs
+
+enum-told : tie.Need-enum-told
+enum-told c = search needs
+
+answered-requires-2 : tie.Need-answered-requires-2
+answered-requires-2 c κs = search needs
+
+enum-known-m : tie.Need-enum-known-m
+enum-known-m c = search needs
+
+answered-requires-3 : tie.Need-answered-requires-3
+answered-requires-3 c κs = search needs
+
+returns-2 : tie.Need-returns-2
+returns-2 c =
+    let m = c .before .before .before .before .before in
+    c .answered3 .ensures ∙ frames.fe-for-another _ _ (good (m .before .before)) _ (is-fe m) (c .before .if2 .taken)
+
+for-move-requires : tie.Need-for-move-requires
+for-move-requires c κs = search needs
+
+answered-requires-4 : tie.Need-answered-requires-4
+answered-requires-4 c κs = search needs
+
+-- and it is for the unit's own train
+module _ (c : tie.After-for-move) where
+  abbrev at-fe : tie.After-m
+  at-fe = c .before .before .before .before .before
+
+  fe-good : validUnit (unit (at-fe .before .before)) ≡ true
+  fe-good = good (at-fe .before .before)
+
+module _ (c : tie.After-for-move2) where
+  abbrev at-afe : tie.After-m2
+  at-afe = c .before .before
+
+  afe-good : validUnit (unit (at-afe .before .before)) ≡ true
+  afe-good = good (at-afe .before .before)
+
+returns-3 : tie.Need-returns-3
+returns-3 c =
+    let a = c .before .before in
+    c .answered4 .ensures
+    ∙ frames.fe-for-another-move _ _ (fe-good a) _ (is-fe (at-fe a)) (a .before .if2 .left)
+        (sym (a .for-move .ensures) ∙ not-true _ (c .before .if3 .taken))
+
+awaiting-requires : tie.Need-awaiting-requires
+awaiting-requires c κs = search needs
+
+answered-requires-5 : tie.Need-answered-requires-5
+answered-requires-5 c κs = search needs
+
+returns-4 : tie.Need-returns-4
+returns-4 c =
+    let w = c .before .before in
+    let a = w .before .before in
+    c .answered5 .ensures
+    ∙ frames.fe-not-now _ _ (fe-good a) _ (is-fe (at-fe a)) (a .before .if2 .left)
+        (sym (a .for-move .ensures) ∙ not-false _ (w .before .if3 .left))
+        (sym (w .awaiting .ensures) ∙ not-true _ (c .before .if4 .taken))
+
+in-phase-requires : tie.Need-in-phase-requires
+in-phase-requires c κs = search needs
+
+answered-requires-6 : tie.Need-answered-requires-6
+answered-requires-6 c κs = search needs
+
+enum-known-m-2 : tie.Need-enum-known-m-2
+enum-known-m-2 c = search needs
+
+for-move-requires-2 : tie.Need-for-move-requires-2
+for-move-requires-2 c κs = search needs
+
+answered-requires-7 : tie.Need-answered-requires-7
+answered-requires-7 c κs = search needs
+
+returns-5 : tie.Need-returns-5
+returns-5 c =
+    let a = c .before .before in
+    c .answered7 .ensures
+    ∙ frames.afe-for-another _ _ (afe-good a) _ (is-afe (at-afe a))
+        (sym (a .for-move2 .ensures) ∙ not-true _ (c .before .if5 .taken))
+
+same-requires : tie.Need-same-requires
+same-requires c κs = search needs
+
+answered-requires-8 : tie.Need-answered-requires-8
+answered-requires-8 c κs = search needs
+
+returns-6 : tie.Need-returns-6
+returns-6 c =
+    let w = c .before .before in
+    let a = w .before .before in
+    c .answered8 .ensures
+    ∙ frames.afe-not-now _ _ (afe-good a) _ (is-afe (at-afe a))
+        (sym (a .for-move2 .ensures) ∙ not-false _ (w .before .if5 .left))
+        (sym (w .same .ensures) ∙ not-true _ (c .before .if6 .taken))
+
+in-phase-requires-2 : tie.Need-in-phase-requires-2
+in-phase-requires-2 c κs = search needs
+
+answered-requires-9 : tie.Need-answered-requires-9
+answered-requires-9 c κs = search needs
+
+enum-told-2 : tie.Need-enum-told-2
+enum-told-2 c = search needs
+
+answered-requires-10 : tie.Need-answered-requires-10
+answered-requires-10 c κs = search needs
+
+enum-known-n : tie.Need-enum-known-n
+enum-known-n c = search needs
+
+answered-requires-11 : tie.Need-answered-requires-11
+answered-requires-11 c κs = search needs
+
+returns-7 : tie.Need-returns-7
+returns-7 c =
+    let r = c .before .before .before in
+    c .answered2 .ensures ∙ frames.fa _ _ (good r) _ (sym (r .read .ensures) ∙ c .before .enum-told .given .1)
+
+returns-8 : tie.Need-returns-8
+returns-8 c =
+    let w = c .before .before .before in
+    let a = w .before .before in
+    c .answered6 .ensures
+    ∙ frames.fe-granted _ _ (fe-good a) _ (is-fe (at-fe a)) (a .before .if2 .left)
+        (sym (a .for-move .ensures) ∙ not-false _ (w .before .if3 .left))
+        (sym (w .awaiting .ensures) ∙ not-false _ (c .before .before .if4 .left))
+        _ (c .before .in-phase .ensures)
+
+returns-9 : tie.Need-returns-9
+returns-9 c =
+    let w = c .before .before .before in
+    let a = w .before .before in
+    c .answered9 .ensures
+    ∙ frames.afe-declined _ _ (afe-good a) _ (is-afe (at-afe a))
+        (sym (a .for-move2 .ensures) ∙ not-false _ (w .before .if5 .left))
+        (sym (w .same .ensures) ∙ not-false _ (c .before .before .if6 .left))
+        _ (c .before .in-phase2 .ensures)
+
+returns-10 : tie.Need-returns-10
+returns-10 c =
+    let r = c .before .before .before in
+    c .answered10 .ensures ∙ frames.am _ _ (good r) _ (sym (r .read .ensures) ∙ c .before .enum-told2 .given .1)
+
+returns-11 : tie.Need-returns-11
+returns-11 c =
+    let n = c .before .before in
+    let r = n .before .before in
+    c .answered11 .ensures ∙ frames.not-read _ _ (good r) _ (sym (r .read .ensures) ∙ n .n .given .1)
+
+pub hear-spec : {M : Type 1} → statement M
+hear-spec =
+    tie.close
+    (tie.spec
+    valid-requires
+    answered-requires
+    returns
+    read-requires
+    enum-told
+    answered-requires-2
+    enum-known-m
+    answered-requires-3
+    returns-2
+    for-move-requires
+    answered-requires-4
+    returns-3
+    awaiting-requires
+    answered-requires-5
+    returns-4
+    in-phase-requires
+    answered-requires-6
+    enum-known-m-2
+    for-move-requires-2
+    answered-requires-7
+    returns-5
+    same-requires
+    answered-requires-8
+    returns-6
+    in-phase-requires-2
+    answered-requires-9
+    enum-told-2
+    answered-requires-10
+    enum-known-n
+    answered-requires-11
+    returns-7
+    returns-8
+    returns-9
+    returns-10
+    returns-11)

@@ -1,0 +1,167 @@
+-- `press` meets its contract: at each `return` the tests that led there say which case of `pressButton` holds.
+-- Assumes nothing.
+use mathlib.Core.Path.{_≡_, sym, ap, _∙_}
+use mathlib.Core.Bool.{true}
+use borrow.Author.Tests.{not-true, not-false}
+use Rattle.unit.specs.Types.{Unit, Button}
+use Rattle.unit.specs.State.{samePhase, validUnit}
+use Rattle.unit.specs.Pressing.{phaseFor}
+use Rattle.unit.proofs.Buttons.{strange, other-phase, no-move, ask, depart, reached, report}
+use borrow.Author.Needs.{needs}
+use Rattle.unit.proofs.pressing.press.Statement.{statement}
+use Rattle.unit.proofs.pressing.press.Tie as tie
+
+valid-requires : tie.Need-valid-requires
+valid-requires c κs = search needs
+
+silent-requires : tie.Need-silent-requires
+silent-requires c κs = search needs
+
+returns : tie.Need-returns
+returns c = c .silent .ensures ∙ strange _ _ (sym (c .before .before .valid .ensures) ∙ not-true _ (c .before .if1 .taken))
+
+phase-for-requires : tie.Need-phase-for-requires
+phase-for-requires c κs = search needs
+
+same-requires : tie.Need-same-requires
+same-requires c κs = search needs
+
+silent-requires-2 : tie.Need-silent-requires-2
+silent-requires-2 c κs = search needs
+
+module _ (c : tie.After-same) where
+  abbrev unit : Unit
+  unit = c .before .before .before .before .before .args .unit
+
+  abbrev button : Button
+  button = c .before .before .before .before .before .args .button
+
+  good : validUnit unit ≡ true
+  good = sym (c .before .before .before .valid .ensures) ∙ not-false _ (c .before .before .if1 .left)
+
+  tested : c .same .result ≡ samePhase (unit .phase) (phaseFor button)
+  tested = c .same .ensures ∙ ap (samePhase (unit .phase)) (c .before .phase-for .ensures)
+
+returns-2 : tie.Need-returns-2
+returns-2 c =
+    let s = c .before .before in
+    c .silent2 .ensures ∙ other-phase _ _ (good s) (sym (tested s) ∙ not-true _ (c .before .if2 .taken))
+
+module _ (c : tie.Else2) where
+  fits : samePhase (unit (c .before) .phase) (phaseFor (button (c .before))) ≡ true
+  fits = sym (tested (c .before)) ∙ not-false _ (c .if2 .left)
+
+silent-requires-3 : tie.Need-silent-requires-3
+silent-requires-3 c κs = search needs
+
+returns-3 : tie.Need-returns-3
+returns-3 c = let e = c .before .before .before .before in c .silent3 .ensures ∙ no-move _ _ (good (e .before)) (fits e) (c .before .if3 .taken)
+
+-- the tests that led to the arms
+module _ (c : tie.Else3) where
+  abbrev passed : tie.Else2
+  passed = c .before .before .before
+
+enum-told : tie.Need-enum-told
+enum-told c = search needs
+
+in-phase-requires : tie.Need-in-phase-requires
+in-phase-requires c κs = search needs
+
+own-move-requires : tie.Need-own-move-requires
+own-move-requires c κs = search needs
+
+sending-requires : tie.Need-sending-requires
+sending-requires c κs = search needs
+
+enum-told-2 : tie.Need-enum-told-2
+enum-told-2 c = search needs
+
+in-phase-requires-2 : tie.Need-in-phase-requires-2
+in-phase-requires-2 c κs = search needs
+
+silent-requires-4 : tie.Need-silent-requires-4
+silent-requires-4 c κs = search needs
+
+enum-told-3 : tie.Need-enum-told-3
+enum-told-3 c = search needs
+
+in-phase-requires-3 : tie.Need-in-phase-requires-3
+in-phase-requires-3 c κs = search needs
+
+silent-requires-5 : tie.Need-silent-requires-5
+silent-requires-5 c κs = search needs
+
+enum-told-4 : tie.Need-enum-told-4
+enum-told-4 c = search needs
+
+moved-on-requires : tie.Need-moved-on-requires
+moved-on-requires c κs = search needs
+
+own-move-requires-2 : tie.Need-own-move-requires-2
+own-move-requires-2 c κs = search needs
+
+sending-requires-2 : tie.Need-sending-requires-2
+sending-requires-2 c κs = search needs
+
+returns-4 : tie.Need-returns-4
+returns-4 c =
+    let told = c .before .before .before in
+    let s = told .before .before in
+    c .sending .ensures
+    ∙ ask _ _ (good (passed s .before)) (fits (passed s)) (s .if3 .left) (told .enum-told .given .1)
+    _ _ (c .before .before .in-phase .ensures) (c .before .own-move .ensures)
+
+returns-5 : tie.Need-returns-5
+returns-5 c =
+    let told = c .before .before in
+    let s = told .before .before in
+    c .silent4 .ensures
+    ∙ depart _ _ (good (passed s .before)) (fits (passed s)) (s .if3 .left) (told .enum-told2 .given .1) _ (c .before .in-phase2 .ensures)
+
+returns-6 : tie.Need-returns-6
+returns-6 c =
+    let told = c .before .before in
+    let s = told .before .before in
+    c .silent5 .ensures
+    ∙ reached _ _ (good (passed s .before)) (fits (passed s)) (s .if3 .left) (told .enum-told3 .given .1) _ (c .before .in-phase3 .ensures)
+
+returns-7 : tie.Need-returns-7
+returns-7 c =
+    let told = c .before .before .before in
+    let s = told .before .before in
+    c .sending2 .ensures
+    ∙ report _ _ (good (passed s .before)) (fits (passed s)) (s .if3 .left) (told .enum-told4 .given .1)
+    _ _ (c .before .before .moved-on .ensures) (c .before .own-move2 .ensures)
+
+pub press-spec : {M : Type 1} → statement M
+press-spec =
+    tie.close
+    (tie.spec
+    valid-requires
+    silent-requires
+    returns
+    phase-for-requires
+    same-requires
+    silent-requires-2
+    returns-2
+    silent-requires-3
+    returns-3
+    enum-told
+    in-phase-requires
+    own-move-requires
+    sending-requires
+    enum-told-2
+    in-phase-requires-2
+    silent-requires-4
+    enum-told-3
+    in-phase-requires-3
+    silent-requires-5
+    enum-told-4
+    moved-on-requires
+    own-move-requires-2
+    sending-requires-2
+    returns-4
+    returns-5
+    returns-6
+    returns-7)

@@ -1,0 +1,14 @@
+-- `own_move` meets its contract: the next post is `next_post`'s.
+-- Assumes nothing.
+use borrow.Author.Needs.{needs}
+use Rattle.unit.proofs.state.own_move.Statement.{statement}
+use Rattle.unit.proofs.state.own_move.Tie as tie
+
+next-post-requires : tie.Need-next-post-requires
+next-post-requires c κs = search needs
+
+returns : tie.Need-returns
+returns c = rw (c .next-post .ensures)
+
+pub own-move-spec : {M : Type 1} → statement M
+own-move-spec = tie.close (tie.spec next-post-requires returns)

@@ -1,0 +1,65 @@
+-- Hearing a frame. 01: "Checks: 1, then 3, 4, 5, 6, 22 for frames".
+use mathlib.Core.Bool.{Bool, true, false, cond, not, _&&_, _||_}
+use mathlib.Core.List.{List, [], _∷_, _++_}
+use Prim.Native.Nat.{ℕ}
+use lib.Dec.{eqb}
+use Rattle.common.specs.Check.{Check, check, refusal, unlessRefused}
+use Rattle.line.specs.Refusal.{strangeState, wrongEnd, notAwaited}
+use Rattle.frame.specs.Frame.{readChecks, readFrame}
+use Rattle.unit.specs.Types.{Move, Message, Fa, Fe, Afe, Am, Refused, Phase, Standing, Asked, Declined, Granted, UnderWay, Arrived, Unit, Heard}
+use Rattle.unit.specs.State.{samePhase, ownMove, inPhase, validUnit}
+
+-- "for its own train"
+abbrev pub forTrain : Unit → Move → Bool
+forTrain u m = eqb (m .train .0) (u .train .0)
+
+-- "for its own train and move": from the present to the next post. At the end there is none, but a valid unit there is Standing and awaits nothing.
+unfoldable pub forMove : Unit → Move → Bool
+forMove u m = forTrain u m && (eqb (m .from .0) (ownMove u .from .0) && eqb (m .to .0) (ownMove u .to .0))
+
+-- it has asked and has no authority yet
+abbrev pub awaiting : Phase → Bool
+awaiting Standing = false
+awaiting Asked = true
+awaiting Declined = true
+awaiting Granted = false
+awaiting UnderWay = false
+awaiting Arrived = false
+
+-- "FA, AM at a unit" are 6
+abbrev pub forUnit : Message → Bool
+forUnit (Fa m) = false
+forUnit (Fe m) = true
+forUnit (Afe m) = true
+forUnit (Am m) = false
+forUnit (Refused n) = false
+
+-- "FE in the wrong state or for another move" is 22; "an FE for another train" is not
+abbrev pub awaited : Unit → Message → Bool
+awaited u (Fa m) = true
+awaited u (Fe m) = not (forTrain u m) || (forMove u m && awaiting (u .phase))
+awaited u (Afe m) = true
+awaited u (Am m) = true
+awaited u (Refused n) = true
+
+abbrev pub hearChecks : Unit → List ℕ → List Check
+hearChecks u f =
+    check strangeState (validUnit u)
+    ∷ (readChecks f ++ (check wrongEnd (forUnit (readFrame f)) ∷ check notAwaited (awaited u (readFrame f)) ∷ []))
+
+-- "Heard FE for its own train and move: Asked or Declined to Granted. Heard AFE for its own train and move: Asked to Declined. .. Any other AFE, and
+-- an FE for another train, changes nothing."
+unfoldable pub phaseAfter : Unit → Message → Phase
+phaseAfter u (Fa m) = u .phase
+phaseAfter u (Fe m) = cond (forMove u m) Granted (u .phase)
+phaseAfter u (Afe m) = cond (forMove u m && samePhase (u .phase) Asked) Declined (u .phase)
+phaseAfter u (Am m) = u .phase
+phaseAfter u (Refused n) = u .phase
+
+-- the unit, and the number of the refusal or 0
+abbrev pub answered : Unit → ℕ → Heard
+answered u n = record { unit = u; refusal = n }
+
+-- "A refusal returns its number and the state unchanged"
+unfoldable pub hearFrame : Unit → List ℕ → Heard
+hearFrame u f = unlessRefused (refusal (hearChecks u f)) (answered (inPhase u (phaseAfter u (readFrame f))) 0) (answered u)

@@ -1,0 +1,146 @@
+-- The claim on a unit's whole history: any list of presses and frames, in any order, torn and refused ones included. It is told from what went in and
+-- what came out, never from the unit's state.
+use mathlib.Core.Path.{_≡_}
+use mathlib.Core.Logic.{_≢_}
+use mathlib.Core.Bool.{Bool, true, false, cond, _||_}
+use mathlib.Core.List.{List, [], _∷_, _++_, map}
+use Prim.Native.Nat.{ℕ, zero, suc}
+use lib.Dec.{eqb}
+use Rattle.line.specs.Route.{nextPost}
+use Rattle.frame.specs.Frame.{moveOf, readFrame}
+use Rattle.unit.specs.Types.{Move, Message, Fa, Fe, Afe, Am, Refused, Button, Unit, Pressed, Heard}
+use Rattle.unit.specs.Making.{makeUnit}
+use Rattle.unit.specs.Pressing.{pressButton}
+use Rattle.unit.specs.Hearing.{hearFrame}
+
+-- ---- what goes in and what comes out
+
+pub data Input : Type 0 where
+  press : Button → Input
+  frame : List ℕ → Input
+
+-- an input, the number of the refusal or 0, and the bytes that were sent: none or a frame's
+pub record Exchange : Type 0 where
+  pub input : Input
+  pub refusal : ℕ
+  pub sent : List ℕ
+
+abbrev pub ofPress : Button → Pressed → Exchange
+ofPress b r = record { input = press b; refusal = r .refusal; sent = cond (r .sent) (r .frame) [] }
+
+abbrev pub ofFrame : List ℕ → Heard → Exchange
+ofFrame f r = record { input = frame f; refusal = r .refusal; sent = [] }
+
+abbrev pub exchange : Unit → Input → Exchange
+exchange u (press b) = ofPress b (pressButton u b)
+exchange u (frame f) = ofFrame f (hearFrame u f)
+
+abbrev pub after : Unit → Input → Unit
+after u (press b) = pressButton u b .unit
+after u (frame f) = hearFrame u f .unit
+
+-- the first input goes to u, and each later one to the unit that the one before left
+unfoldable pub run : Unit → List Input → List Exchange
+run u [] = []
+run u (i ∷ is) = let rest = run (after u i) is in exchange u i ∷ rest
+
+-- ---- what an exchange says
+
+-- FA sent for a move; FE heard for it, and accepted; AM sent for it; anything else
+pub data Event : Type 0 where
+  fa : Move → Event
+  fe : Move → Event
+  am : Move → Event
+  other : Event
+
+abbrev pub sentEvent : Message → Event → Event
+sentEvent (Fa m) e = fa m
+sentEvent (Fe m) e = e
+sentEvent (Afe m) e = e
+sentEvent (Am m) e = am m
+sentEvent (Refused n) e = e
+
+abbrev pub acceptedEvent : Message → Event
+acceptedEvent (Fa m) = other
+acceptedEvent (Fe m) = fe m
+acceptedEvent (Afe m) = other
+acceptedEvent (Am m) = other
+acceptedEvent (Refused n) = other
+
+abbrev pub heardEvent : Input → ℕ → Event
+heardEvent (press b) n = other
+heardEvent (frame f) zero = acceptedEvent (readFrame f)
+heardEvent (frame f) (suc n) = other
+
+-- by reading the bytes sent or, where none were, the bytes of a frame that was accepted
+unfoldable pub eventOf : Exchange → Event
+eventOf x = sentEvent (readFrame (x .sent)) (heardEvent (x .input) (x .refusal))
+
+-- ---- what the events so far say
+
+abbrev pub isAm : Event → Bool
+isAm (fa m) = false
+isAm (fe m) = false
+isAm (am m) = true
+isAm other = false
+
+-- an FE for this train
+abbrev pub isFe : ℕ → Event → Bool
+isFe t (fa m) = false
+isFe t (fe m) = eqb (m .train .0) t
+isFe t (am m) = false
+isFe t other = false
+
+unfoldable pub some : (Event → Bool) → List Event → Bool
+some f [] = false
+some f (x ∷ xs) = let r = some f xs in f x || r
+
+-- the post that an event reports as reached; p where it reports none
+abbrev pub reported : ℕ → Event → ℕ
+reported p (fa m) = p
+reported p (fe m) = p
+reported p (am m) = m .to .0
+reported p other = p
+
+-- the post of the last AM, or p where there was none
+unfoldable pub place : ℕ → List Event → ℕ
+place p [] = p
+place p (x ∷ xs) = place (reported p x) xs
+
+-- m leads from this post, which is not the end, to the next one towards the end
+pub record Onward (train end post : ℕ) (m : Move) : Type 0 where
+  pub short : post ≢ end
+  pub move : m ≡ moveOf train post (nextPost post end)
+
+-- FA was sent for m, and since then no AM was sent and no FE for this train accepted: the move is asked for, and the answer outstanding or declined
+pub record Requested (train : ℕ) (past : List Event) (m : Move) : Type 0 where
+  pub before : List Event
+  pub since : List Event
+  pub parts : past ≡ before ++ (fa m ∷ since)
+  pub no-am : some isAm since ≡ false
+  pub no-fe : some (isFe train) since ≡ false
+
+-- FE for m was accepted when m was requested, and since then no AM was sent: the move is granted, and not yet reported
+pub record Authorised (train : ℕ) (past : List Event) (m : Move) : Type 0 where
+  pub before : List Event
+  pub since : List Event
+  pub parts : past ≡ before ++ (fe m ∷ since)
+  pub requested : Requested train before m
+  pub no-am : some isAm since ≡ false
+
+-- ---- the claim
+
+pub record Orderly (train start end : ℕ) (events : List Event) : Type 0 where
+  -- AM is sent only for a move that was asked for, and then granted by an FE for that very move, with no other AM in between
+  pub am-granted : (past later : List Event) (m : Move) → events ≡ past ++ (am m ∷ later) → Authorised train past m
+  -- FE for the unit's own train is accepted only for a move that is asked for, and only once
+  pub fe-awaited : (past later : List Event) (m : Move) → events ≡ past ++ (fe m ∷ later) → m .train .0 ≡ train → Requested train past m
+  -- between two FAs lies an AM
+  pub one-request : (past between later : List Event) (m n : Move)
+      → events ≡ past ++ (fa m ∷ (between ++ (fa n ∷ later))) → some isAm between ≡ true
+  -- each FA and each AM is for the move from the post that the last AM reported, at first from the start, to the next one towards the end
+  pub fa-onward : (past later : List Event) (m : Move) → events ≡ past ++ (fa m ∷ later) → Onward train end (place start past) m
+  pub am-onward : (past later : List Event) (m : Move) → events ≡ past ++ (am m ∷ later) → Onward train end (place start past) m
+
+abbrev pub History : Type 0
+History = (t a e : ℕ) → makeUnit t a e .refusal ≡ 0 → (is : List Input) → Orderly t a e (map eventOf (run (makeUnit t a e .unit) is))

@@ -1,0 +1,90 @@
+// Hearing a frame: refusals 1, 3, 4, 5, 6 and 22, in that order.
+ghost use mathlib.Core.Path.{_≡_};
+ghost use Rattle.unit.specs.Hearing.{forMove, awaiting, answered, hearFrame};
+use crate::state::Phase;
+use crate::state::Unit;
+use crate::state::in_phase;
+use crate::state::own_move;
+use crate::state::same;
+use crate::state::valid;
+use frame::Message;
+use frame::Move;
+use line::refusal::NOT_AWAITED;
+use line::refusal::STRANGE_STATE;
+use line::refusal::WRONG_END;
+
+// The unit afterwards, and the number of the refusal, or 0.
+pub struct Heard {
+    pub unit: Unit,
+    pub refusal: u8,
+}
+
+// What a frame of any bytes does.
+pub fn hear(unit: Unit, frame: &[u8]) -> Heard
+    ensures { λ r. ⌜ r ≡ hearFrame unit (now (frame .entry)) ⌝ }
+{
+    let phase = unit.phase;
+    if !valid(unit) {
+        return answered(unit, STRANGE_STATE);
+    }
+    match frame::read(frame) {
+        Message::Fa(_) => answered(unit, WRONG_END),
+        Message::Fe(m) => {
+            if m.train.0 != unit.train.0 {
+                return answered(unit, 0);
+            }
+            if !for_move(unit, m) {
+                return answered(unit, NOT_AWAITED);
+            }
+            if !awaiting(phase) {
+                return answered(unit, NOT_AWAITED);
+            }
+            answered(in_phase(unit, Phase::Granted), 0)
+        }
+        Message::Afe(m) => {
+            if !for_move(unit, m) {
+                return answered(unit, 0);
+            }
+            if !same(phase, Phase::Asked) {
+                return answered(unit, 0);
+            }
+            answered(in_phase(unit, Phase::Declined), 0)
+        }
+        Message::Am(_) => answered(unit, WRONG_END),
+        Message::Refused(n) => answered(unit, n),
+    }
+}
+
+// Whether the move is the unit's own: its train, from its present to its next post.
+fn for_move(unit: Unit, m: Move) -> bool
+    ensures { λ r. ⌜ r ≡ forMove unit m ⌝ }
+{
+    let own = own_move(unit);
+    if m.train.0 != own.train.0 {
+        return false;
+    }
+    m.from.0 == own.from.0 && m.to.0 == own.to.0
+}
+
+// Whether the unit has asked and has no authority yet.
+fn awaiting(phase: Phase) -> bool
+    ensures { λ r. ⌜ r ≡ awaiting phase ⌝ }
+{
+    match phase {
+        Phase::Standing => false,
+        Phase::Asked => true,
+        Phase::Declined => true,
+        Phase::Granted => false,
+        Phase::UnderWay => false,
+        Phase::Arrived => false,
+    }
+}
+
+fn answered(unit: Unit, refusal: u8) -> Heard
+    ensures { λ r. ⌜ r ≡ answered unit refusal ⌝ }
+{
+    Heard {
+        unit: unit,
+        refusal: refusal,
+    }
+}

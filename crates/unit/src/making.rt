@@ -1,0 +1,46 @@
+// Making a unit: refusal 18.
+ghost use mathlib.Core.Path.{_≡_};
+ghost use Rattle.unit.specs.Making.{standingUnit, makeUnit};
+use crate::state::Phase;
+use crate::state::Unit;
+use crate::state::numbers_fit;
+use line::PostNo;
+use line::Route;
+use line::TrainNo;
+use line::refusal::OFF_THE_LINE;
+
+// The unit that was made, and 0; or the empty unit, which is not valid, and 18.
+pub struct Made {
+    pub unit: Unit,
+    pub refusal: u8,
+}
+
+// A unit for a train and its route, Standing at its start.
+pub fn make(train: TrainNo, start: PostNo, end: PostNo) -> Made
+    ensures { λ r. ⌜ r ≡ makeUnit (train .0) (start .0) (end .0) ⌝ }
+{
+    if !numbers_fit(train, start, end) {
+        return Made {
+            unit: standing(TrainNo(255), PostNo(0), PostNo(0)),
+            refusal: OFF_THE_LINE,
+        };
+    }
+    Made {
+        unit: standing(train, start, end),
+        refusal: 0,
+    }
+}
+
+fn standing(train: TrainNo, start: PostNo, end: PostNo) -> Unit
+    ensures { λ r. ⌜ r ≡ standingUnit (train .0) (start .0) (end .0) ⌝ }
+{
+    Unit {
+        train: train,
+        route: Route {
+            start: start,
+            end: end,
+        },
+        at: start,
+        phase: Phase::Standing,
+    }
+}

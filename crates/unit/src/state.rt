@@ -1,0 +1,116 @@
+// The state of a unit, and whether one that is handed in is valid (01: sound).
+ghost use mathlib.Core.Path.{_≡_};
+ghost use Rattle.unit.specs.State.{numbersFit, phaseNo, samePhase, ownMove, inPhase, validUnit};
+use frame::Move;
+use line::PostNo;
+use line::Route;
+use line::TrainNo;
+
+// Where the unit is in the course of one move.
+pub enum Phase {
+    // At a post, with nothing asked.
+    Standing,
+    // FA sent.
+    Asked,
+    // AFE heard: the request stays, and its FE may still come.
+    Declined,
+    // FE heard.
+    Granted,
+    // Between the two posts.
+    UnderWay,
+    // At the next post, with the arrival not reported yet.
+    Arrived,
+}
+
+// What the driver can press.
+pub enum Button {
+    Ask,
+    Depart,
+    Reached,
+    Report,
+}
+
+// `at` is the present post: it moves with the report of an arrival, not with the arrival.
+pub struct Unit {
+    pub train: TrainNo,
+    pub route: Route,
+    pub at: PostNo,
+    pub phase: Phase,
+}
+
+// 01: "A unit state is sound if train and posts are in range, the present post lies between start
+// and end, and only Standing may be at the end."
+pub fn valid(unit: Unit) -> bool
+    ensures { λ r. ⌜ r ≡ validUnit unit ⌝ }
+{
+    let route = unit.route;
+    let phase = unit.phase;
+    if !numbers_fit(unit.train, route.start, route.end) {
+        return false;
+    }
+    if !line::between(route.start, unit.at, route.end) {
+        return false;
+    }
+    if unit.at.0 != route.end.0 {
+        return true;
+    }
+    same(phase, Phase::Standing)
+}
+
+// Trains 0 to 5, posts 0 to 7.
+pub(crate) fn numbers_fit(train: TrainNo, start: PostNo, end: PostNo) -> bool
+    ensures { λ r. ⌜ r ≡ numbersFit (train .0) (start .0) (end .0) ⌝ }
+{
+    if train.0 > 5 {
+        return false;
+    }
+    start.0 <= 7 && end.0 <= 7
+}
+
+// Whether the two are one phase.
+pub(crate) fn same(a: Phase, b: Phase) -> bool
+    ensures { λ r. ⌜ r ≡ samePhase a b ⌝ }
+{
+    number(a) == number(b)
+}
+
+fn number(phase: Phase) -> u8
+    ensures { λ r. ⌜ r ≡ phaseNo phase ⌝ }
+{
+    match phase {
+        Phase::Standing => 0,
+        Phase::Asked => 1,
+        Phase::Declined => 2,
+        Phase::Granted => 3,
+        Phase::UnderWay => 4,
+        Phase::Arrived => 5,
+    }
+}
+
+// The move of the unit's train from its present to its next post.
+pub(crate) fn own_move(unit: Unit) -> Move
+    ensures { λ r. ⌜ r ≡ ownMove unit ⌝ }
+{
+    let train = unit.train;
+    let route = unit.route;
+    let from = unit.at;
+    Move {
+        train: train,
+        from: from,
+        to: line::next_post(from, route.end),
+    }
+}
+
+pub(crate) fn in_phase(unit: Unit, phase: Phase) -> Unit
+    ensures { λ r. ⌜ r ≡ inPhase unit phase ⌝ }
+{
+    let train = unit.train;
+    let route = unit.route;
+    let at = unit.at;
+    Unit {
+        train: train,
+        route: route,
+        at: at,
+        phase: phase,
+    }
+}

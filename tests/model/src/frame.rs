@@ -1,0 +1,65 @@
+//! Frames: seven bytes, 00 05, version 01, kind, train, from post, to post
+//! (refusals 3, 4, 5).
+
+/// A train and the two posts a frame names. Any bytes can stand here.
+#[derive(Debug, Clone, Copy, PartialEq, Eq)]
+pub struct Move {
+    pub train: u8,
+    pub from: u8,
+    pub to: u8,
+}
+
+/// The four messages: request, authority, authority declined, arrival.
+#[derive(Debug, Clone, Copy, PartialEq, Eq)]
+pub enum Message {
+    Fa(Move),
+    Fe(Move),
+    Afe(Move),
+    Am(Move),
+}
+
+impl Message {
+    /// The kind byte, 1 to 4.
+    pub fn kind(self) -> u8 {
+        match self {
+            Message::Fa(_) => 1,
+            Message::Fe(_) => 2,
+            Message::Afe(_) => 3,
+            Message::Am(_) => 4,
+        }
+    }
+
+    /// The train and posts named.
+    pub fn movement(self) -> Move {
+        match self {
+            Message::Fa(m) | Message::Fe(m) | Message::Afe(m) | Message::Am(m) => m,
+        }
+    }
+}
+
+/// Reads a frame as one of the four messages or as a refusal.
+pub fn read_frame(frame: &[u8]) -> Result<Message, u8> {
+    let [high, low, version, kind, train, from, to] = *frame else {
+        return Err(3);
+    };
+    if (high, low) != (0, 5) {
+        return Err(3);
+    }
+    if version != 1 {
+        return Err(4);
+    }
+    let m = Move { train, from, to };
+    match kind {
+        1 => Ok(Message::Fa(m)),
+        2 => Ok(Message::Fe(m)),
+        3 => Ok(Message::Afe(m)),
+        4 => Ok(Message::Am(m)),
+        _ => Err(5),
+    }
+}
+
+/// Writes the seven bytes of a message.
+pub fn write_frame(message: Message) -> [u8; 7] {
+    let m = message.movement();
+    [0, 5, 1, message.kind(), m.train, m.from, m.to]
+}

@@ -1,0 +1,65 @@
+//! The journal: a lent run of records, of which the first `count` are
+//! written. Records are only ever added at the count.
+
+use crate::frame::Message;
+
+/// Records a journal must have; more may be lent and stay untouched.
+pub const JOURNAL_RECORDS: usize = 176;
+
+/// One record. A lent journal can hold any bytes past its count.
+#[derive(Debug, Clone, Copy, PartialEq, Eq)]
+pub struct Record {
+    pub kind: u8,
+    pub train: u8,
+    pub from: u8,
+    pub to: u8,
+}
+
+impl Record {
+    /// All 0.
+    pub const BLANK: Record = Record {
+        kind: 0,
+        train: 0,
+        from: 0,
+        to: 0,
+    };
+
+    /// The record of a message.
+    pub fn of(message: Message) -> Record {
+        let m = message.movement();
+        Record {
+            kind: message.kind(),
+            train: m.train,
+            from: m.from,
+            to: m.to,
+        }
+    }
+
+    /// The trade's word for the kind, as the program prints it.
+    pub fn word(&self) -> &'static str {
+        match self.kind {
+            1 => "FA",
+            2 => "FE",
+            3 => "AFE",
+            4 => "AM",
+            _ => "?",
+        }
+    }
+}
+
+/// Writes a record at the count and gives the new count. With no place left,
+/// by the paper's 176 or by the slice, nothing changes.
+pub fn log(journal: &mut [Record], count: u8, record: Record) -> u8 {
+    let at = usize::from(count);
+    if at < JOURNAL_RECORDS && at < journal.len() {
+        journal[at] = record;
+        count + 1
+    } else {
+        count
+    }
+}
+
+/// The records below the count, or as many as there are.
+pub fn written(journal: &[Record], count: u8) -> &[Record] {
+    &journal[..usize::from(count).min(journal.len())]
+}

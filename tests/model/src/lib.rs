@@ -1,0 +1,23 @@
+//! A model of the two ends of Zugleitbetrieb, written from the paper alone.
+//!
+//! Every public function is total: it answers for any bytes, any lent slice
+//! and any numbers in a state, and never panics. A refusal is the paper's
+//! number, 1 to 22; 0 stands for "not refused" where a number is returned.
+
+#![forbid(unsafe_code)]
+#![allow(clippy::needless_range_loop)]
+
+pub mod dispatcher;
+pub mod frame;
+pub mod journal;
+pub mod line;
+pub mod program;
+pub mod table;
+pub mod unit;
+
+pub use dispatcher::{answer, open, sound, Standing, State, Train, Verdict, OUT_BYTES};
+pub use frame::{read_frame, write_frame, Message, Move};
+pub use journal::{Record, JOURNAL_RECORDS};
+pub use line::{read_book, Line};
+pub use table::{fill, TABLE_BYTES};
+pub use unit::{Button, Unit, UnitState};

@@ -1,0 +1,142 @@
+//! Helpers of the tests: the paper's books, frames, a small generator.
+
+#![allow(dead_code)]
+
+use model::*;
+
+/// Book X of the paper.
+pub const X: [u8; 12] = [0, 10, 1, 3, 1, 2, 1, 2, 0, 2, 2, 0];
+/// Book Y of the paper.
+pub const Y: [u8; 14] = [0, 12, 1, 3, 2, 1, 2, 3, 0, 2, 0, 2, 2, 0];
+
+pub const FA: u8 = 1;
+pub const FE: u8 = 2;
+pub const AFE: u8 = 3;
+pub const AM: u8 = 4;
+
+pub fn frame(kind: u8, train: u8, from: u8, to: u8) -> [u8; 7] {
+    [0, 5, 1, kind, train, from, to]
+}
+
+pub fn record(kind: u8, train: u8, from: u8, to: u8) -> Record {
+    Record {
+        kind,
+        train,
+        from,
+        to,
+    }
+}
+
+/// The book of a line given by its tracks and its trains' starts and ends.
+pub fn book(tracks: &[u8], trains: &[(u8, u8)]) -> Vec<u8> {
+    let mut rest = vec![1, tracks.len() as u8];
+    rest.extend(tracks);
+    rest.push(trains.len() as u8);
+    for (start, end) in trains {
+        rest.extend([*start, *end]);
+    }
+    let mut book = vec![0, rest.len() as u8];
+    book.extend(rest);
+    book
+}
+
+/// A box with its stores, as a run needs them.
+pub struct Box {
+    pub state: State,
+    pub table: Vec<u8>,
+    pub journal: Vec<Record>,
+}
+
+impl Box {
+    /// Opens a book that must be accepted.
+    pub fn open(book: &[u8]) -> Box {
+        let mut table = vec![0xA5; TABLE_BYTES];
+        let journal = vec![record(9, 9, 9, 9); JOURNAL_RECORDS];
+        let (state, refusal) = open(book, &mut table, &journal);
+        assert_eq!(refusal, 0);
+        Box {
+            state,
+            table,
+            journal,
+        }
+    }
+
+    /// Puts a frame; gives the frames sent (kind, train, from, to) or the refusal.
+    pub fn put(&mut self, frame: &[u8]) -> Result<Vec<[u8; 4]>, u8> {
+        let mut out = [0xEE; 42];
+        let (state, verdict) = answer(&self.state, &self.table, &mut self.journal, frame, &mut out);
+        match verdict {
+            Verdict::Refused(number) => {
+                assert_eq!(state, self.state);
+                assert_eq!(out, [0xEE; 42]);
+                Err(number)
+            }
+            Verdict::Sent(count) => {
+                self.state = state;
+                assert!(out[7 * count..].iter().all(|b| *b == 0xEE));
+                Ok(out
+                    .chunks(7)
+                    .take(count)
+                    .map(|f| {
+                        assert_eq!(f[..3], [0, 5, 1]);
+                        [f[3], f[4], f[5], f[6]]
+                    })
+                    .collect())
+            }
+        }
+    }
+}
+
+/// The refusal of an opening, with stores of the right size.
+pub fn refusal_of(book: &[u8]) -> u8 {
+    let mut table = vec![0; TABLE_BYTES];
+    let (state, refusal) = open(book, &mut table, &[Record::BLANK; 176]);
+    assert_eq!(refusal != 0, state == State::EMPTY);
+    assert_eq!(refusal == 0, sound(&state));
+    refusal
+}
+
+/// xorshift64*, with fixed seeds.
+pub struct Rng(pub u64);
+
+impl Rng {
+    pub fn word(&mut self) -> u64 {
+        self.0 ^= self.0 >> 12;
+        self.0 ^= self.0 << 25;
+        self.0 ^= self.0 >> 27;
+        self.0.wrapping_mul(0x2545_F491_4F6C_DD1D) >> 16
+    }
+
+    /// A number below n.
+    pub fn below(&mut self, n: u64) -> u64 {
+        self.word() % n
+    }
+
+    /// A number from low to high, both counted.
+    pub fn within(&mut self, low: u8, high: u8) -> u8 {
+        low + self.below(u64::from(high - low) + 1) as u8
+    }
+
+    pub fn byte(&mut self) -> u8 {
+        self.word() as u8
+    }
+
+    pub fn chance(&mut self, percent: u64) -> bool {
+        self.below(100) < percent
+    }
+
+    pub fn bytes(&mut self, count: usize) -> Vec<u8> {
+        (0..count).map(|_| self.byte()).collect()
+    }
+
+    /// A random line within the given bounds; its start may be overfull.
+    pub fn line(&mut self, posts: u8, trains: u8, tracks: u8) -> (Vec<u8>, Vec<(u8, u8)>) {
+        let p = self.within(2, posts);
+        let t = self.within(1, trains);
+        let tracks = (0..p).map(|_| self.within(1, tracks)).collect();
+        let trains = (0..t)
+            .map(|_| (self.within(0, p - 1), self.within(0, p - 1)))
+            .collect();
+        (tracks, trains)
+    }
+}

@@ -1,0 +1,894 @@
+//! The vectors of the readings, and one for each wrong variant named there.
+
+mod common;
+use common::*;
+use model::*;
+
+/// A table with only these bits set.
+fn bits(codes: &[u64]) -> Vec<u8> {
+    let mut table = vec![0; TABLE_BYTES];
+    for c in codes {
+        table[(c / 8) as usize] |= 1 << (c % 8);
+    }
+    table
+}
+
+/// A state of the line with each train at its start.
+fn state(tracks: &[u8], trains: &[(u8, u8, Standing)], journal: u8) -> State {
+    let mut s = State::EMPTY;
+    s.posts = tracks.len() as u8;
+    s.tracks[..tracks.len()].copy_from_slice(tracks);
+    s.trains = trains.len() as u8;
+    for (t, (start, end, standing)) in trains.iter().enumerate() {
+        s.train[t] = Train {
+            start: *start,
+            end: *end,
+            at: *start,
+            standing: *standing,
+        };
+    }
+    s.journal = journal;
+    s
+}
+
+fn boxed(state: State, table: Vec<u8>) -> Box {
+    Box {
+        state,
+        table,
+        journal: vec![Record::BLANK; 176],
+    }
+}
+
+// Book and opening.
+
+#[test]
+fn books_in_order_of_checks() {
+    let number = |bytes: &[u8]| read_book(bytes).err().unwrap_or(0);
+    assert_eq!(number(&[]), 14);
+    assert_eq!(number(&[0]), 14);
+    assert_eq!(number(&[0, 0]), 14);
+    assert_eq!(number(&[0, 1, 1]), 14);
+    assert_eq!(number(&[0, 2, 2, 9]), 4);
+    assert_eq!(number(&[0, 2, 1, 9]), 15);
+    assert_eq!(number(&[0, 2, 1, 2]), 14);
+    assert_eq!(number(&[0, 4, 1, 2, 0, 0]), 14);
+    assert_eq!(number(&[0, 5, 1, 2, 0, 0, 0]), 16);
+    assert_eq!(number(&[0, 5, 1, 2, 1, 1, 0]), 17);
+    assert_eq!(number(&[0, 5, 1, 2, 1, 1, 1]), 14);
+    assert_eq!(number(&[0, 6, 1, 2, 1, 1, 1, 0]), 14);
+    assert_eq!(number(&[0, 7, 1, 2, 1, 1, 1, 0, 2]), 18);
+    assert_eq!(number(&[0, 7, 1, 2, 1, 1, 1, 2, 0]), 18);
+    assert_eq!(number(&[0, 7, 1, 2, 1, 1, 1, 0, 1]), 0);
+    assert_eq!(number(&[0, 8, 1, 2, 1, 1, 1, 0, 1, 0]), 14);
+    // Bytes after the book make its length wrong.
+    let mut long = X.to_vec();
+    long.push(0);
+    assert_eq!(number(&long), 14);
+    // The high byte counts.
+    let mut high = X;
+    high[0] = 1;
+    assert_eq!(number(&high), 14);
+    // A book of more than 255 bytes can have the right length.
+    let mut huge = vec![0; 2 + 300];
+    huge[..4].copy_from_slice(&[1, 44, 1, 9]);
+    assert_eq!(number(&huge), 15);
+}
+
+#[test]
+fn a_book_read_alone() {
+    let expected = Line {
+        posts: 3,
+        tracks: [2, 1, 2, 0, 0, 0, 0, 0],
+        trains: 3,
+        starts: [0, 0, 2, 0, 0, 0],
+        ends: [2, 2, 0, 0, 0, 0],
+    };
+    assert_eq!(read_book(&Y), Ok(expected));
+    // Neither an overfull start nor a jam is seen by the reader alone.
+    assert!(read_book(&book(&[1, 1], &[(0, 0), (0, 0)])).is_ok());
+    assert!(read_book(&book(&[1, 1], &[(0, 1), (1, 0)])).is_ok());
+}
+
+#[test]
+fn opening_and_its_stores() {
+    // 2 comes before the book is looked at.
+    let journal = [record(7, 7, 7, 7); 177];
+    let mut short = vec![3; TABLE_BYTES - 1];
+    assert_eq!(open(&[], &mut short, &journal), (State::EMPTY, 2));
+    assert!(short.iter().all(|b| *b == 3));
+    let mut table = vec![3; TABLE_BYTES + 5];
+    assert_eq!(open(&X, &mut table, &journal[..175]), (State::EMPTY, 2));
+    assert_eq!(open(&[], &mut table, &journal), (State::EMPTY, 14));
+    // 19 leaves the table untouched, 18 as well.
+    let over = book(&[1, 1], &[(0, 1), (0, 1)]);
+    assert_eq!(open(&over, &mut table, &journal), (State::EMPTY, 19));
+    let off = book(&[1, 1], &[(0, 2), (0, 1)]);
+    assert_eq!(open(&off, &mut table, &journal), (State::EMPTY, 18));
+    assert!(table.iter().all(|b| *b == 3));
+    // 20 leaves it filled, the bytes past it untouched.
+    let jam = book(&[1, 1, 1], &[(0, 2), (2, 0)]);
+    assert_eq!(open(&jam, &mut table, &journal), (State::EMPTY, 20));
+    let mut filled = vec![0; TABLE_BYTES];
+    assert!(fill(&read_book(&jam).unwrap(), &mut filled));
+    assert_eq!(table[..TABLE_BYTES], filled[..]);
+    assert_eq!(table[TABLE_BYTES..], [3; 5]);
+    // Ends that do not fit: nothing has a way through.
+    let ends = book(&[1, 1, 1], &[(0, 2), (1, 2)]);
+    assert_eq!(open(&ends, &mut table, &journal), (State::EMPTY, 20));
+    assert!(table[..TABLE_BYTES].iter().all(|b| *b == 0));
+    // Parked trains stand on tracks and are home.
+    let parked = book(&[1, 1], &[(0, 0), (1, 1)]);
+    assert_eq!(open(&parked, &mut table, &journal).1, 0);
+    assert_eq!(table[0], 1);
+    assert!(table[1..TABLE_BYTES].iter().all(|b| *b == 0));
+}
+
+#[test]
+fn table_of_x() {
+    // Digits of train 0 and train 1. Both trains pass at post 1 only.
+    let b = Box::open(&X);
+    for c in 0..262_144u64 {
+        let lawful = [(0, 0), (1, 0), (0, 1), (1, 1), (2, 1), (1, 2), (2, 2)];
+        let expected = lawful.iter().any(|(a, b)| a + 8 * b == c);
+        assert_eq!(table::bit(&b.table, c), expected, "code {c}");
+    }
+    assert!(!table::bit(&b.table, 262_144));
+    assert!(!table::bit(&b.table, u64::MAX));
+}
+
+#[test]
+fn fill_refuses() {
+    let good = read_book(&X).unwrap();
+    let mut table = vec![9; TABLE_BYTES];
+    let bad = |change: fn(&mut Line)| {
+        let mut line = good;
+        change(&mut line);
+        line
+    };
+    for line in [
+        bad(|l| l.posts = 1),
+        bad(|l| l.posts = 9),
+        bad(|l| l.posts = 255),
+        bad(|l| l.trains = 0),
+        bad(|l| l.trains = 7),
+        bad(|l| l.tracks[2] = 0),
+        bad(|l| l.tracks[2] = 5),
+        bad(|l| l.starts[1] = 3),
+        bad(|l| l.ends[1] = 255),
+    ] {
+        assert!(!fill(&line, &mut table));
+    }
+    assert!(!fill(&good, &mut table[..TABLE_BYTES - 1]));
+    assert!(table.iter().all(|b| *b == 9));
+    // Places that are not read may hold anything.
+    let unread = bad(|l| {
+        l.tracks[3] = 99;
+        l.starts[2] = 99;
+        l.ends[5] = 99;
+    });
+    let mut other = vec![0; TABLE_BYTES];
+    assert!(fill(&unread, &mut table));
+    assert!(fill(&good, &mut other));
+    assert_eq!(table, other);
+}
+
+// Frames.
+
+#[test]
+fn frames_read_back() {
+    let mut rng = Rng(5);
+    for kind in 0..=255 {
+        let (train, from, to) = (rng.byte(), rng.byte(), rng.byte());
+        let bytes = frame(kind, train, from, to);
+        let m = Move { train, from, to };
+        let expected = match kind {
+            1 => Ok(Message::Fa(m)),
+            2 => Ok(Message::Fe(m)),
+            3 => Ok(Message::Afe(m)),
+            4 => Ok(Message::Am(m)),
+            _ => Err(5),
+        };
+        assert_eq!(read_frame(&bytes), expected);
+        if let Ok(message) = expected {
+            assert_eq!(write_frame(message), bytes);
+        }
+    }
+    assert_eq!(read_frame(&[]), Err(3));
+    assert_eq!(read_frame(&[0, 5, 1, 1, 0, 0]), Err(3));
+    assert_eq!(read_frame(&[0, 5, 1, 1, 0, 0, 0, 0]), Err(3));
+    assert_eq!(read_frame(&[0, 6, 2, 9, 0, 0, 0]), Err(3));
+    assert_eq!(read_frame(&[1, 5, 1, 1, 0, 0, 0]), Err(3));
+    assert_eq!(read_frame(&[5, 0, 1, 1, 0, 0, 0]), Err(3));
+    assert_eq!(read_frame(&[0, 5, 2, 9, 0, 0, 0]), Err(4));
+    assert_eq!(read_frame(&[0, 5, 0, 1, 0, 0, 0]), Err(4));
+}
+
+// Part T.
+
+#[test]
+fn precedence_on_x() {
+    let mut b = Box::open(&X);
+    assert_eq!(b.put(&frame(FA, 2, 0, 1)), Err(7));
+    assert_eq!(b.put(&frame(FA, 255, 0, 1)), Err(7));
+    assert_eq!(b.put(&frame(FE, 9, 9, 9)), Err(6));
+    assert_eq!(b.put(&frame(AFE, 9, 9, 9)), Err(6));
+    assert_eq!(b.put(&frame(0, 0, 0, 1)), Err(5));
+    assert_eq!(b.put(&frame(5, 0, 0, 1)), Err(5));
+    assert_eq!(b.put(&[0, 5, 2, 9, 0, 0, 1]), Err(4));
+    assert_eq!(b.put(&[0, 6, 2, 1, 0, 0, 1]), Err(3));
+    assert_eq!(b.put(&frame(FA, 0, 1, 2)), Err(9));
+    assert_eq!(b.put(&frame(AM, 0, 1, 2)), Err(9));
+    assert_eq!(b.put(&frame(AM, 0, 0, 1)), Err(12));
+    assert!(b.put(&frame(FA, 0, 0, 1)).is_ok());
+    assert_eq!(b.put(&frame(FA, 0, 1, 2)), Err(9));
+    assert_eq!(b.put(&frame(FA, 0, 0, 1)), Err(11));
+    assert_eq!(b.put(&frame(AM, 0, 0, 1)), Ok(vec![]));
+    // Train 1 makes room at post 2, else train 0 never gets there.
+    assert_eq!(b.put(&frame(FA, 0, 1, 2)), Ok(vec![[AFE, 0, 1, 2]]));
+    assert_eq!(b.put(&frame(FA, 1, 2, 1)), Ok(vec![[FE, 1, 2, 1]]));
+    assert_eq!(b.put(&frame(AM, 1, 2, 1)), Ok(vec![[FE, 0, 1, 2]]));
+    assert_eq!(b.put(&frame(AM, 0, 1, 2)), Ok(vec![]));
+    assert_eq!(b.put(&frame(FA, 0, 2, 2)), Err(8));
+    assert_eq!(b.put(&frame(AM, 0, 1, 2)), Err(8));
+    assert_eq!(b.put(&frame(AM, 0, 0, 0)), Err(8));
+}
+
+/// Point 25: 8 and 9 hold for AM too, and come before 10, 11 and 12.
+#[test]
+fn point_25() {
+    let mut b = Box::open(&Y);
+    assert!(b.put(&frame(FA, 2, 2, 1)).is_ok());
+    assert_eq!(b.put(&frame(FA, 2, 2, 1)), Err(10));
+    assert_eq!(b.put(&frame(AM, 2, 2, 1)), Err(12));
+    // Either post wrong is 9.
+    for (from, to) in [(2, 0), (2, 3), (2, 2), (1, 1), (3, 1), (0, 1), (1, 2)] {
+        assert_eq!(b.put(&frame(FA, 2, from, to)), Err(9));
+        assert_eq!(b.put(&frame(AM, 2, from, to)), Err(9));
+    }
+    assert!(b.put(&frame(FA, 0, 0, 1)).is_ok());
+    assert_eq!(b.put(&frame(FA, 0, 0, 2)), Err(9));
+    assert_eq!(b.put(&frame(AM, 0, 0, 2)), Err(9));
+    assert_eq!(b.put(&frame(AM, 0, 0, 1)), Ok(vec![]));
+    // A parked train has no next post.
+    let mut parked = Box::open(&book(&[1, 1], &[(1, 1)]));
+    for kind in [FA, AM] {
+        for (from, to) in [(1, 1), (1, 0), (1, 2), (0, 1)] {
+            assert_eq!(parked.put(&frame(kind, 0, from, to)), Err(8));
+        }
+    }
+}
+
+// Granting.
+
+/// Point 21: a later grant sets the bit that the older asker lacked.
+#[test]
+fn point_21() {
+    let mut b = Box::open(&[
+        0x00, 0x0B, 0x01, 0x04, 0x02, 0x02, 0x02, 0x02, 0x02, 0x00, 0x01, 0x03, 0x02,
+    ]);
+    b.table = bits(&[8, 9]);
+    assert_eq!(b.put(&frame(FA, 0, 0, 1)), Ok(vec![[AFE, 0, 0, 1]]));
+    assert_eq!(
+        b.put(&frame(FA, 1, 3, 2)),
+        Ok(vec![[FE, 1, 3, 2], [FE, 0, 0, 1]])
+    );
+    let logged = [
+        record(FA, 0, 0, 1),
+        record(AFE, 0, 0, 1),
+        record(FA, 1, 3, 2),
+        record(FE, 1, 3, 2),
+        record(FE, 0, 0, 1),
+    ];
+    assert_eq!(b.journal[..5], logged);
+    assert_eq!(b.journal[5], record(9, 9, 9, 9));
+    assert_eq!(b.state.journal, 5);
+}
+
+/// Again from the oldest: three trains, where the middle grant frees the way
+/// for the oldest before the youngest is looked at.
+#[test]
+fn again_from_the_oldest() {
+    let trains = [
+        (0, 1, Standing::Asked(4)),
+        (2, 3, Standing::Asked(6)),
+        (4, 5, Standing::Asked(8)),
+        (6, 7, Standing::Free),
+    ];
+    // Train 1 alone, then 1 and 0, then 1, 0 and 2; train 1 and 2 too.
+    let table = bits(&[8, 9, 8 + 64, 9 + 64]);
+    let mut b = boxed(state(&[1; 8], &trains, 9), table);
+    assert_eq!(
+        b.put(&frame(FA, 3, 6, 7)),
+        Ok(vec![
+            [FE, 1, 2, 3],
+            [FE, 0, 0, 1],
+            [FE, 2, 4, 5],
+            [AFE, 3, 6, 7]
+        ])
+    );
+    assert_eq!(b.state.journal, 14);
+    assert_eq!(b.state.train[3].standing, Standing::Asked(9));
+}
+
+/// The oldest goes first, by FA number and not by train number.
+#[test]
+fn oldest_first() {
+    for (a, b, winner) in [(3, 5, 0), (5, 3, 1)] {
+        let trains = [
+            (0, 1, Standing::Asked(a)),
+            (2, 1, Standing::Asked(b)),
+            (3, 4, Standing::Free),
+        ];
+        let mut x = boxed(state(&[1; 5], &trains, 6), vec![255; TABLE_BYTES]);
+        let sent = x.put(&frame(FA, 2, 3, 4)).unwrap();
+        assert_eq!(sent.len(), 2);
+        assert_eq!(sent[0][..2], [FE, winner]);
+        assert_eq!(sent[1], [FE, 2, 3, 4]);
+    }
+}
+
+/// The AFE comes after the FEs; it needs a table altered between frames.
+#[test]
+fn declined_comes_last() {
+    let book = book(&[1, 1, 1, 1], &[(3, 2), (0, 1)]);
+    let mut b = Box::open(&book);
+    b.table = bits(&[]);
+    assert_eq!(b.put(&frame(FA, 0, 3, 2)), Ok(vec![[AFE, 0, 3, 2]]));
+    b.table = bits(&[1]);
+    assert_eq!(
+        b.put(&frame(FA, 1, 0, 1)),
+        Ok(vec![[FE, 0, 3, 2], [AFE, 1, 0, 1]])
+    );
+    assert_eq!(b.journal[3], record(FE, 0, 3, 2));
+    assert_eq!(b.journal[4], record(AFE, 1, 0, 1));
+    // An AM never gives an AFE.
+    assert_eq!(b.put(&frame(AM, 0, 3, 2)), Ok(vec![]));
+}
+
+/// A held section bars both directions, even with tracks and bits free.
+#[test]
+fn sections_bar_both_ways() {
+    for (first, second) in [((0, 1), (1, 0)), ((1, 0), (0, 1)), ((0, 1), (0, 1))] {
+        let mut b = Box::open(&book(&[4, 4], &[first, second]));
+        b.table = vec![255; TABLE_BYTES];
+        let ask = |t: u8, m: (u8, u8)| frame(FA, t, m.0, m.1);
+        assert_eq!(b.put(&ask(0, first)).unwrap()[0][0], FE);
+        assert_eq!(b.put(&ask(1, second)).unwrap()[0][0], AFE);
+        let sent = b.put(&frame(AM, 0, first.0, first.1)).unwrap();
+        assert_eq!(sent, vec![[FE, 1, second.0, second.1]]);
+    }
+}
+
+/// A Running train holds a track at both posts: the one it left is freed by
+/// the arrival, not by the grant.
+#[test]
+fn the_track_left_behind() {
+    let mut b = Box::open(&book(&[1, 1, 1], &[(1, 2), (0, 1)]));
+    b.table = vec![255; TABLE_BYTES];
+    assert_eq!(b.put(&frame(FA, 0, 1, 2)), Ok(vec![[FE, 0, 1, 2]]));
+    assert_eq!(b.put(&frame(FA, 1, 0, 1)), Ok(vec![[AFE, 1, 0, 1]]));
+    assert_eq!(b.put(&frame(AM, 0, 1, 2)), Ok(vec![[FE, 1, 0, 1]]));
+    // And the track ahead is held from the grant on.
+    let mut b = Box::open(&book(&[1, 1, 1], &[(0, 1), (2, 2)]));
+    b.state.train[1].end = 1;
+    b.table = vec![255; TABLE_BYTES];
+    assert_eq!(b.put(&frame(FA, 0, 0, 1)), Ok(vec![[FE, 0, 0, 1]]));
+    assert_eq!(b.put(&frame(FA, 1, 2, 1)), Ok(vec![[AFE, 1, 2, 1]]));
+}
+
+/// The bit asked for has every Running train and this one advanced, Asked
+/// ones not; the digits are travelled posts, also for down trains.
+#[test]
+fn the_bit_asked_for() {
+    let trains = [
+        (0, 2, Standing::Running),
+        (3, 7, Standing::Free),
+        (7, 4, Standing::Free),
+        (2, 3, Standing::Asked(0)),
+    ];
+    let mut s = state(&[4; 8], &trains, 1);
+    s.train[2].at = 6; // one travelled
+    let wanted = 1 + 2 * 64; // train 0 ahead; train 2 from one to two
+    let mut b = boxed(s, bits(&[wanted]));
+    assert_eq!(b.put(&frame(FA, 2, 6, 5)), Ok(vec![[FE, 2, 6, 5]]));
+    // All bits set but this one and train 3's: nobody can be granted.
+    let mut table = vec![255; TABLE_BYTES];
+    for code in [wanted, 1 + 64 + 512] {
+        table[(code / 8) as usize] &= !(1 << (code % 8));
+    }
+    let mut b = boxed(s, table);
+    assert_eq!(b.put(&frame(FA, 2, 6, 5)), Ok(vec![[AFE, 2, 6, 5]]));
+}
+
+/// Six FEs, or five and an AFE, and 169 records before them.
+#[test]
+fn six_frames_out() {
+    let mut trains: Vec<(u8, u8, Standing)> = (0..6)
+        .map(|t| (t, t + 1, Standing::Asked(100 - t)))
+        .collect();
+    trains[5].2 = Standing::Free;
+    let mut b = boxed(state(&[4; 8], &trains, 169), vec![255; TABLE_BYTES]);
+    let sent = b.put(&frame(FA, 5, 5, 6)).unwrap();
+    let order: Vec<u8> = sent.iter().map(|f| f[1]).collect();
+    assert_eq!(order, [4, 3, 2, 1, 0, 5]);
+    assert!(sent.iter().all(|f| f[0] == FE));
+    assert_eq!(b.state.journal, 176);
+    assert_eq!(b.journal[168], Record::BLANK);
+    assert_eq!(b.journal[169], record(FA, 5, 5, 6));
+    assert_eq!(b.journal[175], record(FE, 5, 5, 6));
+    assert!(sound(&b.state));
+
+    trains[5] = (1, 0, Standing::Free);
+    let mut b = boxed(state(&[4; 8], &trains, 169), vec![255; TABLE_BYTES]);
+    let sent = b.put(&frame(FA, 5, 1, 0)).unwrap();
+    let order: Vec<u8> = sent.iter().map(|f| f[1]).collect();
+    assert_eq!(order, [4, 3, 2, 1, 0, 5]);
+    assert_eq!(sent[5][0], AFE);
+    assert_eq!(b.state.journal, 176);
+
+    // An AM with five waiting.
+    trains[5] = (6, 7, Standing::Running);
+    let mut b = boxed(state(&[4; 8], &trains, 169), vec![255; TABLE_BYTES]);
+    assert_eq!(b.put(&frame(AM, 5, 6, 7)).unwrap().len(), 5);
+    assert_eq!(b.state.journal, 175);
+}
+
+/// Point 26: 13 from count 170 on, last of all checks, also for AM.
+#[test]
+fn point_26() {
+    for count in 0..=255u8 {
+        let trains = [(0, 1, Standing::Free), (2, 1, Standing::Running)];
+        for length in [176, 300] {
+            let mut b = boxed(state(&[4; 3], &trains, count), vec![255; TABLE_BYTES]);
+            b.journal = vec![record(9, 9, 9, 9); length];
+            let full = match count {
+                0..=169 => 0,
+                170..=176 => 13,
+                _ => 1,
+            };
+            for (kind, train, from) in [(FA, 0, 0), (AM, 1, 2)] {
+                let mut x = boxed(b.state, b.table.clone());
+                x.journal = b.journal.clone();
+                let got = x.put(&frame(kind, train, from, 1));
+                assert_eq!(got.err().unwrap_or(0), full, "count {count}");
+            }
+            let other = |n| if full == 1 { Err(1) } else { Err(n) };
+            assert_eq!(b.put(&frame(AM, 0, 0, 1)), other(12));
+            assert_eq!(b.put(&frame(FA, 1, 2, 1)), other(11));
+            assert!(b.journal.iter().all(|r| *r == record(9, 9, 9, 9)));
+        }
+    }
+}
+
+/// Points 27, 32: 1, then 2, then the frame.
+#[test]
+fn strange_then_short_then_torn() {
+    let b = Box::open(&X);
+    let mut journal = b.journal.clone();
+    let mut try_with = |state: &State, table: usize, records: usize, out: usize| {
+        let mut out = vec![0x77; out];
+        let (after, verdict) = answer(
+            state,
+            &b.table[..table],
+            &mut journal[..records],
+            &[1, 2, 3],
+            &mut out,
+        );
+        assert_eq!(after, *state);
+        assert!(out.iter().all(|b| *b == 0x77));
+        verdict
+    };
+    assert_eq!(try_with(&State::EMPTY, 0, 0, 0), Verdict::Refused(1));
+    assert_eq!(try_with(&b.state, 32_767, 176, 42), Verdict::Refused(2));
+    assert_eq!(try_with(&b.state, 32_768, 175, 42), Verdict::Refused(2));
+    assert_eq!(try_with(&b.state, 32_768, 176, 41), Verdict::Refused(2));
+    assert_eq!(try_with(&b.state, 32_768, 176, 42), Verdict::Refused(3));
+}
+
+// Soundness.
+
+#[test]
+fn sound_states() {
+    let x = Box::open(&X).state;
+    let is_sound = |change: fn(&mut State)| {
+        let mut s = x;
+        change(&mut s);
+        sound(&s)
+    };
+    assert!(is_sound(|_| ()));
+    assert!(!is_sound(|s| s.posts = 1));
+    assert!(!is_sound(|s| s.posts = 2)); // train 1 starts at post 2
+    assert!(!is_sound(|s| s.posts = 4)); // the fourth post has 0 tracks
+    assert!(!is_sound(|s| s.posts = 9));
+    assert!(!is_sound(|s| s.trains = 0));
+    assert!(is_sound(|s| s.trains = 1));
+    assert!(!is_sound(|s| s.trains = 3)); // the third would stand at post 0
+    assert!(!is_sound(|s| s.trains = 7));
+    assert!(!is_sound(|s| s.tracks[1] = 0));
+    assert!(!is_sound(|s| s.tracks[1] = 5));
+    assert!(is_sound(|s| s.tracks[3] = 5)); // not read
+    assert!(is_sound(|s| s.train[2].standing = Standing::Running)); // not read
+    assert!(!is_sound(|s| s.train[0].start = 3));
+    assert!(!is_sound(|s| s.train[0].end = 3));
+    assert!(!is_sound(|s| s.train[0].at = 3));
+    assert!(!is_sound(|s| s.train[0].end = 255));
+    assert!(is_sound(|s| s.train[0].at = 1));
+    assert!(!is_sound(|s| s.train[0].at = 2)); // two trains on one track
+    assert!(!is_sound(|s| {
+        s.train[0].start = 1;
+        s.train[0].at = 0; // not between 1 and 2
+    }));
+    assert!(is_sound(|s| s.journal = 176));
+    assert!(!is_sound(|s| s.journal = 177));
+    // FA numbers.
+    assert!(!is_sound(|s| s.train[0].standing = Standing::Asked(0)));
+    assert!(is_sound(|s| {
+        s.train[0].standing = Standing::Asked(1);
+        s.train[1].standing = Standing::Asked(0);
+        s.journal = 2;
+    }));
+    assert!(!is_sound(|s| {
+        s.train[0].standing = Standing::Asked(1);
+        s.train[1].standing = Standing::Asked(1);
+        s.journal = 2;
+    }));
+    assert!(!is_sound(|s| {
+        s.train[0].standing = Standing::Asked(176);
+        s.journal = 176;
+    }));
+    // Running: tracks at both posts, one holder of a section.
+    assert!(is_sound(|s| s.train[0].standing = Standing::Running));
+    assert!(is_sound(|s| {
+        s.train[0].standing = Standing::Running;
+        s.train[1].standing = Standing::Running;
+    }));
+    assert!(!is_sound(|s| {
+        s.tracks[1] = 1;
+        s.train[0].standing = Standing::Running;
+        s.train[1].standing = Standing::Running;
+    }));
+    assert!(!is_sound(|s| {
+        s.tracks = [4; 8];
+        s.train[0].at = 1;
+        s.train[0].standing = Standing::Running;
+        s.train[1].standing = Standing::Running;
+    }));
+    // Only trains short of their end are Asked or Running.
+    assert!(!is_sound(|s| {
+        s.tracks[2] = 2;
+        s.train[0].at = 2;
+        s.train[0].standing = Standing::Running;
+    }));
+    assert!(!is_sound(|s| {
+        s.tracks[2] = 2;
+        s.train[0].at = 2;
+        s.train[0].standing = Standing::Asked(0);
+        s.journal = 1;
+    }));
+    assert!(!sound(&State::EMPTY));
+}
+
+/// Point 19: places not read neither change an answer nor are changed.
+#[test]
+fn unread_places() {
+    let clean = Box::open(&X);
+    let mut odd = Box::open(&X);
+    odd.state.tracks[3..].fill(200);
+    let ghost = Train {
+        start: 1,
+        end: 250,
+        at: 1,
+        standing: Standing::Asked(0),
+    };
+    odd.state.train[2..].fill(ghost);
+    let mut clean = clean;
+    for f in [frame(FA, 0, 0, 1), frame(FA, 2, 1, 2), frame(AM, 0, 0, 1)] {
+        assert_eq!(clean.put(&f), odd.put(&f));
+        assert_eq!(clean.state.train[..2], odd.state.train[..2]);
+        assert_eq!(odd.state.train[2..], [ghost; 4]);
+        assert_eq!(odd.state.tracks[3..], [200; 5]);
+    }
+}
+
+// The unit.
+
+#[test]
+fn unit_making() {
+    for train in [0, 5, 6, 255] {
+        for start in [0, 7, 8, 255] {
+            for end in [0, 7, 8, 255] {
+                let (unit, refusal) = unit::make(train, start, end);
+                if train <= 5 && start <= 7 && end <= 7 {
+                    assert_eq!(refusal, 0);
+                    let expected = Unit {
+                        train,
+                        start,
+                        end,
+                        at: start,
+                        state: UnitState::Standing,
+                    };
+                    assert_eq!(unit, expected);
+                    assert!(unit::sound(&unit));
+                } else {
+                    assert_eq!((unit, refusal), (Unit::EMPTY, 18));
+                }
+            }
+        }
+    }
+    let empty = Unit {
+        train: 255,
+        start: 0,
+        end: 0,
+        at: 0,
+        state: UnitState::Standing,
+    };
+    assert_eq!(Unit::EMPTY, empty);
+    assert!(!unit::sound(&empty));
+    assert_eq!(unit::press(&empty, Button::Ask), (empty, 1, None));
+    assert_eq!(unit::hear(&empty, &[]), (empty, 1));
+}
+
+const STATES: [UnitState; 6] = [
+    UnitState::Standing,
+    UnitState::Asked,
+    UnitState::Declined,
+    UnitState::Granted,
+    UnitState::UnderWay,
+    UnitState::Arrived,
+];
+const BUTTONS: [Button; 4] = [Button::Ask, Button::Depart, Button::Reached, Button::Report];
+
+/// Every button in every state, short of the end and at it (points 40, 43).
+#[test]
+fn unit_buttons() {
+    for state in STATES {
+        for button in BUTTONS {
+            let u = Unit {
+                train: 3,
+                start: 6,
+                end: 1,
+                at: 4,
+                state,
+            };
+            let turned = |state| Unit { state, ..u };
+            let expected = match (state, button) {
+                (UnitState::Standing, Button::Ask) => {
+                    (turned(UnitState::Asked), 0, Some(frame(FA, 3, 4, 3)))
+                }
+                (UnitState::Granted, Button::Depart) => (turned(UnitState::UnderWay), 0, None),
+                (UnitState::UnderWay, Button::Reached) => (turned(UnitState::Arrived), 0, None),
+                (UnitState::Arrived, Button::Report) => {
+                    let after = Unit {
+                        at: 3,
+                        state: UnitState::Standing,
+                        ..u
+                    };
+                    (after, 0, Some(frame(AM, 3, 4, 3)))
+                }
+                _ => (u, 21, None),
+            };
+            assert_eq!(unit::press(&u, button), expected);
+
+            let home = Unit { at: 1, ..u };
+            let number = match (state, button) {
+                (UnitState::Standing, Button::Ask) => 8,
+                (UnitState::Standing, _) => 21,
+                _ => 1,
+            };
+            assert_eq!(unit::press(&home, button), (home, number, None));
+        }
+    }
+    let (parked, _) = unit::make(0, 4, 4);
+    assert_eq!(unit::press(&parked, Button::Ask), (parked, 8, None));
+}
+
+/// Every kind of frame in every state (points 41, 42, 44).
+#[test]
+fn unit_hearing() {
+    for state in STATES {
+        let u = Unit {
+            train: 3,
+            start: 1,
+            end: 6,
+            at: 4,
+            state,
+        };
+        let turned = |state| Unit { state, ..u };
+        // FA and AM are the other end's, whatever the train.
+        for kind in [FA, AM] {
+            assert_eq!(unit::hear(&u, &frame(kind, 3, 4, 5)), (u, 6));
+            assert_eq!(unit::hear(&u, &frame(kind, 200, 4, 5)), (u, 6));
+        }
+        // Own FE.
+        let expected = match state {
+            UnitState::Asked | UnitState::Declined => (turned(UnitState::Granted), 0),
+            _ => (u, 22),
+        };
+        assert_eq!(unit::hear(&u, &frame(FE, 3, 4, 5)), expected);
+        // Own train, another move.
+        for (from, to) in [(4, 3), (3, 4), (5, 6), (4, 4), (255, 0)] {
+            assert_eq!(unit::hear(&u, &frame(FE, 3, from, to)), (u, 22));
+            assert_eq!(unit::hear(&u, &frame(AFE, 3, from, to)), (u, 0));
+        }
+        // Own AFE.
+        let expected = match state {
+            UnitState::Asked => (turned(UnitState::Declined), 0),
+            _ => (u, 0),
+        };
+        assert_eq!(unit::hear(&u, &frame(AFE, 3, 4, 5)), expected);
+        // Another train, known or not.
+        for train in [0, 4, 6, 255] {
+            assert_eq!(unit::hear(&u, &frame(FE, train, 4, 5)), (u, 0));
+            assert_eq!(unit::hear(&u, &frame(AFE, train, 4, 5)), (u, 0));
+        }
+        // Torn, other edition, unknown kind.
+        assert_eq!(unit::hear(&u, &[]), (u, 3));
+        assert_eq!(unit::hear(&u, &[0, 4, 2, 9, 3, 4, 5]), (u, 3));
+        assert_eq!(unit::hear(&u, &[0, 5, 2, 9, 3, 4, 5]), (u, 4));
+        assert_eq!(unit::hear(&u, &[0, 5, 1, 9, 3, 4, 5]), (u, 5));
+    }
+    // At the end there is no own move.
+    let home = Unit {
+        train: 2,
+        start: 0,
+        end: 3,
+        at: 3,
+        state: UnitState::Standing,
+    };
+    for (from, to) in [(3, 3), (2, 3), (3, 4)] {
+        assert_eq!(unit::hear(&home, &frame(FE, 2, from, to)), (home, 22));
+        assert_eq!(unit::hear(&home, &frame(AFE, 2, from, to)), (home, 0));
+    }
+}
+
+/// Soundness of all units with small numbers, against the words one by one.
+#[test]
+fn unit_soundness() {
+    for train in 0..8 {
+        for start in 0..10u8 {
+            for end in 0..10u8 {
+                for at in 0..10u8 {
+                    for state in STATES {
+                        let u = Unit {
+                            train,
+                            start,
+                            end,
+                            at,
+                            state,
+                        };
+                        let numbers = train < 6 && start < 8 && end < 8 && at < 8;
+                        let between = (start <= at && at <= end) || (end <= at && at <= start);
+                        let standing = state == UnitState::Standing || at != end;
+                        assert_eq!(unit::sound(&u), numbers && between && standing);
+                    }
+                }
+            }
+        }
+    }
+}
+
+// The journal's thin functions.
+
+#[test]
+fn journal_functions() {
+    let r = record(1, 2, 3, 4);
+    let mut journal = vec![Record::BLANK; 200];
+    assert_eq!(journal::log(&mut journal, 5, r), 6);
+    assert_eq!(journal[5], r);
+    assert_eq!(journal::log(&mut journal, 175, r), 176);
+    for full in [176, 177, 199, 255] {
+        let before = journal.clone();
+        assert_eq!(journal::log(&mut journal, full, r), full);
+        assert_eq!(journal, before);
+    }
+    assert_eq!(journal::log(&mut [], 0, r), 0);
+    assert_eq!(journal::written(&journal, 6).len(), 6);
+    assert_eq!(journal::written(&journal[..3], 6).len(), 3);
+}
+
+// The program.
+
+fn printed(input: &[u8]) -> String {
+    program::run(&mut &input[..])
+}
+
+fn after_x(rest: &[u8]) -> String {
+    printed(&[&X[..], rest].concat())
+}
+
+/// Points 47, 48, 49.
+#[test]
+fn program_books() {
+    assert_eq!(printed(&[]), "book 14\n");
+    assert_eq!(printed(&[0]), "book 14\n");
+    assert_eq!(printed(&[0, 0]), "book 14\n");
+    assert_eq!(printed(&[0, 1, 1, 2, 3]), "book 14\n");
+    assert_eq!(printed(&[0, 2, 1, 9]), "book 15\n");
+    assert_eq!(printed(&X[..11]), "book 14\n");
+    assert_eq!(printed(&[255; 100]), "book 14\n");
+    // 24 after the length: 25 bytes are taken, never 26.
+    let mut long = vec![0; 60];
+    long[..4].copy_from_slice(&[0, 24, 2, 9]);
+    assert_eq!(printed(&long), "book 14\n");
+    assert_eq!(printed(&long[..26]), "book 14\n");
+    long[1] = 23;
+    assert_eq!(printed(&long), "book 4\n");
+    // The longest book is read whole, and a frame after it.
+    let trains = [(0, 7), (7, 0), (3, 4), (4, 3), (1, 1), (6, 6)];
+    let longest = book(&[4; 8], &trains);
+    assert_eq!(longest.len(), 25);
+    assert_eq!(printed(&longest), "end 0 0\n");
+    let one = [&longest[..], &frame(FA, 0, 0, 1)].concat();
+    assert_eq!(printed(&one), "0 FA 0 0 1\n1 FE 0 0 1\nend 2 0\n");
+    // A named length below the true one: the book ends where it says.
+    let mut short = book(&[1, 1], &[(0, 1), (1, 0)]);
+    short[1] = 7;
+    short[6] = 1;
+    assert_eq!(printed(&short), "end 0 1\n");
+}
+
+/// Points 50, 51: rests and frames of seven bytes.
+#[test]
+fn program_frames() {
+    assert_eq!(after_x(&[]), "end 0 0\n");
+    for rest in 1..7 {
+        assert_eq!(after_x(&vec![0; rest]), "end 0 1\n");
+    }
+    assert_eq!(after_x(&[0; 7]), "end 0 1\n");
+    assert_eq!(after_x(&[0; 8]), "end 0 2\n");
+    assert_eq!(after_x(&[0; 21]), "end 0 3\n");
+    let granted = "0 FA 0 0 1\n1 FE 0 0 1\n";
+    let ask = frame(FA, 0, 0, 1);
+    let input = [&ask[..], &ask[..5]].concat();
+    assert_eq!(after_x(&input), format!("{granted}end 2 1\n"));
+    // No search for a start: a stray byte throws all later frames out.
+    let input = [&[0][..], &ask, &ask].concat();
+    assert_eq!(after_x(&input), "end 0 3\n");
+}
+
+/// A reader that gives one byte at a time, fails once and goes on.
+struct Fitful<'a> {
+    bytes: &'a [u8],
+    fail_at: usize,
+    given: usize,
+}
+
+impl std::io::Read for Fitful<'_> {
+    fn read(&mut self, to: &mut [u8]) -> std::io::Result<usize> {
+        if self.given == self.fail_at {
+            self.fail_at = usize::MAX;
+            return Err(std::io::Error::other("torn off"));
+        }
+        match (self.bytes.get(self.given), to.first_mut()) {
+            (Some(byte), Some(place)) => {
+                *place = *byte;
+                self.given += 1;
+                Ok(1)
+            }
+            _ => Ok(0),
+        }
+    }
+}
+
+/// Point 56: an error is the end of the input, and stays it.
+#[test]
+fn program_reading() {
+    let ask = frame(FA, 0, 0, 1);
+    let bytes = [&X[..], &ask, &ask].concat();
+    let granted = "0 FA 0 0 1\n1 FE 0 0 1\n";
+    for fail_at in 0..30 {
+        let mut reader = Fitful {
+            bytes: &bytes,
+            fail_at,
+            given: 0,
+        };
+        let expected = match fail_at {
+            0..=11 => "book 14\n".to_string(),
+            12 => "end 0 0\n".to_string(),
+            13..=18 => "end 0 1\n".to_string(),
+            19 => format!("{granted}end 2 0\n"),
+            _ => format!("{granted}end 2 1\n"),
+        };
+        assert_eq!(program::run(&mut reader), expected, "failing at {fail_at}");
+    }
+}
