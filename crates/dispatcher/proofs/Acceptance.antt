@@ -55,7 +55,7 @@ module _ (s : State) (table : List ℕ) (journal : List Record) (frame out : Lis
   pub frame-passed : refusal (frameChecks s (length table) (length journal) frame (length out)) ≡ 0 → Passed s table journal frame out
   frame-passed e =
       let check = passed-at (frameChecks s (length table) (length journal) frame (length out)) refl e in
-      let stores = check 1 refl in
+      let stores = check 1 in
       let rest = and-right (leb tableLength (length table)) _ stores in
       let m = moveIn (readFrame frame) in
       let x = trainOf s (m .train .0) in

@@ -48,7 +48,7 @@ module _ (s : State) (t u p : ℕ) (e : p ≡ reached s u) where
 -- the digits of n trains, at most six, have their code
 pub padded-code : (n : ℕ) (c : Configuration) (digits : List ℕ) → n ≤ 6 → digits ≡ padded 6 n c 0 → codeBelow n (λ u. getD digits u 0) ≡ codeBelow n c
 padded-code n c digits few e = code-cong n (λ u. getD digits u 0) c (λ u k.
-    ap (λ (l : List ℕ). getD l u 0) e ∙ at-padded 6 n c 0 u 0 (omega arith) k)
+    ap (λ (l : List ℕ). getD l u 0) e ∙ at-padded 6 n c 0 u (omega arith) k)
 
 -- ---- the test, in the code's order
 

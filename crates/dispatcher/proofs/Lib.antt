@@ -13,4 +13,8 @@ pub mod Askers
 pub mod Working
 pub mod Acceptance
 pub mod Frames
+pub mod Refusals
+pub mod Sent
+pub mod Batched
+pub mod Stepping
 pub mod Taking

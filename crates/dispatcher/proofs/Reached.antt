@@ -9,10 +9,11 @@ use Rattle.common.proofs.Tests.{by-cases, by-equality}
 use Rattle.common.proofs.Update.{update-own, update-other}
 use Rattle.line.specs.Route.{distance}
 use Rattle.line.proofs.Travel.{travelled-within, next-within}
+use Rattle.line.proofs.WellFormed.{short-route}
 use Rattle.completion.specs.Configuration.{Within, moved, code}
 use Rattle.completion.specs.Table.{codeCount}
 use Rattle.completion.proofs.Codes.{code-small}
-use Rattle.completion.proofs.Search.{within-digits}
+use Rattle.completion.proofs.Moves.{within-digits}
 use Rattle.dispatcher.specs.Types.{State}
 use Rattle.dispatcher.specs.State.{isAsked, isRunning, trainOf, lineOf, reached}
 use Rattle.dispatcher.proofs.Trains.{asked-idle, running-busy, route-of}
@@ -36,4 +37,4 @@ module _ (s : State) (d : Valid s) where
         (λ h. rw (update-other (reached s) t (reached s t + 1) u h) (reached-within u m))
 
     pub moved-code : code (lineOf s) (moved (reached s) t) < codeCount
-    moved-code = code-small (lineOf s) (moved (reached s) t) (d .line .few-trains) (within-digits (lineOf s) (d .line) (moved (reached s) t) moved-within)
+    moved-code = code-small (lineOf s) (moved (reached s) t) (d .line .few-trains) (within-digits (lineOf s) (short-route (lineOf s) (d .line)) (moved (reached s) t) moved-within)

@@ -17,3 +17,4 @@ pub use Rattle.dispatcher.specs.declared.state.Verdict.the-variants.{Sen
 pub use Rattle.dispatcher.specs.declared.asking.Asker.{Asker}
 pub use Rattle.dispatcher.specs.declared.asking.Asker.the-variants.{Of, Nobody}
 pub use Rattle.dispatcher.specs.declared.granting.Progress.{Progress}
+pub use Rattle.dispatcher.specs.declared.step.Outcome.{Outcome}

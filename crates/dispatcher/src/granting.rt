@@ -55,7 +55,7 @@ pub fn settle(state: State, table: &[u8], message: Message) -> Progress
 
 // A message more is logged.
 pub fn logged(state: State, batch: Batch, message: Message) -> Progress
-    requires { ⌜ state .logged < journalLength ⌝ }
+    requires { ⌜ state .logged ≤ journalLength ⌝ }
     ensures { λ r. ⌜ r ≡ progressWith state batch message ⌝ }
 {
     let state = one_logged(state);
@@ -65,7 +65,7 @@ pub fn logged(state: State, batch: Batch, message: Message) -> Progress
 
 // Train `t` becomes Running, and its FE is logged.
 fn granted(work: Progress, t: TrainNo) -> Progress
-    requires { ⌜ (t .0 < 6) × (work .state .logged < journalLength) ⌝ }
+    requires { ⌜ (t .0 < 6) × (work .state .logged ≤ journalLength) ⌝ }
     ensures { λ r. ⌜ r ≡ progressWith (withTrain (work .state) (t .0) (withStatus (trainOf (work .state) (t .0)) Running)) (work .batch) (Fe (nextMove (work .state) (t .0))) ⌝ }
 {
     let state = work.state;

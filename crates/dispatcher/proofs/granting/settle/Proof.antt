@@ -12,11 +12,12 @@ use Rattle.dispatcher.specs.Types.{TrainNo, Asker, Batch, State, Progres
 use Rattle.dispatcher.specs.Valid.{valid}
 use Rattle.dispatcher.specs.Granting.{grantable, Work, log}
 use Rattle.dispatcher.specs.Step.{NextAsked, progressWith}
+use Rattle.dispatcher.proofs.Validity.{valid-facts}
 use Rattle.dispatcher.proofs.Oldest.{Oldest}
 use Rattle.dispatcher.proofs.Grants.{askedCount}
 use Rattle.dispatcher.proofs.GrantTest.{few-trains}
 use Rattle.dispatcher.proofs.Askers.{Next, Tried, next-found, next-small, tried-none, tried-all, first-oldest, tried-more}
-use Rattle.dispatcher.proofs.Working.{Working, working-start, working-valid, working-end, working-room, working-next, working-less}
+use Rattle.dispatcher.proofs.Working.{Working, working-start, working-valid, working-end, working-next, working-less}
 use Rattle.dispatcher.proofs.granting.settle.Statement.{statement}
 use Rattle.dispatcher.proofs.granting.settle.Tie as tie
 
@@ -121,7 +122,8 @@ module _ (c : tie.Then1 Inv-loop μ-loop Inv-again μ-again) where
 granted-requires : tie.Need-granted-requires Inv-loop μ-loop Inv-again μ-again
 granted-requires c κs =
     let n = asker c in
-    (omega (arith, next n .known, few-trains _ (valid-state (at n))), working-room (table (at n)) (first (at n)) _ (on (at n)) _ (oldest c))
+    let d = valid-facts _ (valid-state (at n)) in
+    (omega (arith, next n .known, d .line .few-trains), d .few-logged)
 
 again-less : tie.Need-again-less Inv-loop μ-loop Inv-again μ-again
 again-less c =

@@ -98,7 +98,7 @@ returns-3 c =
     let a = c .before .before in
     c .answered4 .ensures
     ∙ frames.fe-for-another-move _ _ (fe-good a) _ (is-fe (at-fe a)) (a .before .if2 .left)
-        (sym (a .for-move .ensures) ∙ not-true _ (c .before .if3 .taken))
+    (sym (a .for-move .ensures) ∙ not-true _ (c .before .if3 .taken))
 
 awaiting-requires : tie.Need-awaiting-requires
 awaiting-requires c κs = search needs
@@ -112,8 +112,8 @@ returns-4 c =
     let a = w .before .before in
     c .answered5 .ensures
     ∙ frames.fe-not-now _ _ (fe-good a) _ (is-fe (at-fe a)) (a .before .if2 .left)
-        (sym (a .for-move .ensures) ∙ not-false _ (w .before .if3 .left))
-        (sym (w .awaiting .ensures) ∙ not-true _ (c .before .if4 .taken))
+    (sym (a .for-move .ensures) ∙ not-false _ (w .before .if3 .left))
+    (sym (w .awaiting .ensures) ∙ not-true _ (c .before .if4 .taken))
 
 in-phase-requires : tie.Need-in-phase-requires
 in-phase-requires c κs = search needs
@@ -135,7 +135,7 @@ returns-5 c =
     let a = c .before .before in
     c .answered7 .ensures
     ∙ frames.afe-for-another _ _ (afe-good a) _ (is-afe (at-afe a))
-        (sym (a .for-move2 .ensures) ∙ not-true _ (c .before .if5 .taken))
+    (sym (a .for-move2 .ensures) ∙ not-true _ (c .before .if5 .taken))
 
 same-requires : tie.Need-same-requires
 same-requires c κs = search needs
@@ -149,8 +149,8 @@ returns-6 c =
     let a = w .before .before in
     c .answered8 .ensures
     ∙ frames.afe-not-now _ _ (afe-good a) _ (is-afe (at-afe a))
-        (sym (a .for-move2 .ensures) ∙ not-false _ (w .before .if5 .left))
-        (sym (w .same .ensures) ∙ not-true _ (c .before .if6 .taken))
+    (sym (a .for-move2 .ensures) ∙ not-false _ (w .before .if5 .left))
+    (sym (w .same .ensures) ∙ not-true _ (c .before .if6 .taken))
 
 in-phase-requires-2 : tie.Need-in-phase-requires-2
 in-phase-requires-2 c κs = search needs
@@ -181,9 +181,9 @@ returns-8 c =
     let a = w .before .before in
     c .answered6 .ensures
     ∙ frames.fe-granted _ _ (fe-good a) _ (is-fe (at-fe a)) (a .before .if2 .left)
-        (sym (a .for-move .ensures) ∙ not-false _ (w .before .if3 .left))
-        (sym (w .awaiting .ensures) ∙ not-false _ (c .before .before .if4 .left))
-        _ (c .before .in-phase .ensures)
+    (sym (a .for-move .ensures) ∙ not-false _ (w .before .if3 .left))
+    (sym (w .awaiting .ensures) ∙ not-false _ (c .before .before .if4 .left))
+    _ (c .before .in-phase .ensures)
 
 returns-9 : tie.Need-returns-9
 returns-9 c =
@@ -191,9 +191,9 @@ returns-9 c =
     let a = w .before .before in
     c .answered9 .ensures
     ∙ frames.afe-declined _ _ (afe-good a) _ (is-afe (at-afe a))
-        (sym (a .for-move2 .ensures) ∙ not-false _ (w .before .if5 .left))
-        (sym (w .same .ensures) ∙ not-false _ (c .before .before .if6 .left))
-        _ (c .before .in-phase2 .ensures)
+    (sym (a .for-move2 .ensures) ∙ not-false _ (w .before .if5 .left))
+    (sym (w .same .ensures) ∙ not-false _ (c .before .before .if6 .left))
+    _ (c .before .in-phase2 .ensures)
 
 returns-10 : tie.Need-returns-10
 returns-10 c =
