@@ -1,7 +1,9 @@
--- One frame: the answers are read back from the out buffer, and the answer to any frame, accepted or refused, keeps the invariant.
+-- One frame: the answers are read back from the out buffer, and the answer to any frame, accepted or refused, keeps the
+-- invariant.
 -- Assumes nothing.
 use mathlib.Core.Path.{_≡_, refl}
-use mathlib.Core.List.{List, [], _∷_, _++_, append-assoc, map, List·Memᴰ, List·Memᴰ·head, List·Memᴰ·tail, List·Memᴰ·not-nil}
+use mathlib.Core.List.{List, [], _∷_, _++_, append-assoc, map, List·Memᴰ, List·Memᴰ·head, List·Memᴰ·tail}
+use mathlib.Core.List.{List·Memᴰ·not-nil}
 use Prim.Native.Nat.{ℕ, _+_}
 use native.Mathlib.Omega.{arith}
 use lib.ListN.{length, drop}
@@ -26,7 +28,8 @@ use Rattle.assurance.proofs.Accept.{accepted-worked}
 
 -- ---- frames read back
 
-read-back : (l : List Message) (rest : List ℕ) → ((a : Message) → List·Memᴰ a l → IsMessage a) → readFrames (length l) (framesOf l ++ rest) ≡ l
+read-back : (l : List Message) (rest : List ℕ) → ((a : Message) → List·Memᴰ a l → IsMessage a)
+    → readFrames (length l) (framesOf l ++ rest) ≡ l
 unfolding readFrames framesOf
 read-back [] rest h = refl
 read-back (a ∷ l) rest h =
@@ -40,7 +43,8 @@ read-back (a ∷ l) rest h =
       others,
     )
 
-pub answers-back : (l : List Message) (out : List ℕ) → ((a : Message) → List·Memᴰ a l → IsMessage a) → readFrames (length l) (replaced out 0 (framesOf l)) ≡ l
+pub answers-back : (l : List Message) (out : List ℕ) → ((a : Message) → List·Memᴰ a l → IsMessage a)
+    → readFrames (length l) (replaced out 0 (framesOf l)) ≡ l
 unfolding replaced
 answers-back l out h = read-back l (drop (0 + length (framesOf l)) out) h
 
@@ -52,29 +56,41 @@ pub record Settled (table : List ℕ) (s : State) (j : List Record) (o : Observe
   pub nobody : Nobody table s (s .trains)
 
 -- what the answer to a frame leaves
-pub record Exchanged (table : List ℕ) (s : State) (j : List Record) (o : Observer) (frame : List ℕ) (a : Answer) : Type 0 where
+pub record Exchanged (table : List ℕ) (s : State) (j : List Record) (o : Observer) (frame : List ℕ) (a : Answer)
+    : Type 0 where
   pub after : Settled table (a .state) (a .journal) (hearBy o frame (a .verdict) (a .out))
   pub line : lineOf (a .state) ≡ lineOf s
-  pub requested : (m : Move) → List·Memᴰ (Fe m) (answersOf (a .verdict) (a .out)) → Requested (left (a .state) (a .journal)) m
+  pub requested : (m : Move) → List·Memᴰ (Fe m) (answersOf (a .verdict) (a .out))
+      → Requested (left (a .state) (a .journal)) m
   pub later : Later s j (a .state) (a .journal)
 
-module _ (table : List ℕ) (s : State) (j : List Record) (o : Observer) (k : Settled table s j o) (frame out : List ℕ) where
+module _ (table : List ℕ) (s : State) (j : List Record) (o : Observer) (k : Settled table s j o)
+    (frame out : List ℕ) where
   refused-kept : (n : ℕ) → Exchanged table s j o frame (refused s j out n)
-  refused-kept n = record { after = k; line = refl; requested = λ m h. absurd (List·Memᴰ·not-nil h); later = later-same s j }
+  refused-kept n = record {
+    after = k;
+    line = refl;
+    requested = λ m h. absurd (List·Memᴰ·not-nil h);
+    later = later-same s j;
+  }
 
-  accepted-kept : Passed s table j frame out → Exchanged table s j o frame (answered (s .logged) j out (accepted table s (readFrame frame)))
+  accepted-kept : Passed s table j frame out
+      → Exchanged table s j o frame (answered (s .logged) j out (accepted table s (readFrame frame)))
   accepted-kept p =
       let w = accepted table s (readFrame frame) in
       let facts = accepted-facts table s (k .kept .valid-state) (readFrame frame) (p .message) in
       let worked = accepted-worked table s j o (k .kept) (readFrame frame) (p .message) in
-      let back : readFrames (length (sent w)) (replaced out 0 (framesOf (sent w))) ≡ sent w = answers-back (sent w) out (facts .messages) in
+      let back : readFrames (length (sent w)) (replaced out 0 (framesOf (sent w))) ≡ sent w =
+      answers-back (sent w) out (facts .messages) in
       record {
         after = rw back (record { kept = worked .kept; nobody = facts .nobody });
         line = facts .line;
         requested = rw back (worked .requested);
         later = record {
           more = omega (arith, facts .counted);
-          same = λ i l. replaced-before j (s .logged) (map recordOf (w .logged)) i blank l (omega (arith, k .kept .room, k .kept .valid-state .few-logged));
+          same = λ i l.
+              replaced-before j (s .logged) (map recordOf (w .logged)) i blank l
+              (omega (arith, k .kept .room, k .kept .valid-state .few-logged));
         };
       }
 

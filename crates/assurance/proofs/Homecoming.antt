@@ -1,7 +1,8 @@
--- Every train can still come home. While one is short of its end, some such train is not waiting: its AM, or its FA, is accepted. Every accepted frame
--- raises the number of records that the trains can have taken, which is at most 168, so that this ends, with every train at its end.
+-- Every train can still come home. While one is short of its end, some such train is not waiting: its AM, or its FA, is
+-- accepted. Every accepted frame raises the number of records that the trains can have taken, which is at most 168, so
+-- that this ends, with every train at its end.
 -- Assumes nothing.
-use mathlib.Core.Path.{_≡_, refl, ap, _∙_}
+use mathlib.Core.Path.{_≡_, refl, ap, subst, _∙_}
 use mathlib.Core.Bool.{Bool, false, not}
 use mathlib.Core.List.{List, [], _∷_, _++_}
 use Prim.Native.Nat.{ℕ, zero, suc, _+_, _≤_, _<_}
@@ -40,13 +41,20 @@ use Rattle.assurance.proofs.Ran.{RunKept, run-kept}
 -- ---- one frame that is accepted
 
 -- a train that is short of its end and has not asked sends its next move's AM or FA
-next-frame : (s : State) → Counted s → (u : ℕ) → u < s .trains → Short s u → isAsked (trainOf s u .status) ≡ false → (a : Message) × Taken s a
+next-frame : (s : State) → Counted s → (u : ℕ) → u < s .trains → Short s u → isAsked (trainOf s u .status) ≡ false
+    → (a : Message) × Taken s a
 next-frame s k u known short free = by-cases (isRunning (trainOf s u .status))
     (λ e. (Am (nextMove s u), arrival (nextMove s u) move e))
     (λ e. (Fa (nextMove s u), request (nextMove s u) move free e))
   where
     move : NextMove s (nextMove s u)
-    move = record { known = known; short = short; from = refl; to = refl; space = omega (arith, k .bounded, few-records s (k .valid-state)) }
+    move = record {
+      known = known;
+      short = short;
+      from = refl;
+      to = refl;
+      space = omega (arith, k .bounded, few-records s (k .valid-state));
+    }
 
 -- what is taken is a message
 taken-message : (s : State) (a : Message) → Taken s a → IsMessage a
@@ -69,13 +77,17 @@ module _ (table : List ℕ) (long : tableLength ≤ length table) where
       let read : readFrame (bytesOf a) ≡ a = round-trip .back a (taken-message s a t) in
       let e = taken-accepted s table j buffer (c .valid-state) long (k .kept .room) (omega arith) a t in
       let b = accepted-bounded table s (c .valid-state) a t (c .bounded) .raised in
-      rw (accepts (answered (s .logged) j buffer (accepted table s (readFrame (bytesOf a)))) (refused s j buffer) e, read) (omega arith)
+      rw (
+        accepts (answered (s .logged) j buffer (accepted table s (readFrame (bytesOf a)))) (refused s j buffer) e,
+        read,
+      ) (omega arith)
 
   -- ---- until every train is at its end
 
   record ComesHome (s : State) (j : List Record) : Type 0 where
     inputs : List Input
-    home : (t : ℕ) → t < s .trains → let r = run table s j inputs in trainOf (r .state) t .at .0 ≡ trainOf (r .state) t .route .end .0
+    home : (t : ℕ) → t < s .trains
+        → let r = run table s j inputs in trainOf (r .state) t .at .0 ≡ trainOf (r .state) t .route .end .0
 
   -- one frame more, then the rest
   goes-home : (s : State) (j : List Record) (o : Observer) → Settled table s j o → (a : Message)
@@ -95,7 +107,9 @@ module _ (table : List ℕ) (long : tableLength ≤ length table) where
   nearer s j o k c step = by-cases (anyBelow (s .trains) (short-train s))
       (λ e.
       let f = any-below (s .trains) (short-train s) e in
-      let g = goes-on table s (c .valid-state) (k .kept .right) (k .kept .completable) (k .nobody) (f .0) (f .1) (eqb-false _ _ (not-true _ (f .2))) in
+      let g =
+      goes-on table s (c .valid-state) (k .kept .right) (k .kept .completable) (k .nobody) (f .0) (f .1)
+      (eqb-false _ _ (not-true _ (f .2))) in
       let a = next-frame s c (g .0) (g .1) (g .2) (g .3) in
       step (a .0) (a .1))
       (λ e. record {
@@ -105,7 +119,8 @@ module _ (table : List ℕ) (long : tableLength ≤ length table) where
       })
 
   -- n bounds what the records can still rise by
-  comes-home : (n : ℕ) (s : State) (j : List Record) (o : Observer) → Settled table s j o → Counted s → 168 ≤ recordsIn s + n → ComesHome s j
+  comes-home : (n : ℕ) (s : State) (j : List Record) (o : Observer) → Settled table s j o → Counted s
+      → 168 ≤ recordsIn s + n → ComesHome s j
   comes-home zero s j o k c few = nearer s j o k c (λ a t.
       let more = raises s j o k c a t in
       let after = few-records _ (answer-counted table s j (bytesOf a) buffer c .valid-state) in
@@ -126,15 +141,18 @@ run-append table (i ∷ is) more s j =
     let a = answer s table j (i .frame) (i .out) in
     run-append table is more (a .state) (a .journal)
 
-run-counted : (table : List ℕ) (is : List Input) (s : State) (j : List Record) → Counted s → Counted (run table s j is .state)
+run-counted : (table : List ℕ) (is : List Input) (s : State) (j : List Record) → Counted s
+    → Counted (run table s j is .state)
 unfolding run
 run-counted table [] s j k = k
 run-counted table (i ∷ is) s j k = run-counted table is _ _ (answer-counted table s j (i .frame) (i .out) k)
 
 -- after any list of frames from a settled state on
-home-after : (table : List ℕ) → tableLength ≤ length table → (s : State) (j : List Record) (o : Observer) → Settled table s j o → Counted s
+home-after : (table : List ℕ) → tableLength ≤ length table → (s : State) (j : List Record) (o : Observer)
+    → Settled table s j o → Counted s
     → (inputs : List Input) → (further : List Input)
-    × ((t : ℕ) → t < s .trains → observe o (run table s j (inputs ++ further) .exchanges) t .post ≡ routeOf (lineOf s) t .end .0)
+    × ((t : ℕ) → t < s .trains
+    → observe o (run table s j (inputs ++ further) .exchanges) t .post ≡ routeOf (lineOf s) t .end .0)
 home-after table long s j o k c inputs = (h .inputs, told)
   where
     kept : RunKept table s j o (run table s j inputs)
@@ -146,14 +164,16 @@ home-after table long s j o k c inputs = (h .inputs, told)
     line : lineOf (run table s j (inputs ++ h .inputs) .state) ≡ lineOf s
     line = run-kept table (inputs ++ h .inputs) s j o k .line
 
-    there : (z : State) → z ≡ (let r = run table s j inputs in run table (r .state) (r .journal) (h .inputs) .state) → lineOf z ≡ lineOf s
-        → (t : ℕ) → t < s .trains → trainOf z t .at .0 ≡ routeOf (lineOf s) t .end .0
+    there : (z : State)
+        → z ≡ (let r = run table s j inputs in run table (r .state) (r .journal) (h .inputs) .state)
+        → lineOf z ≡ lineOf s → (t : ℕ) → t < s .trains → trainOf z t .at .0 ≡ routeOf (lineOf s) t .end .0
     there z e same t l =
         let before : t < run table s j inputs .state .trains = rw (ap (λ (v : Line). v .trains) (kept .line)) l in
         let home : trainOf z t .at .0 ≡ trainOf z t .route .end .0 = rw e (h .home t before) in
         home ∙ rw (← route-of z t) (ap (λ (v : Line). routeOf v t .end .0) same)
 
-    told : (t : ℕ) → t < s .trains → observe o (run table s j (inputs ++ h .inputs) .exchanges) t .post ≡ routeOf (lineOf s) t .end .0
+    told : (t : ℕ) → t < s .trains
+        → observe o (run table s j (inputs ++ h .inputs) .exchanges) t .post ≡ routeOf (lineOf s) t .end .0
     told t l =
         at-post table (run table s j (inputs ++ h .inputs)) _ (run-kept table (inputs ++ h .inputs) s j o k .after) t
         (rw (ap (λ (v : Line). v .trains) line) l)
@@ -169,4 +189,7 @@ homecoming book table journal inputs e =
     let counted : Counted (openedState l) = rw (a .0) at (opened-counted book table journal e) in
     let home = home-after (filled l table) (long-table l table) (openedState l) journal (atOpening l)
     (opened-settled l table journal (a .1) (opened-line book)) counted inputs in
-    (home .0, rw (a .0) (λ t k. home .1 t k ∙ ap (λ (v : Line). routeOf v t .end .0) (opened-line book)))
+    let after : Line → Type 0 = λ v. (t : ℕ) → t < l .trains
+    → observe (atOpening l) (run (filled l table) (openedState l) journal (inputs ++ home .0) .exchanges) t .post
+    ≡ routeOf v t .end .0 in
+    (home .0, rw (a .0) (subst after (opened-line book) (home .1)))

@@ -1,4 +1,5 @@
--- What ties the state, the journal and the observer together, and one law for every change of one train's record with one message logged.
+-- What ties the state, the journal and the observer together, and one law for every change of one train's record with
+-- one message logged.
 -- Assumes nothing.
 use mathlib.Core.Path.{_≡_, refl, sym, ap, subst, _∙_}
 use mathlib.Core.Logic.{_≢_}
@@ -48,7 +49,8 @@ given n j t = countBelow n (λ i. isFeOf t (recordAt j i))
 pub record Tracked (n : ℕ) (j : List Record) (y : Seen) (t : ℕ) (x : Train) : Type 0 where
   pub seen : y ≡ seenOf x
   -- the number of an Asked train is that of its FA
-  pub request : isAsked (x .status) ≡ true → recordAt j (askedAs (x .status)) ≡ recordOf (Fa (moveOf t (x .at .0) (nextOf x)))
+  pub request : isAsked (x .status) ≡ true
+      → recordAt j (askedAs (x .status)) ≡ recordOf (Fa (moveOf t (x .at .0) (nextOf x)))
   pub authorities : given n j t ≡ reachedBy x
 
 -- the table's bits are those of the line's completable configurations
@@ -66,11 +68,13 @@ pub record Invariant (table : List ℕ) (s : State) (j : List Record) (o : Obser
 
 -- ---- one record more
 
-pub given-more : (n : ℕ) (j : List Record) (r : Record) (u : ℕ) → n < length j → given (n + 1) (set j n r) u ≡ ofBool (isFeOf u r) + given n j u
+pub given-more : (n : ℕ) (j : List Record) (r : Record) (u : ℕ) → n < length j
+    → given (n + 1) (set j n r) u ≡ ofBool (isFeOf u r) + given n j u
 unfolding countBelow
 given-more n j r u h =
     let own : recordAt (set j n r) n ≡ r = getD-set-same j n r blank h in
-    let below : given n (set j n r) u ≡ given n j u = count-cong n _ _ (λ i k. ap (isFeOf u) (getD-set-other j n i r blank (λ z. omega arith))) in
+    let below : given n (set j n r) u ≡ given n j u =
+    count-cong n _ _ (λ i k. ap (isFeOf u) (getD-set-other j n i r blank (λ z. omega arith))) in
     rw (add-one, own, below)
 
 -- a message of another train gives u no authority
@@ -84,9 +88,11 @@ other-train u (Refused n) h = refl
 
 -- ---- one change
 
-module _ (table : List ℕ) (s : State) (j : List Record) (o o′ : Observer) (t : ℕ) (a : Message) (x : Train) (inv : Invariant table s j o)
+module _ (table : List ℕ) (s : State) (j : List Record) (o o′ : Observer) (t : ℕ) (a : Message) (x : Train)
+    (inv : Invariant table s j o)
     (own : moveIn a .train .0 ≡ t) (space : s .logged < journalLength) (others : (u : ℕ) → u ≢ t → o′ u ≡ o u)
-    (place : t < length (s .fleet)) (route : x .route ≡ trainOf s t .route) (after : Valid (changed s t x (s .logged + 1)))
+    (place : t < length (s .fleet)) (route : x .route ≡ trainOf s t .route)
+    (after : Valid (changed s t x (s .logged + 1)))
     (tracked : Tracked (s .logged + 1) (set j (s .logged) (recordOf a)) (o′ t) t x)
     (onward : Completable (lineOf s) (update (reached s) t (reachedBy x))) where
   journal-room : s .logged < length j
@@ -95,14 +101,16 @@ module _ (table : List ℕ) (s : State) (j : List Record) (o o′ : Observer) (t
   same-line : lineOf (changed s t x (s .logged + 1)) ≡ lineOf s
   same-line = changed-line s t x (s .logged + 1) route
 
-  tracked-other : (u : ℕ) → u < s .trains → u ≢ t → Tracked (s .logged + 1) (set j (s .logged) (recordOf a)) (o′ u) u (trainOf s u)
+  tracked-other : (u : ℕ) → u < s .trains → u ≢ t
+      → Tracked (s .logged + 1) (set j (s .logged) (recordOf a)) (o′ u) u (trainOf s u)
   tracked-other u k h =
       let v = inv .each u k in
       let none : isFeOf u (recordOf a) ≡ false = other-train u a (λ e. h (sym e ∙ own)) in
       record {
         seen = others u h ∙ v .seen;
         request = λ q.
-            getD-set-other j (s .logged) (askedAs (trainOf s u .status)) (recordOf a) blank (λ z. omega (arith, inv .valid-state .each u k .numbered q))
+            getD-set-other j (s .logged) (askedAs (trainOf s u .status)) (recordOf a) blank
+            (λ z. omega (arith, inv .valid-state .each u k .numbered q))
             ∙ v .request q;
         authorities = given-more (s .logged) j (recordOf a) u journal-room ∙ rw (none, v .authorities) (omega arith);
       }
@@ -117,7 +125,10 @@ module _ (table : List ℕ) (s : State) (j : List Record) (o o′ : Observer) (t
     valid-state = after;
     right = subst (λ (l : Line). Right l table) (sym same-line) (inv .right);
     room = rw length-set (inv .room);
-    each = λ u k. changed-each s t x (s .logged + 1) (λ v y. Tracked (s .logged + 1) (set j (s .logged) (recordOf a)) (o′ v) v y) place tracked u (tracked-other u k);
+    each = λ u k.
+        changed-each s t x (s .logged + 1) (λ v y. Tracked (s .logged + 1) (set j (s .logged) (recordOf a)) (o′ v) v y)
+        place tracked u (tracked-other u k);
     completable = subst (λ (l : Line). Completable l (reached (changed s t x (s .logged + 1)))) (sym same-line)
-        (completable-cong (lineOf s) (update (reached s) t (reachedBy x)) (reached (changed s t x (s .logged + 1))) (λ u k. agrees u) onward);
+        (completable-cong (lineOf s) (update (reached s) t (reachedBy x)) (reached (changed s t x (s .logged + 1)))
+        (λ u k. agrees u) onward);
   }

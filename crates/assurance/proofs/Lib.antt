@@ -1,4 +1,5 @@
--- The whole list of frames: what ties state, journal and observer together, that every frame keeps it, and that it says what is claimed.
+-- The whole list of frames: what ties state, journal and observer together, that every frame keeps it, and that it says
+-- what is claimed.
 pub mod Invariant
 pub mod Standstill
 pub mod Logging

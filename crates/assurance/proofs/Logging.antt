@@ -1,4 +1,5 @@
--- What is logged and heard, message by message. The journal is written once, at the end of a frame: `journalOf` is what it would be so far.
+-- What is logged and heard, message by message. The journal is written once, at the end of a frame: `journalOf` is what
+-- it would be so far.
 -- Assumes nothing.
 use mathlib.Core.Path.{_≡_, refl, _∙_}
 use mathlib.Core.List.{List, [], _∷_, _++_, map, map-append}
@@ -20,7 +21,8 @@ use Rattle.assurance.specs.WholeList.{Requested}
 abbrev pub journalOf : List Record → ℕ → List Message → List Record
 journalOf j n l = replaced j n (map recordOf l)
 
-pub journal-first : (j : List Record) (n : ℕ) (a : Message) → n < length j → journalOf j n (a ∷ []) ≡ set j n (recordOf a)
+pub journal-first : (j : List Record) (n : ℕ) (a : Message) → n < length j
+    → journalOf j n (a ∷ []) ≡ set j n (recordOf a)
 journal-first j n a h = replaced-more j n [] (recordOf a) (rw add-zero h) ∙ rw (replaced-none j n, add-zero)
 
 pub journal-more : (j : List Record) (n : ℕ) (l : List Message) (a : Message) → n + length l < length j
@@ -38,13 +40,17 @@ pub later-same : (s : State) (j : List Record) → Later s j s j
 later-same s j = record { more = omega arith; same = λ i k. refl }
 
 pub later-still : {s s′ s″ : State} {j j′ j″ : List Record} → Later s j s′ j′ → Later s′ j′ s″ j″ → Later s j s″ j″
-later-still a b = record { more = omega (arith, a .more, b .more); same = λ i k. b .same i (omega (arith, a .more)) ∙ a .same i k }
+later-still a b = record {
+  more = omega (arith, a .more, b .more);
+  same = λ i k. b .same i (omega (arith, a .more)) ∙ a .same i k;
+}
 
 -- state and journal as a run leaves them, its exchanges left out
 abbrev pub left : State → List Record → Ran
 left s j = record { state = s; journal = j; exchanges = [] }
 
-pub requested-later : (r r′ : Ran) (m : Move) → Later (r .state) (r .journal) (r′ .state) (r′ .journal) → Requested r m → Requested r′ m
+pub requested-later : (r r′ : Ran) (m : Move) → Later (r .state) (r .journal) (r′ .state) (r′ .journal) → Requested r m
+    → Requested r′ m
 requested-later r r′ m l q = record {
   granted = q .granted;
   below = omega (arith, q .below, l .more);
@@ -56,7 +62,8 @@ requested-later r r′ m l q = record {
 
 -- ---- the observer
 
-pub heard-more : (o : Observer) (l : List Message) (a : Message) → hearAnswers o (l ++ a ∷ []) ≡ hearAnswer (hearAnswers o l) a
+pub heard-more : (o : Observer) (l : List Message) (a : Message)
+    → hearAnswers o (l ++ a ∷ []) ≡ hearAnswer (hearAnswers o l) a
 unfolding hearAnswers
 heard-more o [] a = refl
 heard-more o (b ∷ l) a = heard-more (hearAnswer o b) l a

@@ -1,12 +1,14 @@
--- In a run from an accepted opening no frame is refused by 1 or by 13: the state is valid and its count bounded, before each frame.
+-- In a run from an accepted opening no frame is refused by 1 or by 13: the state is valid and its count bounded, before
+-- each frame.
 -- Assumes nothing.
 use mathlib.Core.Path.{_≡_, refl, _∙_}
 use mathlib.Core.Logic.{_≢_, ⊎-elim}
 use mathlib.Core.List.{List, [], _∷_, List·Memᴰ, List·Memᴰ·not-nil, List·Memᴰ·cases-cons}
 use Prim.Native.Nat.{ℕ, _+_, _≤_}
+use lib.ListN.{length}
 use native.Mathlib.Omega.{arith}
 use borrow.Author.Tests.{le-leb}
-use Rattle.common.specs.Check.{refusal}
+use Rattle.common.specs.Check.{Check, refusal}
 use Rattle.common.proofs.Tests.{and-both}
 use Rattle.common.proofs.Check.{not-given}
 use Rattle.frame.specs.Frame.{readFrame}
@@ -29,26 +31,38 @@ pub record Counted (s : State) : Type 0 where
   pub bounded : s .logged ≤ recordsIn s
 
 module _ (table : List ℕ) where
-  pub answer-counted : (s : State) (j : List Record) (frame out : List ℕ) → Counted s → Counted (answer s table j frame out .state)
+  pub answer-counted : (s : State) (j : List Record) (frame out : List ℕ) → Counted s
+      → Counted (answer s table j frame out .state)
   answer-counted s j frame out k = by-verdict s table j frame out (λ a. Counted (a .state)) (λ n e. k) (λ p. record {
     valid-state = accepted-facts table s (k .valid-state) (readFrame frame) (p .message) .valid-state;
-    bounded = omega (arith, accepted-bounded table s (k .valid-state) (readFrame frame) (p .message) (k .bounded) .spare);
+    bounded =
+        let b = accepted-bounded table s (k .valid-state) (readFrame frame) (p .message) (k .bounded) in
+        omega (arith, b .spare);
   })
 
   module _ (s : State) (j : List Record) (frame out : List ℕ) (k : Counted s) where
-    not-by : (n : ℕ) → refusal (frameChecks s (length table) (length j) frame (length out)) ≢ n → answer s table j frame out .verdict ≢ RefusedBy n
-    not-by n h = by-verdict s table j frame out (λ a. a .verdict ≢ RefusedBy n) (λ m q e. h (let z : m ≡ n = cc in q ∙ z)) (λ p e. let z : _≡_ {A = ℕ} 0 1 = cc in omega arith)
+    abbrev checks : List Check
+    checks = frameChecks s (length table) (length j) frame (length out)
+
+    not-by : (n : ℕ) → refusal checks ≢ n → answer s table j frame out .verdict ≢ RefusedBy n
+    not-by n h =
+        by-verdict s table j frame out (λ a. a .verdict ≢ RefusedBy n) (λ m q e. h (let z : m ≡ n = cc in q ∙ z))
+        (λ p e. let z : _≡_ {A = ℕ} 0 1 = cc in omega arith)
 
     not-strange : answer s table j frame out .verdict ≢ RefusedBy strangeState
-    not-strange = not-by strangeState (not-given strangeState (frameChecks s (length table) (length j) frame (length out)) (omega arith) (and-both _ _ (is-valid s (k .valid-state)) refl))
+    not-strange =
+        not-by strangeState (not-given strangeState checks (omega arith) (and-both _ _ (is-valid s (k .valid-state)) refl))
 
     not-full : answer s table j frame out .verdict ≢ RefusedBy journalFull
-    not-full = not-by journalFull (not-given journalFull (frameChecks s (length table) (length j) frame (length out)) (omega arith)
-        (and-both _ _ (le-leb (s .logged + mostLogged) journalLength (omega (arith, k .bounded, few-records s (k .valid-state)))) refl))
+    not-full = not-by journalFull (not-given journalFull checks (omega arith)
+        (and-both _ _ (le-leb (s .logged + mostLogged) journalLength
+        (omega (arith, k .bounded, few-records s (k .valid-state)))) refl))
 
   -- what holds of the answer to each frame that finds a counted state holds of every exchange of a run from one
-  each-exchange : (P : Verdict → Type 0) → ((s : State) (j : List Record) (frame out : List ℕ) → Counted s → P (answer s table j frame out .verdict))
-      → (inputs : List Input) (s : State) (j : List Record) → Counted s → (e : Exchange) → List·Memᴰ e (run table s j inputs .exchanges) → P (e .verdict)
+  each-exchange : (P : Verdict → Type 0)
+      → ((s : State) (j : List Record) (frame out : List ℕ) → Counted s → P (answer s table j frame out .verdict))
+      → (inputs : List Input) (s : State) (j : List Record) → Counted s → (e : Exchange)
+      → List·Memᴰ e (run table s j inputs .exchanges) → P (e .verdict)
   unfolding run
   each-exchange P h [] s j k e m = absurd (List·Memᴰ·not-nil m)
   each-exchange P h (i ∷ is) s j k e m = ⊎-elim
@@ -57,7 +71,8 @@ module _ (table : List ℕ) where
       (List·Memᴰ·cases-cons m)
 
 -- the opened state has no record
-pub opened-counted : (book table : List ℕ) (journal : List Record) → opening book table journal .number ≡ 0 → Counted (opening book table journal .state)
+pub opened-counted : (book table : List ℕ) (journal : List Record) → opening book table journal .number ≡ 0
+    → Counted (opening book table journal .state)
 opened-counted book table journal e =
     let a = opening-accepted book table journal e in
     rw (a .0) (record {
@@ -67,6 +82,10 @@ opened-counted book table journal e =
 
 pub never-refused-in-runs : NeverRefused
 never-refused-in-runs = record {
-  strange = λ book table journal inputs e. each-exchange _ (λ v. v ≢ RefusedBy strangeState) (not-strange _) inputs _ journal (opened-counted book table journal e);
-  full = λ book table journal inputs e. each-exchange _ (λ v. v ≢ RefusedBy journalFull) (not-full _) inputs _ journal (opened-counted book table journal e);
+  strange = λ book table journal inputs e.
+      each-exchange _ (λ v. v ≢ RefusedBy strangeState) (not-strange _) inputs _ journal
+      (opened-counted book table journal e);
+  full = λ book table journal inputs e.
+      each-exchange _ (λ v. v ≢ RefusedBy journalFull) (not-full _) inputs _ journal
+      (opened-counted book table journal e);
 }

@@ -16,7 +16,8 @@ use Rattle.dispatcher.specs.Answer.{answer}
 use Rattle.dispatcher.proofs.Validity.{Distinct, valid-facts, is-valid}
 use Rattle.dispatcher.proofs.Changes.{distinct-change}
 use Rattle.dispatcher.proofs.Oldest.{Oldest, oldest-none, oldest-some, earlier}
-use Rattle.dispatcher.proofs.Grants.{askedCount, Turn, granted-fewer, granted-place, none-asked, few-asked, settled-next}
+use Rattle.dispatcher.proofs.Grants.{askedCount, Turn, granted-fewer, granted-place, none-asked, few-asked}
+use Rattle.dispatcher.proofs.Grants.{settled-next}
 use Rattle.dispatcher.proofs.Settling.{settled-settles}
 use Rattle.dispatcher.proofs.Acceptance.{by-verdict, accepted-facts}
 use Rattle.assurance.specs.Types.{Fe, Record, State, Sent}
@@ -50,7 +51,8 @@ module _ (table : List ℕ) where
   -- a grant takes a number away, and the others stay distinct
   granted-distinct : (w : Work) (t : ℕ) → Turn table w t → Distinct (w .state) → Distinct (granted w t .state)
   granted-distinct w t f =
-      distinct-change (w .state) t (withStatus (trainOf (w .state) t) Running) (w .state .logged + 1) (granted-place table w t f)
+      distinct-change (w .state) t (withStatus (trainOf (w .state) t) Running) (w .state .logged + 1)
+      (granted-place table w t f)
       (λ u k h p. absurd (false≢true p))
 
   chain : (n : ℕ) (w : Work) → Distinct (w .state) → askedCount (w .state) ≤ n → Granting table w (grants table n w)
@@ -59,12 +61,14 @@ module _ (table : List ℕ) where
   chain (suc n) w d few = at (oldest table (w .state) (w .state .trains)) refl (λ t a b. chain n (granted w t) a b)
     where
       at : (r : Option ℕ) → oldest table (w .state) (w .state .trains) ≡ r
-          → ((t : ℕ) → Distinct (granted w t .state) → askedCount (granted w t .state) ≤ n → Granting table (granted w t) (grants table n (granted w t)))
+          → ((t : ℕ) → Distinct (granted w t .state) → askedCount (granted w t .state) ≤ n
+          → Granting table (granted w t) (grants table n (granted w t)))
           → Granting table w (proceed r w (λ t. grants table n (granted w t)))
       at none e rest = done w (oldest-none table (w .state) (w .state .trains) e .barred)
       at (some t) e rest =
           let f = oldest-some table (w .state) (w .state .trains) t e in
-          next w _ t (turn-first (w .state) d t f) (rest t (granted-distinct w t f d) (omega (arith, granted-fewer table w t f)))
+          next w _ t (turn-first (w .state) d t f)
+          (rest t (granted-distinct w t f d) (omega (arith, granted-fewer table w t f)))
 
 pub exact-grant : ExactGrant
 exact-grant = record {
@@ -78,5 +82,6 @@ oldest-first table w t e f =
     let d = valid-facts (w .state) e in
     let rest = settled-settles table (granted w t) in (
       rest .answers,
-      ap (λ (v : Work). v .logged) (sym (settled-next table w t d (first-turn table (w .state) t f))) ∙ rest .added ∙ append-assoc (w .logged) (Fe (nextMove (w .state) t) ∷ []) (rest .answers),
+      ap (λ (v : Work). v .logged) (sym (settled-next table w t d (first-turn table (w .state) t f))) ∙ rest .added ∙
+          append-assoc (w .logged) (Fe (nextMove (w .state) t) ∷ []) (rest .answers),
     )

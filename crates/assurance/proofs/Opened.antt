@@ -1,7 +1,8 @@
--- An accepted opening establishes the invariant: the line is that of the book and well formed, the table is right, and every train stands at its start.
+-- An accepted opening establishes the invariant: the line is that of the book and well formed, the table is right, and
+-- every train stands at its start.
 -- Assumes nothing.
 use mathlib.Core.Path.{_≡_, refl, sym, subst}
-use mathlib.Core.Bool.{true, false≢true, true≢false}
+use mathlib.Core.Bool.{Bool, true, false≢true, true≢false}
 use mathlib.Core.List.{List}
 use Prim.Native.Nat.{ℕ, _≤_, _<_}
 use native.Mathlib.Omega.{arith}
@@ -51,17 +52,20 @@ module _ (book table : List ℕ) (journal : List Record) where
       record {
         line = well-formed (lineIn book) (well-formed-parts (lineIn book) (check 3) (check 5) (check 6) (check 8));
         fits = feasible-of (lineIn book) start (check 9);
-        bit = check 10 refl;
+        bit = check 10;
         room = leb-true _ _ (and-right (leb tableLength (length table)) _ (check 0));
       }
 
   -- a book that is not refused passed them all
-  pub opening-accepted : opening book table journal .number ≡ 0 → (opening book table journal ≡ opened (lineIn book) table) × Accepted (lineIn book) table journal
+  pub opening-accepted : opening book table journal .number ≡ 0
+      → (opening book table journal ≡ opened (lineIn book) table) × Accepted (lineIn book) table journal
   unfolding openingWith
   opening-accepted e = by-equality (refusal (openingChecks book table (length journal))) 0
       (λ q. (accepts (opened (lineIn book) table) (refusedBook (lineIn book) table) q, book-passed q))
       (λ h.
-      let r = refuses {n = refusal (openingChecks book table (length journal))} (opened (lineIn book) table) (refusedBook (lineIn book) table) (omega arith) in
+      let r =
+      refuses {n = refusal (openingChecks book table (length journal))} (opened (lineIn book) table)
+      (refusedBook (lineIn book) table) (omega arith) in
       absurd (h (rw r at e)))
 
 -- ---- the opened state
@@ -71,7 +75,8 @@ pub opened-line : (book : List ℕ) → lineOf (openedState (lineIn book)) ≡ l
 unfolding valuesFrom padded
 opened-line book = refl
 
-module _ (l : Line) (table : List ℕ) (journal : List Record) (a : Accepted l table journal) (same : lineOf (openedState l) ≡ l) where
+module _ (l : Line) (table : List ℕ) (journal : List Record) (a : Accepted l table journal)
+    (same : lineOf (openedState l) ≡ l) where
   fresh-train : (t : ℕ) → t < l .trains → trainOf (openedState l) t ≡ fresh (routeOf l t)
   fresh-train t k = at-tabulate 6 (λ u. fresh (routeOf l u)) t noTrain (omega (arith, a .line .few-trains))
 
@@ -83,9 +88,12 @@ module _ (l : Line) (table : List ℕ) (journal : List Record) (a : Accepted l t
       busy = λ q. absurd (true≢false q);
       numbered = λ q. absurd (false≢true q);
     });
-    sections = λ i k. omega (arith, count-none (l .trains) (λ t. holdsSection (located (openedState l) t) i) (λ t kt. rw (fresh-train t kt)));
+    sections = λ i k.
+        let holds : ℕ → Bool = λ t. holdsSection (located (openedState l) t) i in
+        omega (arith, count-none (l .trains) holds (λ t kt. rw (fresh-train t kt)));
     posts = λ p k.
-        rw (count-cong (l .trains) (λ t. holdsPost (located (openedState l) t) p) (λ t. holdsPost (whereabouts l start t) p)
+        rw (count-cong (l .trains) (λ t. holdsPost (located (openedState l) t) p)
+        (λ t. holdsPost (whereabouts l start t) p)
         (λ t kt. rw (fresh-train t kt, post-start (routeOf l t))))
         (a .fits .fits p k);
     few-logged = omega arith;
@@ -93,7 +101,10 @@ module _ (l : Line) (table : List ℕ) (journal : List Record) (a : Accepted l t
   }
 
   right : Right l (filled l table)
-  right = record { sound = bit-completable l (a .line) table; full = λ c f. completable-bit l (a .line) table c (f .feasible .within) f }
+  right = record {
+    sound = bit-completable l (a .line) table;
+    full = λ c f. completable-bit l (a .line) table c (f .feasible .within) f;
+  }
 
   opened-kept : Invariant (filled l table) (openedState l) journal (atOpening l)
   unfolding countBelow
@@ -101,7 +112,8 @@ module _ (l : Line) (table : List ℕ) (journal : List Record) (a : Accepted l t
     valid-state = opened-valid;
     right = subst (λ (z : Line). Right z (filled l table)) (sym same) right;
     room = a .room;
-    each = λ t k. rw (fresh-train t k) (record { seen = refl; request = λ q. absurd (false≢true q); authorities = omega arith });
+    each = λ t k.
+        rw (fresh-train t k) (record { seen = refl; request = λ q. absurd (false≢true q); authorities = omega arith });
     completable = subst (λ (z : Line). Completable z (reached (openedState l))) (sym same)
         (completable-cong l start (reached (openedState l)) (λ t k. rw (fresh-train t k) (omega arith))
         (bit-completable l (a .line) table start (a .fits .within) (a .bit)));

@@ -13,15 +13,22 @@ use Rattle.assurance.specs.WholeList.{Requested}
 use Rattle.assurance.proofs.Logging.{Later, later-same, later-still, left, requested-later}
 use Rattle.assurance.proofs.Exchanged.{Settled, answer-kept}
 
+-- "Every authority written has its logged request."
+abbrev pub AllRequested : Ran → Type 0
+AllRequested r = (e : Exchange) → List·Memᴰ e (r .exchanges)
+    → (m : Move) → List·Memᴰ (Fe m) (answersOf (e .verdict) (e .out)) → Requested r m
+
 pub record RunKept (table : List ℕ) (s : State) (j : List Record) (o : Observer) (r : Ran) : Type 0 where
   pub after : Settled table (r .state) (r .journal) (observe o (r .exchanges))
   pub line : lineOf (r .state) ≡ lineOf s
-  pub requested : (e : Exchange) → List·Memᴰ e (r .exchanges) → (m : Move) → List·Memᴰ (Fe m) (answersOf (e .verdict) (e .out)) → Requested r m
+  pub requested : AllRequested r
   pub later : Later s j (r .state) (r .journal)
 
-pub run-kept : (table : List ℕ) (inputs : List Input) (s : State) (j : List Record) (o : Observer) → Settled table s j o → RunKept table s j o (run table s j inputs)
+pub run-kept : (table : List ℕ) (inputs : List Input) (s : State) (j : List Record) (o : Observer) → Settled table s j o
+    → RunKept table s j o (run table s j inputs)
 unfolding run observe
-run-kept table [] s j o k = record { after = k; line = refl; requested = λ e h. absurd (List·Memᴰ·not-nil h); later = later-same s j }
+run-kept table [] s j o k =
+    record { after = k; line = refl; requested = λ e h. absurd (List·Memᴰ·not-nil h); later = later-same s j }
 run-kept table (i ∷ is) s j o k =
     let a = answer s table j (i .frame) (i .out) in
     let f = answer-kept table s j o k (i .frame) (i .out) in
@@ -31,7 +38,8 @@ run-kept table (i ∷ is) s j o k =
       line = r .line ∙ f .line;
       requested = λ e h m q. ⊎-elim
           (λ first. requested-later (left (a .state) (a .journal)) _ m (r .later) (f .requested m (rw first at q)))
-          (λ rest. requested-later (run table (a .state) (a .journal) is) _ m (later-same _ _) (r .requested e rest m q))
+          (λ rest. requested-later (run table (a .state) (a .journal) is) _ m (later-same _ _)
+          (r .requested e rest m q))
           (List·Memᴰ·cases-cons h);
       later = later-still (f .later) (r .later);
     }

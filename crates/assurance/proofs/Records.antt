@@ -1,6 +1,6 @@
--- How many records there can be. Each post travelled takes at most four, FA, AFE, FE and AM, so that a train's record says how many it can have taken
--- so far, and the journal's count is at most their sum: at most 168, since six trains travel at most seven posts each. Every accepted frame raises
--- the sum. For any table.
+-- How many records there can be. Each post travelled takes at most four, FA, AFE, FE and AM, so that a train's record
+-- says how many it can have taken so far, and the journal's count is at most their sum: at most 168, since six trains
+-- travel at most seven posts each. Every accepted frame raises the sum. For any table.
 -- Assumes nothing.
 use mathlib.Core.Path.{_≡_, refl, sym, ap}
 use mathlib.Core.Bool.{true, false, false≢true}
@@ -84,7 +84,8 @@ few-records s d =
     each : (t : ℕ) → t < s .trains → recordsOf (trainOf s t) ≤ 28
     each t k =
         let x = trainOf s t in
-        let far : distance (x .route .start .0) (x .route .end .0) ≤ 7 = rw (route-of s t) at (short-route (lineOf s) (d .line) t k) in
+        let far : distance (x .route .start .0) (x .route .end .0) ≤ 7 =
+        rw (route-of s t) at (short-route (lineOf s) (d .line) t k) in
         by-cases (isFree (x .status))
         (λ e. omega (arith, free-none (x .status) e, travelled-within _ _ _ (d .each t k .inside)))
         (λ e. omega (arith, most-three (x .status), next-within _ _ _ (d .each t k .inside) (d .each t k .busy e)))
@@ -95,7 +96,9 @@ module _ (table : List ℕ) (e n : ℕ) where
   granted-bounded : (w : Work) (t : ℕ) → Bounded e n (w .state) → Turn table w t → Bounded e n (granted w t .state)
   granted-bounded w t b f =
       let two = asked-two (trainOf (w .state) t .status) (grantable-facts table (w .state) t (f .can) .asks) in
-      let c = changed-records (w .state) t (withStatus (trainOf (w .state) t) Running) (w .state .logged + 1) (f .known) (granted-place table w t f) in
+      let c =
+      changed-records (w .state) t (withStatus (trainOf (w .state) t) Running) (w .state .logged + 1) (f .known)
+      (granted-place table w t f) in
       record { spare = omega (arith, b .spare); raised = omega (arith, b .raised) }
 
   settled-bounded : (w : Work) → Bounded e n (w .state) → Bounded e n (settled table w .state)
@@ -114,7 +117,9 @@ unfolding accepted
 accepted-bounded table s d a (request m q free idle) b =
     let t = m .train .0 in
     let none = free-none (trainOf s t .status) (neither (trainOf s t .status) free idle) in
-    let c = changed-records s t (withStatus (trainOf s t) (Asked (s .logged))) (s .logged + 1) (q .known) (short-place s t (q .short)) in
+    let c =
+    changed-records s t (withStatus (trainOf s t) (Asked (s .logged))) (s .logged + 1) (q .known)
+    (short-place s t (q .short)) in
     let w = taken s (Fa m) (withStatus (trainOf s t) (Asked (s .logged))) in
     declined-bounded (recordsIn s + 1) m (settled table w)
     (settled-bounded table 1 (recordsIn s + 1) w (record { spare = omega arith; raised = omega arith }))
@@ -123,4 +128,5 @@ accepted-bounded table s d a (arrival m q runs) b =
     let three : askedFor (trainOf s t .status) ≡ 3 = rw (running-is (trainOf s t .status) runs) in
     let c = changed-records s t (arrivedNext (trainOf s t)) (s .logged + 1) (q .known) (short-place s t (q .short)) in
     let far = next-travelled _ _ _ (d .each t (q .known) .inside) (q .short) in
-    settled-bounded table 0 (recordsIn s + 1) (taken s (Am m) (arrivedNext (trainOf s t))) (record { spare = omega arith; raised = omega arith })
+    settled-bounded table 0 (recordsIn s + 1) (taken s (Am m) (arrivedNext (trainOf s t)))
+    (record { spare = omega arith; raised = omega arith })

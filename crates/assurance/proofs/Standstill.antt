@@ -1,5 +1,5 @@
--- No standstill: where nobody can be granted, some train that is short of its end is not waiting. With no train Running, the first move of a
--- completion is one that can be granted.
+-- No standstill: where nobody can be granted, some train that is short of its end is not waiting. With no train
+-- Running, the first move of a completion is one that can be granted.
 -- Assumes nothing.
 use mathlib.Core.Path.{_≡_, sym, ap, _∙_}
 use mathlib.Core.Logic.{_≢_}
@@ -33,16 +33,20 @@ use Rattle.assurance.proofs.Invariant.{Right}
 abbrev pub Short : State → ℕ → Type 0
 Short s t = trainOf s t .at .0 ≢ trainOf s t .route .end .0
 
-module _ (table : List ℕ) (s : State) (d : Valid s) (right : Right (lineOf s) table) (complete : Completable (lineOf s) (reached s)) where
+module _ (table : List ℕ) (s : State) (d : Valid s) (right : Right (lineOf s) table)
+    (complete : Completable (lineOf s) (reached s)) where
   -- ---- no train is Running
 
   module _ (idle : (v : ℕ) → v < s .trains → isRunning (trainOf s v .status) ≡ false) where
     -- every train is where the configuration has it
     stands : (v : ℕ) → v < s .trains → postAfter (routeOf (lineOf s) v) (reached s v) ≡ trainOf s v .at .0
-    stands v k = rw (reached-idle s v (idle v k), route-of s v) (post-travelled (trainOf s v .route) (trainOf s v .at .0) (d .each v k .inside))
+    stands v k =
+        rw (reached-idle s v (idle v k), route-of s v)
+        (post-travelled (trainOf s v .route) (trainOf s v .at .0) (d .each v k .inside))
 
     placed : (v : ℕ) → v < s .trains → located s v ≡ whereabouts (lineOf s) (reached s) v
-    placed v k = idle-located (trainOf s v .status) (trainOf s v .at .0) (nextOf (trainOf s v)) (idle v k) ∙ rw (stands v k)
+    placed v k =
+        idle-located (trainOf s v .status) (trainOf s v .at .0) (nextOf (trainOf s v)) (idle v k) ∙ rw (stands v k)
 
     short-of : (t : ℕ) → t < s .trains → Short s t → Arrived (lineOf s) (reached s) → ⊥
     short-of t k short e =
@@ -58,7 +62,8 @@ module _ (table : List ℕ) (s : State) (d : Valid s) (right : Right (lineOf s) 
       away : Short s (m .train)
       away e =
           let far : reached s (m .train) < routeLength (mover .route) = rw (route-of s (m .train)) at (m .short) in
-          let here : reached s (m .train) ≡ routeLength (mover .route) = reached-idle s (m .train) (idle (m .train) (m .known)) ∙ rw e in
+          let here : reached s (m .train) ≡ routeLength (mover .route) =
+          reached-idle s (m .train) (idle (m .train) (m .known)) ∙ rw e in
           omega arith
 
       free-section : sectionHolders (s .trains) (located s) (sectionOf (mover .at .0) (nextOf mover)) ≡ 0
@@ -72,7 +77,8 @@ module _ (table : List ℕ) (s : State) (d : Valid s) (right : Right (lineOf s) 
           let before : ℕ → Bool = λ v. holdsPost (whereabouts (lineOf s) (reached s) v) q in
           let after : ℕ → Bool = λ v. holdsPost (whereabouts (lineOf s) (moved (reached s) (m .train)) v) q in
           let same : postHolders (s .trains) (located s) q ≡ countBelow (s .trains) before =
-          count-cong (s .trains) (λ v. holdsPost (located s v) q) before (λ v k. ap (λ (w : Whereabouts). holdsPost w q) (placed v k)) in
+          count-cong (s .trains) (λ v. holdsPost (located s v) q) before
+          (λ v k. ap (λ (w : Whereabouts). holdsPost w q) (placed v k)) in
           let change = count-change (s .trains) before after (m .train) (m .known)
           (λ v k h. rw (update-other (reached s) (m .train) (reached s (m .train) + 1) v h)) in
           let was : ofBool (before (m .train)) ≡ 0 =
@@ -81,7 +87,11 @@ module _ (table : List ℕ) (s : State) (d : Valid s) (right : Right (lineOf s) 
             ne-eqb (mover .at .0) q (λ e. next-other _ _ _ (d .each (m .train) (m .known) .inside) away (sym e)),
           ) in
           let goes : postAfter (routeOf (lineOf s) (m .train)) (moved (reached s) (m .train) (m .train)) ≡ q =
-          rw (update-own (reached s) (m .train) (reached s (m .train) + 1), reached-idle s (m .train) (idle (m .train) (m .known)), route-of s (m .train))
+          rw (
+            update-own (reached s) (m .train) (reached s (m .train) + 1),
+            reached-idle s (m .train) (idle (m .train) (m .known)),
+            route-of s (m .train),
+          )
           (post-next (mover .route) (mover .at .0) (d .each (m .train) (m .known) .inside) away) in
           let is : ofBool (after (m .train)) ≡ 1 = rw (eq-eqb _ _ goes) in
           let fits = m .next .feasible .fits q (next-post-below s d (m .train) (m .known) away) in
@@ -101,7 +111,8 @@ module _ (table : List ℕ) (s : State) (d : Valid s) (right : Right (lineOf s) 
       → (t : ℕ) → t < s .trains → Short s t → ⊥
   stuck nobody all t k short =
       let m = first-move (lineOf s) (reached s) complete (short-of idle t k short) in
-      clash (grantable table s (m .train)) (mover-grantable idle m (all (m .train) (m .known) (away idle m))) (nobody .barred (m .train) (m .known))
+      clash (grantable table s (m .train)) (mover-grantable idle m (all (m .train) (m .known) (away idle m)))
+      (nobody .barred (m .train) (m .known))
     where
       idle : (v : ℕ) → v < s .trains → isRunning (trainOf s v .status) ≡ false
       idle v kv = not-passed (isRunning (trainOf s v .status)) (λ e. clash (isRunning (trainOf s v .status)) e
@@ -121,7 +132,10 @@ module _ (table : List ℕ) (s : State) (d : Valid s) (right : Right (lineOf s) 
       waits u = not (atEnd (trainOf s u)) && not (isAsked (trainOf s u .status))
 
       none : (u : ℕ) → u < s .trains → anyBelow (s .trains) waits ≡ false → waits u ≡ false
-      none u ku e = not-passed (waits u) (λ p. clash (anyBelow (s .trains) waits) (below-any (s .trains) waits u ku p) e)
+      none u ku e =
+          not-passed (waits u) (λ p. clash (anyBelow (s .trains) waits) (below-any (s .trains) waits u ku p) e)
 
       asked-if : (u : ℕ) → Short s u → waits u ≡ false → isAsked (trainOf s u .status) ≡ true
-      asked-if u away e = not-false (isAsked (trainOf s u .status)) (rw (ne-eqb (trainOf s u .at .0) (trainOf s u .route .end .0) away) at e)
+      asked-if u away e =
+          not-false (isAsked (trainOf s u .status))
+          (rw (ne-eqb (trainOf s u .at .0) (trainOf s u .route .end .0) away) at e)

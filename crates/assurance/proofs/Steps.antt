@@ -1,4 +1,5 @@
--- A request, an arrival, a grant and an AFE keep the invariant: each is a change of one train's record with one message logged.
+-- A request, an arrival, a grant and an AFE keep the invariant: each is a change of one train's record with one message
+-- logged.
 -- Assumes nothing.
 use mathlib.Core.Path.{_≡_, refl, sym, ap, subst, _∙_}
 use mathlib.Core.Bool.{true, false, false≢true}
@@ -17,15 +18,18 @@ use Rattle.completion.specs.Configuration.{Completable, moved}
 use Rattle.completion.proofs.Agreement.{completable-cong}
 use Rattle.dispatcher.specs.declared.state.Status.the-variants.{Asked, Running}
 use Rattle.dispatcher.specs.declared.state.Train.{Train}
-use Rattle.dispatcher.specs.State.{isAsked, isRunning, askedAs, nextOf, reachedBy, noTrain, trainOf, lineOf, reached, nextMove, withStatus, arrivedNext, withTrain, oneLogged}
+use Rattle.dispatcher.specs.State.{isAsked, isRunning, askedAs, nextOf, reachedBy, noTrain, trainOf, lineOf, reached}
+use Rattle.dispatcher.specs.State.{nextMove, withStatus, arrivedNext, withTrain, oneLogged}
 use Rattle.dispatcher.specs.Granting.{grantable}
 use Rattle.dispatcher.proofs.Trains.{asked-idle, running-is, in-fleet, changed}
 use Rattle.dispatcher.proofs.Validity.{Valid}
-use Rattle.dispatcher.proofs.Changes.{grantable-facts, short-place, valid-logged, valid-request, valid-arrival, valid-grant}
+use Rattle.dispatcher.proofs.Changes.{grantable-facts, short-place, valid-logged, valid-request, valid-arrival}
+use Rattle.dispatcher.proofs.Changes.{valid-grant}
 use Rattle.dispatcher.proofs.Acceptance.{NextMove}
 use Rattle.dispatcher.proofs.Reached.{moved-within}
 use Rattle.assurance.specs.Types.{Move, Message, Fa, Fe, Afe, Am, Record, State}
-use Rattle.assurance.specs.Observer.{Claim, nothing, asked, authority, Seen, Observer, isFor, hearFrame, hearAnswer}
+use Rattle.assurance.specs.Observer.{Claim, nothing, asked, authority, Seen, Observer, isFor, hearFrame}
+use Rattle.assurance.specs.Observer.{hearAnswer}
 use Rattle.assurance.specs.WholeList.{isFeOf}
 use Rattle.assurance.proofs.Invariant.{given, given-more, Invariant, changed-kept}
 
@@ -39,21 +43,25 @@ seenWith p c = record { post = p; claim = c }
 
 -- ---- a grant
 
-module _ (table : List ℕ) (s : State) (j : List Record) (o : Observer) (inv : Invariant table s j o) (t : ℕ) (known : t < s .trains)
+module _ (table : List ℕ) (s : State) (j : List Record) (o : Observer) (inv : Invariant table s j o) (t : ℕ)
+    (known : t < s .trains)
     (space : s .logged < journalLength) where
   pub grant-kept : grantable table s t ≡ true
-      → Invariant table (oneLogged (withTrain s t (withStatus (trainOf s t) Running))) (set j (s .logged) (recordOf (Fe (nextMove s t))))
-      (hearAnswer o (Fe (nextMove s t)))
+      → let x = withStatus (trainOf s t) Running in
+      let a = Fe (nextMove s t) in
+      Invariant table (oneLogged (withTrain s t x)) (set j (s .logged) (recordOf a)) (hearAnswer o a)
   grant-kept e =
       let g = grantable-facts table s t e in
       let d = inv .valid-state in
       let x = withStatus (trainOf s t) Running in
       let idle = asked-idle (trainOf s t .status) (g .asks) in
+      let permit = authority (trainOf s t .at .0) (nextOf (trainOf s t)) in
       let further : reachedBy x ≡ reached s t + 1 = rw idle (omega arith) in
-      changed-kept table s j o (hearAnswer o (Fe (nextMove s t))) t (Fe (nextMove s t)) x inv refl space (λ u h. update-other o t _ u h)
+      changed-kept table s j o (hearAnswer o (Fe (nextMove s t))) t (Fe (nextMove s t)) x inv refl space
+      (λ u h. update-other o t _ u h)
       (in-fleet s t (λ y. isAsked (y .status)) refl (g .asks)) refl (valid-grant s d t known space table e)
       (record {
-        seen = update-own o t _ ∙ ap (λ (y : Seen). seenWith (y .post) (authority (trainOf s t .at .0) (nextOf (trainOf s t)))) (inv .each t known .seen);
+        seen = update-own o t _ ∙ ap (λ (y : Seen). seenWith (y .post) permit) (inv .each t known .seen);
         request = λ q. absurd (false≢true q);
         authorities = given-more (s .logged) j (recordOf (Fe (nextMove s t))) t (omega (arith, inv .room))
             ∙ rw (own-authority (nextMove s t), inv .each t known .authorities, idle) (omega arith);
@@ -74,7 +82,8 @@ module _ (table : List ℕ) (s : State) (j : List Record) (o : Observer) (inv : 
   journal-room space = omega (arith, inv .room)
 
   -- a message that is no FE gives no authority
-  same-given : (a : Message) (t : ℕ) → isFeOf t (recordOf a) ≡ false → s .logged < journalLength → given (s .logged + 1) (set j (s .logged) (recordOf a)) t ≡ given (s .logged) j t
+  same-given : (a : Message) (t : ℕ) → isFeOf t (recordOf a) ≡ false → s .logged < journalLength
+      → given (s .logged + 1) (set j (s .logged) (recordOf a)) t ≡ given (s .logged) j t
   same-given a t e space = given-more (s .logged) j (recordOf a) t (journal-room space) ∙ rw e (omega arith)
 
   module _ (m : Move) (n : NextMove s m) where
@@ -85,33 +94,42 @@ module _ (table : List ℕ) (s : State) (j : List Record) (o : Observer) (inv : 
     place = short-place s (m .train .0) (n .short)
 
     pub request-kept : isRunning (trainOf s (m .train .0) .status) ≡ false
-        → Invariant table (oneLogged (withTrain s (m .train .0) (withStatus (trainOf s (m .train .0)) (Asked (s .logged))))) (set j (s .logged) (recordOf (Fa m)))
-        (hearFrame o (Fa m))
+        → let x = withStatus (trainOf s (m .train .0)) (Asked (s .logged)) in
+        Invariant table (oneLogged (withTrain s (m .train .0) x)) (set j (s .logged) (recordOf (Fa m))) (hearFrame o (Fa m))
     unfolding recordOf
     request-kept idle =
         let t = m .train .0 in
         let x = withStatus (trainOf s t) (Asked (s .logged)) in
-        changed-kept table s j o (hearFrame o (Fa m)) t (Fa m) x inv refl space (λ u h. update-other o t _ u h) place refl
-        (valid-request s (inv .valid-state) t (n .known) space (n .short) idle)
+        changed-kept table s j o (hearFrame o (Fa m)) t (Fa m) x inv refl space (λ u h. update-other o t _ u h)
+        place refl (valid-request s (inv .valid-state) t (n .known) space (n .short) idle)
         (record {
           seen = update-own o t _ ∙ ap (λ (y : Seen). seenWith (y .post) asked) (inv .each t (n .known) .seen);
-          request = λ q. getD-set-same j (s .logged) (recordOf (Fa m)) blank (journal-room space) ∙ rw (← n .to, ← n .from);
+          request = λ q.
+              getD-set-same j (s .logged) (recordOf (Fa m)) blank (journal-room space) ∙ rw (← n .to, ← n .from);
           authorities = same-given (Fa m) t refl space ∙ inv .each t (n .known) .authorities ∙ rw idle;
         })
         (stays t x (rw idle))
 
     pub arrival-kept : isRunning (trainOf s (m .train .0) .status) ≡ true
-        → Invariant table (oneLogged (withTrain s (m .train .0) (arrivedNext (trainOf s (m .train .0))))) (set j (s .logged) (recordOf (Am m)))
-        (hearFrame o (Am m))
+        → let x = arrivedNext (trainOf s (m .train .0)) in
+        Invariant table (oneLogged (withTrain s (m .train .0) x)) (set j (s .logged) (recordOf (Am m))) (hearFrame o (Am m))
     unfolding recordOf
     arrival-kept runs =
         let t = m .train .0 in
         let x = arrivedNext (trainOf s t) in
         let v = inv .each t (n .known) in
-        let further : reachedBy x ≡ reached s t = rw runs (omega (arith, next-travelled _ _ _ (inv .valid-state .each t (n .known) .inside) (n .short))) in
+        let further : reachedBy x ≡ reached s t =
+        rw runs (omega (arith, next-travelled _ _ _ (inv .valid-state .each t (n .known) .inside) (n .short))) in
         let arrived : Observer = update o t (seenWith (m .to .0) nothing) in
         let authorised : isFor (o t .claim) (m .from .0) (m .to .0) ≡ true =
-        rw (v .seen, running-is (trainOf s t .status) runs, n .to, n .from, eq-eqb (trainOf s t .at .0) _ refl, eq-eqb (nextOf (trainOf s t)) _ refl) in
+        rw (
+          v .seen,
+          running-is (trainOf s t .status) runs,
+          n .to,
+          n .from,
+          eq-eqb (trainOf s t .at .0) _ refl,
+          eq-eqb (nextOf (trainOf s t)) _ refl,
+        ) in
         let heard : hearFrame o (Am m) ≡ arrived = rw authorised in
         rw heard (changed-kept table s j o arrived t (Am m) x inv refl space (λ u h. update-other o t _ u h) place refl
         (valid-arrival s (inv .valid-state) t (n .known) space (n .short) runs)
@@ -122,7 +140,8 @@ module _ (table : List ℕ) (s : State) (j : List Record) (o : Observer) (inv : 
         })
         (stays t x further))
 
-  pub decline-kept : (m : Move) → m .train .0 < s .trains → isAsked (trainOf s (m .train .0) .status) ≡ true → s .logged < journalLength
+  pub decline-kept : (m : Move) → m .train .0 < s .trains → isAsked (trainOf s (m .train .0) .status) ≡ true
+      → s .logged < journalLength
       → Invariant table (oneLogged s) (set j (s .logged) (recordOf (Afe m))) (hearAnswer o (Afe m))
   unfolding recordOf
   decline-kept m known asks room =
@@ -130,12 +149,14 @@ module _ (table : List ℕ) (s : State) (j : List Record) (o : Observer) (inv : 
       let v = inv .each t known in
       let same : changed s t (trainOf s t) (s .logged + 1) ≡ oneLogged s = rw (set-getD (s .fleet) t noTrain) in
       subst (λ (z : State). Invariant table z (set j (s .logged) (recordOf (Afe m))) o) same
-      (changed-kept table s j o o t (Afe m) (trainOf s t) inv refl room (λ u h. refl) (in-fleet s t (λ y. isAsked (y .status)) refl asks) refl
+      (changed-kept table s j o o t (Afe m) (trainOf s t) inv refl room (λ u h. refl)
+      (in-fleet s t (λ y. isAsked (y .status)) refl asks) refl
       (subst Valid (sym same) (valid-logged s (inv .valid-state) room))
       (record {
         seen = v .seen;
         request = λ q.
-            getD-set-other j (s .logged) (askedAs (trainOf s t .status)) (recordOf (Afe m)) blank (λ z. omega (arith, inv .valid-state .each t known .numbered q))
+            getD-set-other j (s .logged) (askedAs (trainOf s t .status)) (recordOf (Afe m)) blank
+            (λ z. omega (arith, inv .valid-state .each t known .numbered q))
             ∙ v .request q;
         authorities = same-given (Afe m) t refl room ∙ v .authorities;
       })

@@ -7,7 +7,8 @@ use Rattle.common.proofs.Below.{count-cong}
 use Rattle.line.specs.Holding.{Whereabouts, holdsPost}
 use Rattle.dispatcher.specs.declared.state.Status.{Status}
 use Rattle.dispatcher.specs.declared.state.Status.the-variants.{Free, Asked, Running}
-use Rattle.dispatcher.specs.State.{isAsked, isRunning, nextOf, trainOf, lineOf, locatedBy as recordedBy, located as recorded}
+use Rattle.dispatcher.specs.State.{isAsked, isRunning, nextOf, trainOf, lineOf, locatedBy as recordedBy}
+use Rattle.dispatcher.specs.State.{located as recorded}
 use Rattle.dispatcher.proofs.Trains.{route-of}
 use Rattle.dispatcher.proofs.Validity.{one-holder, is-valid}
 use Rattle.assurance.specs.Types.{Move, Fe}
@@ -17,6 +18,7 @@ use Rattle.assurance.specs.WholeList.{Requested, ShortOfEnd, Unhindered,
 use Rattle.assurance.proofs.Invariant.{claimOf, seenOf}
 use Rattle.assurance.proofs.Standstill.{goes-on}
 use Rattle.assurance.proofs.Exchanged.{Settled}
+use Rattle.assurance.proofs.Ran.{AllRequested}
 
 -- ---- a claim, by a status
 
@@ -42,7 +44,9 @@ module _ (table : List ℕ) (r : Ran) (o : Observer) (k : Settled table (r .stat
   seen t kt = k .kept .each t kt .seen
 
   told : (t : ℕ) → t < r .state .trains → located o t ≡ recorded (r .state) t
-  told t kt = rw (seen t kt) (located-as (trainOf (r .state) t .status) (trainOf (r .state) t .at .0) (nextOf (trainOf (r .state) t)))
+  told t kt =
+      let x = trainOf (r .state) t in
+      rw (seen t kt) (located-as (x .status) (x .at .0) (nextOf x))
 
   pub at-post : (t : ℕ) → t < r .state .trains → o t .post ≡ trainOf (r .state) t .at .0
   at-post t kt = ap (λ (y : Seen). y .post) (seen t kt)
@@ -50,20 +54,23 @@ module _ (table : List ℕ) (r : Ran) (o : Observer) (k : Settled table (r .stat
   not-waiting : (t : ℕ) → t < r .state .trains → ShortOfEnd (lineOf (r .state)) o t → Unhindered (lineOf (r .state)) o
   not-waiting t kt short =
       let s = r .state in
-      let g = goes-on table s (k .kept .valid-state) (k .kept .right) (k .kept .completable) (k .nobody) t kt (λ e. short (at-post t kt ∙ e ∙ rw (route-of s t))) in
+      let g =
+      goes-on table s (k .kept .valid-state) (k .kept .right) (k .kept .completable) (k .nobody) t kt
+      (λ e. short (at-post t kt ∙ e ∙ rw (route-of s t))) in
       record {
         train = g .0;
         known = g .1;
         short = λ e. g .2 (sym (at-post (g .0) (g .1)) ∙ e ∙ rw (route-of s (g .0)));
-        unasked = ap (λ (y : Seen). hasAsked (y .claim)) (seen (g .0) (g .1)) ∙ asked-as (trainOf s (g .0) .status) _ _ ∙ g .3;
+        unasked =
+            ap (λ (y : Seen). hasAsked (y .claim)) (seen (g .0) (g .1)) ∙ asked-as (trainOf s (g .0) .status) _ _ ∙ g .3;
       }
 
-  pub assured : ((e : Exchange) → List·Memᴰ e (r .exchanges) → (m : Move) → List·Memᴰ (Fe m) (answersOf (e .verdict) (e .out)) → Requested r m)
-      → Assured (lineOf (r .state)) r o
+  pub assured : AllRequested r → Assured (lineOf (r .state)) r o
   assured requested =
       let s = r .state in
       record {
-        sections = λ i t u kt ku p q. one-holder s (k .kept .valid-state) i t u kt ku (rw (told t kt) at p) (rw (told u ku) at q);
+        sections = λ i t u kt ku p q.
+            one-holder s (k .kept .valid-state) i t u kt ku (rw (told t kt) at p) (rw (told u ku) at q);
         posts = λ p kp.
             rw (count-cong (s .trains) (λ t. holdsPost (located o t) p) (λ t. holdsPost (recorded s t) p)
             (λ t kt. ap (λ (w : Whereabouts). holdsPost w p) (told t kt)))

@@ -1,5 +1,5 @@
--- Demand 3 over a whole list of frames, proved by citation: an accepted opening establishes the invariant (`Opened`), every answer keeps it
--- (`Exchanged`), so that it holds after the run (`Ran`), where it says what is claimed (`Told`).
+-- Demand 3 over a whole list of frames, proved by citation: an accepted opening establishes the invariant (`Opened`),
+-- every answer keeps it (`Exchanged`), so that it holds after the run (`Ran`), where it says what is claimed (`Told`).
 -- Assumes nothing.
 use mathlib.Core.Path.{_≡_, sym, subst, _∙_}
 use mathlib.Core.List.{List}
@@ -16,8 +16,10 @@ use Rattle.assurance.proofs.Ran.{RunKept, run-kept}
 use Rattle.assurance.proofs.Told.{assured}
 
 -- the run from an accepted opening keeps the invariant
-pub opened-run : (book table : List ℕ) (journal : List Record) (inputs : List Input) → opening book table journal .number ≡ 0
-    → let l = lineIn book in RunKept (filled l table) (openedState l) journal (atOpening l) (run (filled l table) (openedState l) journal inputs)
+pub opened-run : (book table : List ℕ) (journal : List Record) (inputs : List Input)
+    → opening book table journal .number ≡ 0
+    → let l = lineIn book in
+    RunKept (filled l table) (openedState l) journal (atOpening l) (run (filled l table) (openedState l) journal inputs)
 opened-run book table journal inputs e =
     let l = lineIn book in
     run-kept (filled l table) inputs (openedState l) journal (atOpening l)
@@ -28,7 +30,9 @@ whole-list book table journal inputs e =
     let l = lineIn book in
     let k = opened-run book table journal inputs e in
     let r = run (filled l table) (openedState l) journal inputs in
-    subst (λ (o : Opening). let r = run (o .table) (o .state) journal inputs in Assured l r (observe (atOpening l) (r .exchanges)))
+    subst
+    (λ (o : Opening).
+    let r = run (o .table) (o .state) journal inputs in Assured l r (observe (atOpening l) (r .exchanges)))
     (sym (opening-accepted book table journal e .0))
     (subst (λ (z : Line). Assured z r (observe (atOpening l) (r .exchanges))) (k .line ∙ opened-line book)
     (assured (filled l table) r (observe (atOpening l) (r .exchanges)) (k .after) (k .requested)))

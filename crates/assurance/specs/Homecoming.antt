@@ -13,14 +13,19 @@ use Rattle.assurance.specs.Observer.{atOpening, observe}
 
 -- in a run from an accepted opening the state is never strange and the journal never full
 pub record NeverRefused : Type 0 where
-  pub strange : (book table : List ℕ) (journal : List Record) (inputs : List Input) → let o = opening book table journal in o .number ≡ 0
-      → (e : Exchange) → List·Memᴰ e (run (o .table) (o .state) journal inputs .exchanges) → e .verdict ≢ RefusedBy strangeState
-  pub full : (book table : List ℕ) (journal : List Record) (inputs : List Input) → let o = opening book table journal in o .number ≡ 0
-      → (e : Exchange) → List·Memᴰ e (run (o .table) (o .state) journal inputs .exchanges) → e .verdict ≢ RefusedBy journalFull
+  pub strange : (book table : List ℕ) (journal : List Record) (inputs : List Input)
+      → let o = opening book table journal in
+      o .number ≡ 0 → (e : Exchange) → List·Memᴰ e (run (o .table) (o .state) journal inputs .exchanges)
+      → e .verdict ≢ RefusedBy strangeState
+  pub full : (book table : List ℕ) (journal : List Record) (inputs : List Input)
+      → let o = opening book table journal in
+      o .number ≡ 0 → (e : Exchange) → List·Memᴰ e (run (o .table) (o .state) journal inputs .exchanges)
+      → e .verdict ≢ RefusedBy journalFull
 
 -- after every list of frames some further list brings every train to its end, as the observer tells it
 abbrev pub Homecoming : Type 0
-Homecoming = (book table : List ℕ) (journal : List Record) (inputs : List Input) → let o = opening book table journal in o .number ≡ 0
-    → (further : List Input)
+Homecoming = (book table : List ℕ) (journal : List Record) (inputs : List Input)
+    → let o = opening book table journal in
+    o .number ≡ 0 → (further : List Input)
     × (let l = lineOf book in let r = run (o .table) (o .state) journal (inputs ++ further) in
     (t : ℕ) → t < l .trains → observe (atOpening l) (r .exchanges) t .post ≡ routeOf l t .end .0)

@@ -1,4 +1,5 @@
--- Claims on one frame, for every state that is handed in, every table, right or altered, and every journal, frame and out buffer.
+-- Claims on one frame, for every state that is handed in, every table, right or altered, and every journal, frame and
+-- out buffer.
 use mathlib.Core.Path.{_≡_}
 use mathlib.Core.Logic.{_≢_}
 use mathlib.Core.Bool.{true, false}
@@ -23,16 +24,17 @@ NoneLeft table s = (u : ℕ) → u < s .trains → grantable table s u ≡ false
 pub record First (table : List ℕ) (s : State) (t : ℕ) : Type 0 where
   pub known : t < s .trains
   pub can : grantable table s t ≡ true
-  pub first : (u : ℕ) → u < s .trains → u ≢ t → grantable table s u ≡ true → askedAs (trainOf s t .status) < askedAs (trainOf s u .status)
+  pub first : (u : ℕ) → u < s .trains → u ≢ t → grantable table s u ≡ true
+      → askedAs (trainOf s t .status) < askedAs (trainOf s u .status)
 
--- "the oldest Asked train (lowest FA number) that can be granted becomes Running and an FE is written; again from the oldest, until none can be
--- granted": each grant goes to the first train of the state that the grant before it left
+-- "the oldest Asked train (lowest FA number) that can be granted becomes Running and an FE is written; again from the
+-- oldest, until none can be granted": each grant goes to the first train of the state that the grant before it left
 pub data Granting (table : List ℕ) : Work → Work → Type 0 where
   done : (w : Work) → NoneLeft table (w .state) → Granting table w w
   next : (w v : Work) (t : ℕ) → First table (w .state) t → Granting table (granted w t) v → Granting table w v
 
--- demand 2: "A train that asked gets its authority exactly when the section is free, the next post has a free track, and all trains could still reach
--- their ends", the last by the table's bit
+-- demand 2: "A train that asked gets its authority exactly when the section is free, the next post has a free track,
+-- and all trains could still reach their ends", the last by the table's bit
 pub record ExactGrant : Type 0 where
   -- the granting of a frame is such a chain
   pub chain : (table : List ℕ) (w : Work) → valid (w .state) ≡ true → Granting table w (settled table w)
@@ -40,7 +42,8 @@ pub record ExactGrant : Type 0 where
   pub none-left : (s : State) (table : List ℕ) (journal : List Record) (frame out : List ℕ) (n : ℕ)
       → answer s table journal frame out .verdict ≡ Sent n → NoneLeft table (answer s table journal frame out .state)
 
--- "crews can only foresee turns by order of asking": of the trains that can be granted the one that asked first gets the first authority
+-- "crews can only foresee turns by order of asking": of the trains that can be granted the one that asked first gets
+-- the first authority
 abbrev pub OldestFirst : Type 0
 OldestFirst = (table : List ℕ) (w : Work) (t : ℕ) → valid (w .state) ≡ true → First table (w .state) t
     → (others : List Message) × (settled table w .logged ≡ w .logged ++ Fe (nextMove (w .state) t) ∷ others)

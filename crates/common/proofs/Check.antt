@@ -1,6 +1,6 @@
 -- Laws of checks in order. A proof about a refusal passes the checks one by one and stops at the one that fails.
 -- Assumes nothing.
-use mathlib.Core.Path.{_≡_, refl, subst, _∙_}
+use mathlib.Core.Path.{_≡_, refl, sym, subst, _∙_}
 use mathlib.Core.Logic.{_≢_}
 use mathlib.Core.Bool.{Bool, true, false, not, _&&_, _||_}
 use mathlib.Core.List.{List, [], _∷_, _++_}
@@ -31,7 +31,8 @@ numbered [] = true
 numbered (c ∷ cs) = ltb 0 (c .number) && numbered cs
 
 -- what is not refused passes each check: at its place in the list
-pub passed-at : (cs : List Check) → numbered cs ≡ true → refusal cs ≡ 0 → (i : ℕ) → getD cs i (check 0 true) .passes ≡ true
+pub passed-at : (cs : List Check) → numbered cs ≡ true → refusal cs ≡ 0
+    → (i : ℕ) → getD cs i (check 0 true) .passes ≡ true
 unfolding refusal
 passed-at [] k e i = refl
 passed-at (c ∷ cs) k e i = by-cases (c .passes)
@@ -111,6 +112,14 @@ pub refuses : {A : Type 0} {n : ℕ} (x : A) (f : ℕ → A) → 0 < n → unles
 unfolding unlessRefused
 refuses {n = zero} x f h = absurd (not-suc-le-zero h)
 refuses {n = suc n} x f h = refl
+
+-- the same in the direction of a definition `unlessRefused (refusal checks) ..`
+pub accepted-by : {A : Type 0} (x : A) (f : ℕ → A) {cs : List Check} → Refuses cs 0 → x ≡ unlessRefused (refusal cs) x f
+accepted-by x f r = sym (accepts x f (refusal-is r))
+
+pub refused-by : {A : Type 0} (x : A) (f : ℕ → A) {cs : List Check} {n : ℕ} → 0 < n → Refuses cs n
+    → f n ≡ unlessRefused (refusal cs) x f
+refused-by x f h r = rw (refusal-is r) (sym (refuses x f h))
 
 -- where what holds cannot hold of a refusal, nothing was refused
 pub accepted-if : {A : Type 0} (P : A → Type 0) (n : ℕ) (x : A) (f : ℕ → A)

@@ -38,14 +38,17 @@ module _ {A : Type 0} (s : List A) (at : ℕ) where
     unfolding replaced
     replaced-before i d h k =
         rw append-assoc
-        (List·getD-append (take at s) (b ++ drop (at + length b) s) d i (rw (length-take-le at s k) h) ∙ getD-take at s i d h)
+        (List·getD-append (take at s) (b ++ drop (at + length b) s) d i (rw (length-take-le at s k) h)
+        ∙ getD-take at s i d h)
 
     -- one element more
-    pub replaced-more : (x : A) → at + length b < length s → replaced s at (b ++ x ∷ []) ≡ set (replaced s at b) (at + length b) x
+    pub replaced-more : (x : A) → at + length b < length s
+        → replaced s at (b ++ x ∷ []) ≡ set (replaced s at b) (at + length b) x
     unfolding replaced
     replaced-more x h =
         let before : length (take at s ++ b) ≡ at + length b = rw (length-append, length-take-le at s (omega arith)) in
         let after : at + length (b ++ x ∷ []) ≡ suc (at + length b) = omega (arith, length-append b (x ∷ [])) in
-        let rest : drop (at + length b) s ≡ getD s (at + length b) x ∷ drop (suc (at + length b)) s = drop-cons s (at + length b) x h in
-        rw (after, rest, ← append-assoc (take at s) b (x ∷ []), append-assoc (take at s ++ b) (x ∷ []) (drop (suc (at + length b)) s))
-        (sym (set-at (take at s ++ b) (getD s (at + length b) x) (drop (suc (at + length b)) s) x (at + length b) before))
+        let end = drop (suc (at + length b)) s in
+        let rest : drop (at + length b) s ≡ getD s (at + length b) x ∷ end = drop-cons s (at + length b) x h in
+        rw (after, rest, ← append-assoc (take at s) b (x ∷ []), append-assoc (take at s ++ b) (x ∷ []) end)
+        (sym (set-at (take at s ++ b) (getD s (at + length b) x) end x (at + length b) before))

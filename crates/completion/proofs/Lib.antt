@@ -1,4 +1,5 @@
--- The laws of configurations, codes and the table; `Agreement` and `Rule` prove the claims of `specs/Table.antt`. From `First` on: what filling needs.
+-- The laws of configurations, codes and the table; `Agreement` and `Rule` prove the claims of `specs/Table.antt`.
+-- From `First` on: what filling needs.
 pub mod Codes
 pub mod Feasibility
 pub mod Agreement

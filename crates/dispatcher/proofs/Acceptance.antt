@@ -1,5 +1,5 @@
--- What the checks say of an accepted frame, and what an accepted frame leaves: a valid state of the same line, in which nobody can be granted, with
--- at most seven messages logged and counted.
+-- What the checks say of an accepted frame, and what an accepted frame leaves: a valid state of the same line, in which
+-- nobody can be granted, with at most seven messages logged and counted.
 -- Assumes nothing.
 use mathlib.Core.Path.{_≡_, refl, sym, ap, subst, _∙_}
 use mathlib.Core.Logic.{_≢_, ⊎-elim}
@@ -19,9 +19,11 @@ use Rattle.frame.specs.RoundTrip.{IsMessage}
 use Rattle.journal.specs.Journal.{journalLength}
 use Rattle.completion.specs.Table.{tableLength}
 use Rattle.dispatcher.specs.Types.{Line, Move, Message, Fa, Fe, Afe, Am, Refused, Record, Asked, Train, State}
-use Rattle.dispatcher.specs.State.{isAsked, isRunning, nextOf, trainOf, lineOf, withStatus, arrivedNext, oneLogged}
+use Rattle.dispatcher.specs.State.{isAsked, isRunning, nextOf, trainOf, lineOf, withStatus, arrivedNext}
+use Rattle.dispatcher.specs.State.{oneLogged}
 use Rattle.dispatcher.specs.Granting.{grantable, Work, log, settled}
-use Rattle.dispatcher.specs.Answer.{outLength, mostLogged, isFa, isAm, moveIn, frameChecks, taken, declined, accepted, sent, Answer, answered, refused, answer}
+use Rattle.dispatcher.specs.Answer.{outLength, mostLogged, isFa, isAm, moveIn, frameChecks, taken, declined}
+use Rattle.dispatcher.specs.Answer.{accepted, sent, Answer, answered, refused, answer}
 use Rattle.dispatcher.proofs.Trains.{changed-line}
 use Rattle.dispatcher.proofs.Validity.{Valid, valid-facts}
 use Rattle.dispatcher.proofs.Changes.{valid-logged, valid-request, valid-arrival}
@@ -41,7 +43,8 @@ pub record NextMove (s : State) (m : Move) : Type 0 where
 
 -- an FA or an AM that passes all checks of its content
 pub data Taken (s : State) : Message → Type 0 where
-  request : (m : Move) → NextMove s m → isAsked (trainOf s (m .train .0) .status) ≡ false → isRunning (trainOf s (m .train .0) .status) ≡ false → Taken s (Fa m)
+  request : (m : Move) → NextMove s m → isAsked (trainOf s (m .train .0) .status) ≡ false
+      → isRunning (trainOf s (m .train .0) .status) ≡ false → Taken s (Fa m)
   arrival : (m : Move) → NextMove s m → isRunning (trainOf s (m .train .0) .status) ≡ true → Taken s (Am m)
 
 pub record Passed (s : State) (table : List ℕ) (journal : List Record) (frame out : List ℕ) : Type 0 where
@@ -116,9 +119,11 @@ pub record Accepted (table : List ℕ) (s : State) (a : Message) (w : Work) : Ty
 
 module _ (table : List ℕ) (s : State) (d : Valid s) (a : Message) where
   -- the granting, after the frame's own change of its train's record
-  module _ (x : Train) (same : x .route ≡ trainOf s (moveIn a .train .0) .route) (v : Valid (taken s a x .state)) (space : s .logged + mostLogged ≤ journalLength) where
+  module _ (x : Train) (same : x .route ≡ trainOf s (moveIn a .train .0) .route) (v : Valid (taken s a x .state))
+      (space : s .logged + mostLogged ≤ journalLength) where
     few-asked : askedCount (taken s a x .state) ≤ 6
-    few-asked = omega (arith, count-le (s .trains) (λ t. isAsked (trainOf (taken s a x .state) t .status)), d .line .few-trains)
+    few-asked =
+        omega (arith, count-le (s .trains) (λ t. isAsked (trainOf (taken s a x .state) t .status)), d .line .few-trains)
 
     roomy : Roomy (settled table (taken s a x))
     roomy = settled-roomy table (taken s a x) (record { valid-state = v; room = omega (arith, few-asked) })
@@ -155,9 +160,11 @@ declining m = tt
 -- "If the asker was not granted, its AFE comes last."
 declined-accepted : (table : List ℕ) (s : State) (a : Message) (m : Move) (w : Work) → m .train .0 < s .trains → Roomy w
     → length (w .logged) + askedCount (w .state) ≤ mostLogged → Accepted table s a w → Accepted table s a (declined m w)
-declined-accepted table s a m w known r paid k = by-cases (isAsked (trainOf (w .state) (m .train .0) .status)) (λ e. rw e (more e)) (λ e. rw e k)
+declined-accepted table s a m w known r paid k =
+    by-cases (isAsked (trainOf (w .state) (m .train .0) .status)) (λ e. rw e (more e)) (λ e. rw e k)
   where
-    more : isAsked (trainOf (w .state) (m .train .0) .status) ≡ true → Accepted table s a (log (w .state) (w .logged) (Afe m))
+    more : isAsked (trainOf (w .state) (m .train .0) .status) ≡ true
+        → Accepted table s a (log (w .state) (w .logged) (Afe m))
     more e =
         let here : m .train .0 < w .state .trains = rw (ap (λ (l : Line). l .trains) (k .line)) known in
         let one = count-some (w .state .trains) (λ t. isAsked (trainOf (w .state) t .status)) (m .train .0) here e in
@@ -171,18 +178,22 @@ declined-accepted table s a m w known r paid k = by-cases (isAsked (trainOf (w .
           few = omega (arith, long);
           counted = omega (arith, long, k .counted);
           messages = rw (k .first) (λ b h.
-              ⊎-elim (k .messages b) (λ q. subst IsMessage (sym (List·Memᴰ·eq-of-singleton q)) (declining m)) (List·Memᴰ·append-cases (sent w) h));
+              ⊎-elim (k .messages b) (λ q. subst IsMessage (sym (List·Memᴰ·eq-of-singleton q)) (declining m))
+              (List·Memᴰ·append-cases (sent w) h));
         }
 
 -- ---- both frames
 
-pub accepted-facts : (table : List ℕ) (s : State) → Valid s → (a : Message) → Taken s a → Accepted table s a (accepted table s a)
+pub accepted-facts : (table : List ℕ) (s : State) → Valid s → (a : Message) → Taken s a
+    → Accepted table s a (accepted table s a)
 unfolding accepted
 accepted-facts table s d a (request m n free idle) =
     let x = withStatus (trainOf s (m .train .0)) (Asked (s .logged)) in
     let v = valid-request s d (m .train .0) (n .known) (omega (arith, n .space)) (n .short) idle in
-    declined-accepted table s (Fa m) m _ (n .known) (roomy table s d (Fa m) x refl v (n .space)) (paid table s d (Fa m) x refl v (n .space))
+    declined-accepted table s (Fa m) m _ (n .known) (roomy table s d (Fa m) x refl v (n .space))
+    (paid table s d (Fa m) x refl v (n .space))
     (settled-accepted table s d (Fa m) x refl v (n .space))
 accepted-facts table s d a (arrival m n runs) =
     let x = arrivedNext (trainOf s (m .train .0)) in
-    settled-accepted table s d (Am m) x refl (valid-arrival s d (m .train .0) (n .known) (omega (arith, n .space)) (n .short) runs) (n .space)
+    settled-accepted table s d (Am m) x refl
+    (valid-arrival s d (m .train .0) (n .known) (omega (arith, n .space)) (n .short) runs) (n .space)

@@ -1,5 +1,6 @@
--- What keeps a state valid: one law for every change of one train's record, with or without a record logged, and its four uses, a request, an
--- arrival, a grant and a record logged alone. The change may count a train as a holder where the old record was one, or where there is room.
+-- What keeps a state valid: one law for every change of one train's record, with or without a record logged, and its
+-- four uses, a request, an arrival, a grant and a record logged alone. The change may count a train as a holder where
+-- the old record was one, or where there is room.
 -- Assumes nothing.
 use mathlib.Core.Path.{_≡_, refl, sym, subst, _∙_}
 use mathlib.Core.Logic.{_≢_}
@@ -22,9 +23,11 @@ use Rattle.journal.specs.Journal.{journalLength}
 use Rattle.completion.specs.Configuration.{moved, codeBelow}
 use Rattle.completion.specs.Table.{bitOf}
 use Rattle.dispatcher.specs.Types.{Free, Asked, Running, Train, State}
-use Rattle.dispatcher.specs.State.{isAsked, isRunning, askedAs, atEnd, nextOf, locatedAt, trainOf, lineOf, located, reached, withStatus, arrivedNext, withTrain, oneLogged}
+use Rattle.dispatcher.specs.State.{isAsked, isRunning, askedAs, atEnd, nextOf, locatedAt, trainOf, lineOf}
+use Rattle.dispatcher.specs.State.{located, reached, withStatus, arrivedNext, withTrain, oneLogged}
 use Rattle.dispatcher.specs.Granting.{grantable}
-use Rattle.dispatcher.proofs.Trains.{asked-idle, running-located, idle-located, in-fleet, changed, changed-own, changed-other, changed-each, changed-line, changed-count}
+use Rattle.dispatcher.proofs.Trains.{asked-idle, running-located, idle-located, in-fleet, changed, changed-own}
+use Rattle.dispatcher.proofs.Trains.{changed-other, changed-each, changed-line, changed-count}
 use Rattle.dispatcher.proofs.Validity.{TrainValid, Distinct, Valid, asked-short}
 
 -- ---- the law
@@ -37,9 +40,11 @@ pub record Change (s : State) (t : ℕ) (x : Train) (n : ℕ) : Type 0 where
   pub few : n ≤ journalLength
   pub train : TrainValid x n
   pub section : (i : ℕ) → i < s .posts
-      → sectionHolders (s .trains) (located s) i + ofBool (holdsSection (locatedAt x) i) ≤ 1 + ofBool (holdsSection (located s t) i)
+      → sectionHolders (s .trains) (located s) i + ofBool (holdsSection (locatedAt x) i)
+      ≤ 1 + ofBool (holdsSection (located s t) i)
   pub post : (p : ℕ) → p < s .posts
-      → postHolders (s .trains) (located s) p + ofBool (holdsPost (locatedAt x) p) ≤ tracksAt (lineOf s) p + ofBool (holdsPost (located s t) p)
+      → postHolders (s .trains) (located s) p + ofBool (holdsPost (locatedAt x) p)
+      ≤ tracksAt (lineOf s) p + ofBool (holdsPost (located s t) p)
   pub number : (u : ℕ) → u < s .trains → u ≢ t → isAsked (x .status) ≡ true → isAsked (trainOf s u .status) ≡ true
       → askedAs (x .status) ≢ askedAs (trainOf s u .status)
 
@@ -63,9 +68,14 @@ module _ (s : State) (d : Valid s) (t : ℕ) (known : t < s .trains) (x : Train)
   pub valid-change : Valid (changed s t x n)
   valid-change = record {
     line = subst WellFormed (sym (changed-line s t x n (c .route))) (d .line);
-    each = λ u k. changed-each s t x n (λ v y. TrainValid y n) (c .place) (c .train) u (λ h. later (trainOf s u) (d .each u k));
-    sections = λ i k. omega (arith, changed-count s t x n (λ y. holdsSection (locatedAt y) i) (s .trains) known (c .place), c .section i k);
-    posts = λ p k. omega (arith, changed-count s t x n (λ y. holdsPost (locatedAt y) p) (s .trains) known (c .place), c .post p k);
+    each = λ u k.
+        changed-each s t x n (λ v y. TrainValid y n) (c .place) (c .train) u (λ h. later (trainOf s u) (d .each u k));
+    sections = λ i k.
+        let e = changed-count s t x n (λ y. holdsSection (locatedAt y) i) (s .trains) known (c .place) in
+        omega (arith, c .section i k);
+    posts = λ p k.
+        let e = changed-count s t x n (λ y. holdsPost (locatedAt y) p) (s .trains) known (c .place) in
+        omega (arith, c .post p k);
     few-logged = c .few;
     distinct = distinct-change s t x n (c .place) (c .number) (d .distinct);
   }
@@ -98,7 +108,12 @@ module _ (table : List ℕ) (s : State) (t : ℕ) where
 pub valid-logged : (s : State) → Valid s → s .logged < journalLength → Valid (oneLogged s)
 valid-logged s d room = record {
   line = d .line;
-  each = λ u k. let v = d .each u k in record { inside = v .inside; busy = v .busy; numbered = λ q. omega (arith, v .numbered q) };
+  each = λ u k.
+      let v = d .each u k in record {
+        inside = v .inside;
+        busy = v .busy;
+        numbered = λ q. omega (arith, v .numbered q);
+      };
   sections = d .sections;
   posts = d .posts;
   few-logged = omega arith;
@@ -112,22 +127,26 @@ fewer-held false b = omega arith
 
 -- a train that is short of its end has its place in the fleet
 pub short-place : (s : State) (t : ℕ) → trainOf s t .at .0 ≢ trainOf s t .route .end .0 → t < length (s .fleet)
-short-place s t short = in-fleet s t (λ x. not (atEnd x)) refl (rw (ne-eqb (trainOf s t .at .0) (trainOf s t .route .end .0) short))
+short-place s t short =
+    in-fleet s t (λ x. not (atEnd x)) refl (rw (ne-eqb (trainOf s t .at .0) (trainOf s t .route .end .0) short))
 
 module _ (s : State) (d : Valid s) (t : ℕ) (known : t < s .trains) (room : s .logged < journalLength) where
   -- "the train becomes Asked"
   pub valid-request : trainOf s t .at .0 ≢ trainOf s t .route .end .0 → isRunning (trainOf s t .status) ≡ false
       → Valid (oneLogged (withTrain s t (withStatus (trainOf s t) (Asked (s .logged)))))
-  valid-request short idle = valid-change s d t known (withStatus (trainOf s t) (Asked (s .logged))) (s .logged + 1) (record {
-    place = short-place s t short;
-    route = refl;
-    more = omega arith;
-    few = omega arith;
-    train = record { inside = d .each t known .inside; busy = λ q. short; numbered = λ q. omega arith };
-    section = λ i k. omega (arith, d .sections i k);
-    post = λ p k. rw (idle-located (trainOf s t .status) (trainOf s t .at .0) (nextOf (trainOf s t)) idle) (omega (arith, d .posts p k));
-    number = λ u ku h p q e. omega (arith, d .each u ku .numbered q);
-  })
+  valid-request short idle =
+      valid-change s d t known (withStatus (trainOf s t) (Asked (s .logged))) (s .logged + 1) (record {
+        place = short-place s t short;
+        route = refl;
+        more = omega arith;
+        few = omega arith;
+        train = record { inside = d .each t known .inside; busy = λ q. short; numbered = λ q. omega arith };
+        section = λ i k. omega (arith, d .sections i k);
+        post = λ p k.
+            rw (idle-located (trainOf s t .status) (trainOf s t .at .0) (nextOf (trainOf s t)) idle)
+            (omega (arith, d .posts p k));
+        number = λ u ku h p q e. omega (arith, d .each u ku .numbered q);
+      })
 
   -- "the train becomes Free at the post it ran to"
   pub valid-arrival : trainOf s t .at .0 ≢ trainOf s t .route .end .0 → isRunning (trainOf s t .status) ≡ true
@@ -150,15 +169,22 @@ module _ (s : State) (d : Valid s) (t : ℕ) (known : t < s .trains) (room : s .
   })
 
   -- a grant, by whatever table
-  pub valid-grant : (table : List ℕ) → grantable table s t ≡ true → Valid (oneLogged (withTrain s t (withStatus (trainOf s t) Running)))
+  pub valid-grant : (table : List ℕ) → grantable table s t ≡ true
+      → Valid (oneLogged (withTrain s t (withStatus (trainOf s t) Running)))
   valid-grant table e = valid-change s d t known (withStatus (trainOf s t) Running) (s .logged + 1) (record {
     place = in-fleet s t (λ x. isAsked (x .status)) refl (g .asks);
     route = refl;
     more = omega arith;
     few = omega arith;
-    train = record { inside = d .each t known .inside; busy = λ q. asked-short s d t known (g .asks); numbered = λ q. absurd (false≢true q) };
+    train = record {
+      inside = d .each t known .inside;
+      busy = λ q. asked-short s d t known (g .asks);
+      numbered = λ q. absurd (false≢true q);
+    };
     section = λ i k. by-equality (sectionOf (trainOf s t .at .0) (nextOf (trainOf s t))) i
-        (λ q. let free : sectionHolders (s .trains) (located s) i ≡ 0 = rw q at (g .section) in omega (arith, ofBool-le (eqb (sectionOf (trainOf s t .at .0) (nextOf (trainOf s t))) i)))
+        (λ q.
+        let free : sectionHolders (s .trains) (located s) i ≡ 0 = rw q at (g .section) in
+        omega (arith, ofBool-le (eqb (sectionOf (trainOf s t .at .0) (nextOf (trainOf s t))) i)))
         (λ q. rw (ne-eqb (sectionOf (trainOf s t .at .0) (nextOf (trainOf s t))) i q) (omega (arith, d .sections i k)));
     post = λ p k. by-equality (nextOf (trainOf s t)) p
         (λ q.
@@ -166,7 +192,8 @@ module _ (s : State) (d : Valid s) (t : ℕ) (known : t < s .trains) (room : s .
         omega (arith, ofBool-le (eqb (trainOf s t .at .0) p || eqb (nextOf (trainOf s t)) p)))
         (λ q.
         rw (
-          idle-located (trainOf s t .status) (trainOf s t .at .0) (nextOf (trainOf s t)) (asked-idle (trainOf s t .status) (g .asks)),
+          idle-located (trainOf s t .status) (trainOf s t .at .0) (nextOf (trainOf s t))
+              (asked-idle (trainOf s t .status) (g .asks)),
           ne-eqb (nextOf (trainOf s t)) p q,
           or-false (eqb (trainOf s t .at .0) p),
         )

@@ -18,3 +18,4 @@ pub mod Sent
 pub mod Batched
 pub mod Stepping
 pub mod Taking
+pub mod OpeningCases

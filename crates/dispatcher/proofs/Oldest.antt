@@ -30,7 +30,8 @@ module _ (table : List ℕ) (s : State) where
   pub record Oldest (n t : ℕ) : Type 0 where
     pub known : t < n
     pub can : grantable table s t ≡ true
-    pub least : (u : ℕ) → u < n → grantable table s u ≡ true → askedAs (trainOf s t .status) ≤ askedAs (trainOf s u .status)
+    pub least : (u : ℕ) → u < n → grantable table s u ≡ true
+        → askedAs (trainOf s t .status) ≤ askedAs (trainOf s u .status)
 
   -- what `oldest` answers of the first n trains
   data Found (n : ℕ) : Option ℕ → Type 0 where
@@ -57,7 +58,8 @@ module _ (table : List ℕ) (s : State) where
       (λ p. rw p (first n (record {
         known = omega arith;
         can = e;
-        least = below-suc n (λ u k g. omega (arith, ltb-true (number n) (number t) p, f .least u k g)) (λ g. omega arith);
+        least = below-suc n (λ u k g. omega (arith, ltb-true (number n) (number t) p, f .least u k g))
+            (λ g. omega arith);
       })))
       (λ p. rw p (first t (record {
         known = omega (arith, f .known);
@@ -71,7 +73,9 @@ module _ (table : List ℕ) (s : State) where
   found (suc n) = at (found n)
     where
       at : Found n (oldest table s n) → Found (suc n) (oldest table s (suc n))
-      at f = by-cases (grantable table s n) (λ e. rw e (among n (oldest table s n) e f)) (λ e. rw e (beside n (oldest table s n) e f))
+      at f =
+          by-cases (grantable table s n) (λ e. rw e (among n (oldest table s n) e f))
+          (λ e. rw e (beside n (oldest table s n) e f))
 
   module _ (n : ℕ) where
     pub oldest-none : oldest table s n ≡ none → Nobody n
@@ -97,9 +101,11 @@ module _ (table : List ℕ) (s : State) where
 
   module _ (distinct : Distinct s) (t : ℕ) (f : Oldest (s .trains) t) where
     -- every other that can be granted asked later
-    pub earlier : (u : ℕ) → u < s .trains → u ≢ t → grantable table s u ≡ true → askedAs (trainOf s t .status) < askedAs (trainOf s u .status)
+    pub earlier : (u : ℕ) → u < s .trains → u ≢ t → grantable table s u ≡ true
+        → askedAs (trainOf s t .status) < askedAs (trainOf s u .status)
     earlier u k h g =
-        let same = distinct u t k (f .known) (grantable-facts table s u g .asks) (grantable-facts table s t (f .can) .asks) in
+        let same =
+        distinct u t k (f .known) (grantable-facts table s u g .asks) (grantable-facts table s t (f .can) .asks) in
         let other : number u ≢ number t = λ e. h (same e) in
         omega (arith, f .least u k g)
 
@@ -110,4 +116,4 @@ module _ (table : List ℕ) (s : State) where
         at r (nobody g) = clash (grantable table s t) (f .can) (g .barred t (f .known))
         at r (first u g) = by-equality u t
             (λ e. rw e)
-            (λ h. absurd (let a = earlier u (g .known) h (g .can) in let b = g .least t (f .known) (f .can) in omega arith))
+            (λ h. absurd (omega (arith, earlier u (g .known) h (g .can), g .least t (f .known) (f .can))))

@@ -1,9 +1,10 @@
--- What the granting leaves of the work that it begins with: lines, routes and posts are the same, and each answer is paid for by an Asked train.
--- In a valid state with room in the journal for every Asked train it leaves a valid state.
+-- What the granting leaves of the work that it begins with: lines, routes and posts are the same, and each answer is
+-- paid for by an Asked train. In a valid state with room in the journal for every Asked train it leaves a valid state.
 -- Assumes nothing.
 use mathlib.Core.Path.{_≡_, refl, sym, ap, subst, _∙_}
 use mathlib.Core.Logic.{⊎-elim}
-use mathlib.Core.List.{List, [], _∷_, _++_, append-assoc, append-nil, List·Memᴰ, List·Memᴰ·append-cases, List·Memᴰ·eq-of-singleton, List·Memᴰ·not-nil}
+use mathlib.Core.List.{List, [], _∷_, _++_, append-assoc, append-nil, List·Memᴰ, List·Memᴰ·append-cases}
+use mathlib.Core.List.{List·Memᴰ·eq-of-singleton, List·Memᴰ·not-nil}
 use Prim.Native.Nat.{ℕ, _+_, _≤_}
 use native.Mathlib.Omega.{arith}
 use lib.ListN.{length, length-append, length-set}
@@ -51,12 +52,21 @@ settles-next : (table : List ℕ) (w v : Work) (t : ℕ) → Settles w v → Tur
 settles-next table w v t k f = record {
   line = granted-line table v t f ∙ k .line;
   size = length-set (v .state .fleet) t _ ∙ k .size;
-  route = λ u. changed-each (v .state) t x n (λ u (y : Train). y .route ≡ trainOf (w .state) u .route) (granted-place table v t f) (k .route t) u (λ h. k .route u);
-  post = λ u. changed-each (v .state) t x n (λ u (y : Train). y .at ≡ trainOf (w .state) u .at) (granted-place table v t f) (k .post t) u (λ h. k .post u);
+  route = λ u.
+      changed-each (v .state) t x n (λ u (y : Train). y .route ≡ trainOf (w .state) u .route)
+      (granted-place table v t f) (k .route t) u (λ h. k .route u);
+  post = λ u.
+      changed-each (v .state) t x n (λ u (y : Train). y .at ≡ trainOf (w .state) u .at) (granted-place table v t f)
+      (k .post t) u (λ h. k .post u);
   answers = k .answers ++ Fe (nextMove (v .state) t) ∷ [];
-  added = ap (λ (l : List Message). l ++ Fe (nextMove (v .state) t) ∷ []) (k .added) ∙ append-assoc (w .logged) (k .answers) _;
-  messages = λ a h. ⊎-elim (k .messages a) (λ m. subst IsMessage (sym (List·Memᴰ·eq-of-singleton m)) (authority (v .state) t)) (List·Memᴰ·append-cases (k .answers) h);
-  spent = omega (arith, k .spent, granted-fewer table v t f, length-append (v .logged) (Fe (nextMove (v .state) t) ∷ []));
+  added =
+      ap (λ (l : List Message). l ++ Fe (nextMove (v .state) t) ∷ []) (k .added) ∙ append-assoc (w .logged) (k .answers) _;
+  messages = λ a h.
+      ⊎-elim (k .messages a) (λ m. subst IsMessage (sym (List·Memᴰ·eq-of-singleton m)) (authority (v .state) t))
+      (List·Memᴰ·append-cases (k .answers) h);
+  spent =
+      let one = length-append (v .logged) (Fe (nextMove (v .state) t) ∷ []) in
+      omega (arith, k .spent, granted-fewer table v t f);
   counted = omega (arith, k .counted, granted-fewer table v t f);
 }
   where

@@ -55,7 +55,8 @@ pub route-of : (s : State) (t : ℕ) → routeOf (lineOf s) t ≡ trainOf s t .r
 route-of s t = List·getD-map (λ (x : Train). x .route) (s .fleet) t noTrain
 
 -- a train that passes a test which no record at all fails has its place in the fleet
-pub in-fleet : (s : State) (t : ℕ) (f : Train → Bool) → f noTrain ≡ false → f (trainOf s t) ≡ true → t < length (s .fleet)
+pub in-fleet : (s : State) (t : ℕ) (f : Train → Bool) → f noTrain ≡ false → f (trainOf s t) ≡ true
+    → t < length (s .fleet)
 in-fleet s t f none passes = by-cases (ltb t (length (s .fleet)))
     (λ e. ltb-true t (length (s .fleet)) e)
     (λ e.
@@ -65,7 +66,13 @@ in-fleet s t f none passes = by-cases (ltb t (length (s .fleet)))
 -- ---- the state with x as train t's record and n records logged: `withTrain` and `oneLogged` give such states
 
 abbrev pub changed : State → ℕ → Train → ℕ → State
-changed s t x n = record { posts = s .posts; tracks = s .tracks; trains = s .trains; fleet = set (s .fleet) t x; logged = n }
+changed s t x n = record {
+  posts = s .posts;
+  tracks = s .tracks;
+  trains = s .trains;
+  fleet = set (s .fleet) t x;
+  logged = n;
+}
 
 module _ (s : State) (t : ℕ) (x : Train) (n : ℕ) where
   pub changed-own : t < length (s .fleet) → trainOf (changed s t x n) t ≡ x
@@ -75,7 +82,8 @@ module _ (s : State) (t : ℕ) (x : Train) (n : ℕ) where
   changed-other u h = getD-set-other (s .fleet) t u x noTrain h
 
   -- what holds of x and of the other records before, holds of each record after
-  pub changed-each : (P : ℕ → Train → Type 0) → t < length (s .fleet) → P t x → (u : ℕ) → (u ≢ t → P u (trainOf s u)) → P u (trainOf (changed s t x n) u)
+  pub changed-each : (P : ℕ → Train → Type 0) → t < length (s .fleet) → P t x → (u : ℕ) → (u ≢ t → P u (trainOf s u))
+      → P u (trainOf (changed s t x n) u)
   changed-each P k own u others = by-equality u t
       (λ e. rw (e, changed-own k) own)
       (λ h. rw (changed-other u h) (others h))
@@ -85,8 +93,12 @@ module _ (s : State) (t : ℕ) (x : Train) (n : ℕ) where
 
   -- a count of the trains that pass a test
   pub changed-count : (f : Train → Bool) (m : ℕ) → t < m → t < length (s .fleet)
-      → countBelow m (λ u. f (trainOf (changed s t x n) u)) + ofBool (f (trainOf s t)) ≡ countBelow m (λ u. f (trainOf s u)) + ofBool (f x)
+      → countBelow m (λ u. f (trainOf (changed s t x n) u)) + ofBool (f (trainOf s t))
+      ≡ countBelow m (λ u. f (trainOf s u)) + ofBool (f x)
   changed-count f m k l =
-      let c = count-change m (λ u. f (trainOf s u)) (λ u. f (trainOf (changed s t x n) u)) t k (λ u ku h. ap f (changed-other u h)) in
-      let e : ofBool (f (trainOf (changed s t x n) t)) ≡ ofBool (f x) = ap (λ (y : Train). ofBool (f y)) (changed-own l) in
+      let before : ℕ → Bool = λ u. f (trainOf s u) in
+      let after : ℕ → Bool = λ u. f (trainOf (changed s t x n) u) in
+      let c = count-change m before after t k (λ u ku h. ap f (changed-other u h)) in
+      let e : ofBool (f (trainOf (changed s t x n) t)) ≡ ofBool (f x) =
+      ap (λ (y : Train). ofBool (f y)) (changed-own l) in
       omega arith

@@ -18,7 +18,8 @@ use Rattle.line.proofs.WellFormed.{WellFormed, well-formed, is-well-formed}
 use Rattle.journal.specs.Journal.{journalLength}
 use Rattle.dispatcher.specs.Types.{Status, Free, Asked, Running, Train, State}
 use Rattle.dispatcher.specs.State.{isFree, isAsked, askedAs, atEnd, nextOf, locatedBy, trainOf, lineOf, located}
-use Rattle.dispatcher.specs.Valid.{trainValid, sectionsValid, postsValid, numberBelow, sameNumber, numberValid, valid}
+use Rattle.dispatcher.specs.Valid.{trainValid, sectionsValid, postsValid, numberBelow, sameNumber, numberValid}
+use Rattle.dispatcher.specs.Valid.{valid}
 use Rattle.dispatcher.proofs.Trains.{asked-busy, route-of}
 
 -- a train's record x, where n records are logged
@@ -29,7 +30,8 @@ pub record TrainValid (x : Train) (n : ℕ) : Type 0 where
 
 -- "FA numbers are distinct"
 abbrev pub Distinct : State → Type 0
-Distinct s = (t u : ℕ) → t < s .trains → u < s .trains → isAsked (trainOf s t .status) ≡ true → isAsked (trainOf s u .status) ≡ true
+Distinct s = (t u : ℕ) → t < s .trains → u < s .trains
+    → isAsked (trainOf s t .status) ≡ true → isAsked (trainOf s u .status) ≡ true
     → askedAs (trainOf s t .status) ≡ askedAs (trainOf s u .status) → t ≡ u
 
 pub record Valid (s : State) : Type 0 where
@@ -96,7 +98,8 @@ distinct-numbers s h t u kt ku p q e = by-equality t u (λ z. z) (λ z. absurd (
     (λ b. lower u t ku (ltb-true t u b) q p (sym e))
     (λ b. lower t u kt (let y = ltb-false t u b in omega arith) p q e)))
   where
-    lower : (a b : ℕ) → a < s .trains → b < a → isAsked (trainOf s a .status) ≡ true → isAsked (trainOf s b .status) ≡ true
+    lower : (a b : ℕ) → a < s .trains → b < a → isAsked (trainOf s a .status) ≡ true
+        → isAsked (trainOf s b .status) ≡ true
         → askedAs (trainOf s a .status) ≢ askedAs (trainOf s b .status)
     lower a b ka k = differ (trainOf s a .status) (trainOf s b .status)
         (all-below a _ (and-right (numberBelow (trainOf s a .status) (s .logged)) _ (h a ka)) b k)
@@ -115,7 +118,9 @@ module _ (s : State) where
       let numbers = all-below (s .trains) _ (and-right (leb (s .logged) journalLength) _ r₄) in
       record {
         line = well-formed (lineOf s) (and-left (wellFormed (lineOf s)) _ e);
-        each = λ t k. tested-train (trainOf s t) (s .logged) (trains t k) (and-left (numberBelow (trainOf s t .status) (s .logged)) _ (numbers t k));
+        each = λ t k.
+            tested-train (trainOf s t) (s .logged) (trains t k)
+            (and-left (numberBelow (trainOf s t .status) (s .logged)) _ (numbers t k));
         sections = λ i k. leb-true _ _ (all-below (s .posts) _ (and-left (sectionsValid s) _ r₂) i k);
         posts = λ p k. leb-true _ _ (all-below (s .posts) _ (and-left (postsValid s) _ r₃) p k);
         few-logged = leb-true _ _ (and-left (leb (s .logged) journalLength) _ r₄);
@@ -125,7 +130,8 @@ module _ (s : State) where
   pub is-valid : Valid s → valid s ≡ true
   unfolding valid
   is-valid d =
-      let each : (t : ℕ) → t < s .trains → (trainValid (trainOf s t) ≡ true) × (numberBelow (trainOf s t .status) (s .logged) ≡ true) =
+      let each : (t : ℕ) → t < s .trains
+      → (trainValid (trainOf s t) ≡ true) × (numberBelow (trainOf s t .status) (s .logged) ≡ true) =
       λ t k. train-tested (trainOf s t) (s .logged) (d .each t k) in
       and-both _ _ (is-well-formed (lineOf s) (d .line))
       (and-both _ _ (below-all (s .trains) _ (λ t k. each t k .0))
@@ -133,7 +139,8 @@ module _ (s : State) where
       (and-both _ _ (below-all (s .posts) _ (λ p k. le-leb _ _ (d .posts p k)))
       (and-both _ _ (le-leb _ _ (d .few-logged))
       (below-all (s .trains) _ (λ t k. and-both _ _ (each t k .1) (below-all t _ (λ u l.
-      different (trainOf s t .status) (trainOf s u .status) (λ p q z. let y = d .distinct t u k (omega arith) p q z in omega arith)))))))))
+      different (trainOf s t .status) (trainOf s u .status)
+      (λ p q z. let y = d .distinct t u k (omega arith) p q z in omega arith)))))))))
 
 -- ---- what a valid state says of its trains
 
@@ -145,7 +152,8 @@ module _ (s : State) (d : Valid s) (t : ℕ) (k : t < s .trains) where
   end-below = rw (route-of s t) at (d .line .ends t k)
 
   pub post-below : trainOf s t .at .0 < s .posts
-  post-below = let a = start-below in let b = end-below in ⊎-elim (λ r. omega arith) (λ r. omega arith) (d .each t k .inside)
+  post-below =
+      let a = start-below in let b = end-below in ⊎-elim (λ r. omega arith) (λ r. omega arith) (d .each t k .inside)
 
   pub next-post-below : trainOf s t .at .0 ≢ trainOf s t .route .end .0 → nextOf (trainOf s t) < s .posts
   next-post-below short = next-below _ _ _ (d .each t k .inside) short (s .posts) start-below end-below
@@ -157,7 +165,8 @@ module _ (s : State) (d : Valid s) (t : ℕ) (k : t < s .trains) where
 -- "No section has two holders": whatever its number
 pub one-holder : (s : State) → Valid s → (i t u : ℕ) → t < s .trains → u < s .trains
     → holdsSection (located s t) i ≡ true → holdsSection (located s u) i ≡ true → t ≡ u
-one-holder s d i t u kt ku p q = one-counted (s .trains) (λ v. holdsSection (located s v) i) (d .sections i on) t u kt ku p q
+one-holder s d i t u kt ku p q =
+    one-counted (s .trains) (λ v. holdsSection (located s v) i) (d .sections i on) t u kt ku p q
   where
     low : (w : Status) (a b : ℕ) → holdsSection (locatedBy w a b) i ≡ true → i ≤ a
     low Free a b e = absurd (false≢true e)
@@ -165,4 +174,4 @@ one-holder s d i t u kt ku p q = one-counted (s .trains) (λ v. holdsSection (lo
     low Running a b e = let z = eqb-true (sectionOf a b) i e in omega arith
 
     on : i < s .posts
-    on = let z = low (trainOf s t .status) (trainOf s t .at .0) (nextOf (trainOf s t)) p in let y = post-below s d t kt in omega arith
+    on = omega (arith, low (trainOf s t .status) (trainOf s t .at .0) (nextOf (trainOf s t)) p, post-below s d t kt)

@@ -12,7 +12,7 @@ use Rattle.line.specs.Book.{lineOf as lineIn, bookChecks, emptyLine}
 use Rattle.journal.specs.Journal.{journalLength}
 use Rattle.completion.specs.Configuration.{start, code, feasible}
 use Rattle.completion.specs.Table.{tableLength, bitOf, filled}
-use Rattle.dispatcher.specs.Types.{Route, Line, Record, Free, Train, State}
+use Rattle.dispatcher.specs.Types.{Route, Line, Record, Free, Train, State, Opened}
 
 -- "Checks in order: 2; 14 ..; 4; 15; 14 ..; 16; 17; 14 ..; 18; 19; 20."
 -- Of the journal only the number of records is looked at.
@@ -44,6 +44,10 @@ pub record Opening : Type 0 where
 
 abbrev pub opened : Line → List ℕ → Opening
 opened l table = record { state = openedState l; number = 0; table = filled l table }
+
+-- what the code hands back, with the table afterwards
+abbrev pub openingOf : Opened → List ℕ → Opening
+openingOf o table = record { state = o .state; number = o .refusal; table = table }
 
 -- "a refused book .. returns an empty state .., and 20 leaves the table filled"
 abbrev pub refusedBook : Line → List ℕ → ℕ → Opening

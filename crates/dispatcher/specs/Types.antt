@@ -18,3 +18,4 @@ pub use Rattle.dispatcher.specs.declared.asking.Asker.{Asker}
 pub use Rattle.dispatcher.specs.declared.asking.Asker.the-variants.{Of, Nobody}
 pub use Rattle.dispatcher.specs.declared.granting.Progress.{Progress}
 pub use Rattle.dispatcher.specs.declared.step.Outcome.{Outcome}
+pub use Rattle.dispatcher.specs.declared.opening.Opened.{Opened}

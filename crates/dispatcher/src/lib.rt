@@ -6,12 +6,15 @@ mod checks;
 mod grantable;
 mod granting;
 mod holding;
+mod opening;
 mod sending;
 mod state;
 mod step;
 mod train;
 mod valid;
 
+pub use opening::Opened;
+pub use opening::open_with;
 pub use state::State;
 pub use state::Status;
 pub use state::Train;

@@ -7,7 +7,7 @@ use mathlib.Core.Bool.{true}
 use mathlib.Core.List.{List, _∷_, _++_}
 use Prim.Native.Nat.{ℕ, zero, suc, _+_, _*_, _-_, _/_, _%_, _≤_, _<_}
 use native.Mathlib.Omega.{arith}
-use lib.Dec.{leb, ltb, eqb}
+use lib.Dec.{leb, ltb}
 use lib.ListN.{length, getD, drop, length-append, List·getD-append}
 use lib.Seq.{drop-cons, getD-drop, getD-at, getD-append-add}
 use borrow.Author.Tests.{leb-true, ltb-true, eqb-true, le-leb, eq-eqb}
@@ -17,7 +17,6 @@ use Rattle.common.proofs.Tests.{and-left, and-right, and-both}
 use Rattle.common.proofs.Check.{none, pass, refusal-is, passed-at, clear, not-given, accepts}
 use Rattle.common.proofs.Tabulate.{length-tabulate, at-tabulate, tabulate-cong}
 use Rattle.common.proofs.Tabulate.{length-padded, at-padded, past-padded, padded-is}
-use Rattle.line.specs.Refusal as number
 use Rattle.line.specs.Sorts.{Line, Reading}
 use Rattle.line.specs.Line.{noRoute, routeOf, tracksAt, wellFormed}
 use Rattle.line.specs.Book.{byteAt, versionAt, countAt, trainsAt, startAt, endAt, total}
@@ -158,7 +157,8 @@ module _ (l : Line) where
       ∙ getD-at counts (l .trains) _ 0 (l .posts) (length-tabulate (l .posts) (tracksAt l))
 
   -- a place in the run of routes
-  route-byte : (k : ℕ) → byteAt (bytesOf l) (5 + l .posts + k) ≡ byteAt (routeBytes (tabulate (l .trains) (routeOf l))) k
+  route-byte : (k : ℕ)
+      → byteAt (bytesOf l) (5 + l .posts + k) ≡ byteAt (routeBytes (tabulate (l .trains) (routeOf l))) k
   unfolding bytesOf
   route-byte k =
       let counts = tabulate (l .posts) (tracksAt l) in
@@ -198,8 +198,8 @@ module _ (l : Line) where
     unfolding readBook
     read-back =
         let whole = length-bytes ∙ ap (λ (m : Line). total (m .posts) (m .trains)) (sym line-back) in
-        accepts (accepted (lineOf (bytesOf l))) refusedBy (all-pass (bytesOf l) length-field version-byte (rw line-back well) whole)
-        ∙ ap accepted line-back
+        let unrefused = all-pass (bytesOf l) length-field version-byte (rw line-back well) whole in
+        accepts (accepted (lineOf (bytesOf l))) refusedBy unrefused ∙ ap accepted line-back
 
 -- ---- the claims
 
@@ -218,7 +218,7 @@ pub line-book : LineBook
 line-book = record {
   only = read-as;
   back = read-back;
-  not-2 = λ b. not-met number.shortStore b refl refl;
-  not-19 = λ b. not-met number.overfull b refl refl;
-  not-20 = λ b. not-met number.noWayThrough b refl refl;
+  not-2 = λ b. not-met _ b refl refl;
+  not-19 = λ b. not-met _ b refl refl;
+  not-20 = λ b. not-met _ b refl refl;
 }

@@ -1,5 +1,5 @@
--- The stages of the reading, one after the other, are the checks of a book in order: a stage that stops gives the book's
--- refusal, and one that passes leaves the checks after its own.
+-- The stages of the reading, one after the other, are the checks of a book in order: a stage that stops gives the
+-- book's refusal, and one that passes leaves the checks after its own.
 -- Assumes nothing.
 use mathlib.Core.Path.{_≡_, refl, sym, ap, _∙_}
 use mathlib.Core.List.{List, [], _++_}
@@ -9,7 +9,7 @@ use lib.ListN.{length, take, drop}
 use borrow.Author.Tests.{leb-true, eqb-true}
 use Rattle.common.specs.Check.{Check, refusal, unlessRefused}
 use Rattle.common.specs.Tabulate.{padded}
-use Rattle.common.proofs.Check.{numbered, passed-at, second-part, first-part, accepts, refuses}
+use Rattle.common.proofs.Check.{passed-at, second-part, first-part, accepts, refuses}
 use Rattle.line.specs.Sorts.{Route, Line, Stage, Passed, Stopped}
 use Rattle.line.specs.Line.{noRoute}
 use Rattle.line.specs.Book.{byteAt, countAt, trainsAt, postsOf, trainsOf, routeIn, total, lineOf, bookChecks}
@@ -25,7 +25,8 @@ pub line-is : (l m : Line) → l .posts ≡ m .posts → l .tracks ≡ m .tracks
     → l ≡ m
 unfolding line
 line-is l m a b c d =
-    let same : line (l .posts) (l .tracks) (l .trains) (l .routes) ≡ line (m .posts) (m .tracks) (m .trains) (m .routes) = cc in
+    let same : line (l .posts) (l .tracks) (l .trains) (l .routes)
+    ≡ line (m .posts) (m .tracks) (m .trains) (m .routes) = cc in
     same
 
 -- ---- a stage, by its answer

@@ -5,16 +5,15 @@ use mathlib.Core.Logic.{_≢_}
 use mathlib.Core.Bool.{true, false, _&&_, and-false}
 use mathlib.Core.List.{List}
 use Prim.Native.Nat.{ℕ, suc, _+_, _≤_, _<_}
-use lib.Dec.{leb, ltb, eqb}
+use lib.Dec.{leb, eqb}
 use lib.ListN.{length}
-use borrow.Author.Tests.{lt-ltb, le-ltb, le-leb, lt-leb, eq-eqb, ne-eqb}
+use borrow.Author.Tests.{le-leb, lt-leb, eq-eqb, ne-eqb}
 use Rattle.common.specs.Check.{Check, unlessRefused}
 use Rattle.common.proofs.Tests.{and-both}
-use Rattle.common.proofs.Below.{below-all, not-all}
 use Rattle.common.proofs.Check.{Refuses, none, stop, pass, refusal-is}
 use Rattle.line.specs.Refusal as number
 use Rattle.line.specs.Sorts.{Line, Passed, Stopped}
-use Rattle.line.specs.Line.{inRange, tracksAt, routeOf}
+use Rattle.line.specs.Line.{inRange, tracksInRange, routesOnLine}
 use Rattle.line.specs.Book.{byteAt, versionAt, trainsAt, named, postsOf, total}
 use Rattle.line.specs.Book.{stageOf, postsStage, tracksStage, trainsStage, routesStage}
 
@@ -67,13 +66,13 @@ module _ (b : List ℕ) where
 -- ---- 16
 
 module _ (l : Line) where
-  pub tracks-range : (p : ℕ) → p < l .posts → inRange 1 4 (tracksAt l p) ≡ false → Stopped number.tracks ≡ tracksStage l
+  pub tracks-range : tracksInRange l ≡ false → Stopped number.tracks ≡ tracksStage l
   unfolding tracksStage
-  tracks-range p k h = stops _ (stop (not-all (l .posts) _ p k h))
+  tracks-range h = stops _ (stop h)
 
-  pub tracks-passed : ((p : ℕ) → p < l .posts → inRange 1 4 (tracksAt l p) ≡ true) → Passed (l .posts) ≡ tracksStage l
+  pub tracks-passed : tracksInRange l ≡ true → Passed (l .posts) ≡ tracksStage l
   unfolding tracksStage
-  tracks-passed h = passes _ (pass (below-all (l .posts) _ h) none)
+  tracks-passed h = passes _ (pass h none)
 
 -- ---- 17, 14
 
@@ -98,25 +97,10 @@ module _ (b : List ℕ) {n : ℕ} (e : n ≡ postsOf b) where
 -- ---- 18
 
 module _ (l : Line) where
-  abbrev pub StartOn : ℕ → Type 0
-  StartOn t = routeOf l t .start .0 < l .posts
-
-  abbrev pub EndOn : ℕ → Type 0
-  EndOn t = routeOf l t .end .0 < l .posts
-
-  module _ (t : ℕ) (k : t < l .trains) where
-    pub start-off : l .posts ≤ routeOf l t .start .0 → Stopped number.offTheLine ≡ routesStage l
-    unfolding routesStage
-    start-off h = stops _ (stop (not-all (l .trains) _ t k (rw (le-ltb (routeOf l t .start .0) (l .posts) h))))
-
-    pub end-off : l .posts ≤ routeOf l t .end .0 → Stopped number.offTheLine ≡ routesStage l
-    unfolding routesStage
-    end-off h =
-        let on = ltb (routeOf l t .start .0) (l .posts) in
-        stops _ (stop (not-all (l .trains) _ t k (rw (le-ltb (routeOf l t .end .0) (l .posts) h) (and-false on))))
-
-  pub routes-passed : ((t : ℕ) → t < l .trains → StartOn t × EndOn t) → Passed (l .trains) ≡ routesStage l
+  pub routes-off : routesOnLine l ≡ false → Stopped number.offTheLine ≡ routesStage l
   unfolding routesStage
-  routes-passed h =
-      let on = below-all (l .trains) _ (λ t k. and-both _ _ (lt-ltb _ _ (h t k .0)) (lt-ltb _ _ (h t k .1))) in
-      passes _ (pass on none)
+  routes-off h = stops _ (stop h)
+
+  pub routes-passed : routesOnLine l ≡ true → Passed (l .trains) ≡ routesStage l
+  unfolding routesStage
+  routes-passed h = passes _ (pass h none)

@@ -7,6 +7,8 @@ ghost use Rattle.common.specs.Tabulate.{padded};
 ghost use Rattle.line.specs.Line.{noRoute, inRange};
 ghost use Rattle.line.specs.Book.{byteAt, postsOf, countAt, routeIn, emptyLine, refusedBy, readBook};
 ghost use Rattle.line.specs.Book.{numberOf, postsStage, tracksStage, trainsStage, routesStage};
+use crate::form::routes_on_line;
+use crate::form::tracks_in_range;
 use crate::refusal;
 use crate::route::Route;
 use crate::sorts::PostNo;
@@ -40,18 +42,22 @@ enum Stage {
     Stopped(u8),
 }
 
+// The place of a train that a line does not have.
 const NO_ROUTE: Route = Route {
     start: PostNo(0),
     end: PostNo(0),
 };
 
+// The version of a book.
 const EDITION: u8 = 1;
 
+// Where the version, the number of posts and the track counts stand.
 const VERSION_AT: usize = 2;
 
 const POSTS_AT: usize = 3;
 
 const COUNTS_AT: usize = 4;
+
 // The bytes of a book besides its track counts and routes.
 const FIXED: usize = 5;
 
@@ -169,12 +175,8 @@ fn check_tracks(line: Line) -> Stage
     requires { ⌜ line .posts ≤ 8 ⌝ }
     ensures { λ r. ⌜ r ≡ tracksStage line ⌝ }
 {
-    let mut p: usize = 0;
-    while p < line.posts as usize {
-        if !in_range(1, 4, line.tracks[p]) {
-            return Stage::Stopped(refusal::TRACKS);
-        }
-        p += 1;
+    if !tracks_in_range(line) {
+        return Stage::Stopped(refusal::TRACKS);
     }
     Stage::Passed(line.posts)
 }
@@ -217,16 +219,8 @@ fn check_routes(line: Line) -> Stage
     requires { ⌜ line .trains ≤ 6 ⌝ }
     ensures { λ r. ⌜ r ≡ routesStage line ⌝ }
 {
-    let mut t: usize = 0;
-    while t < line.trains as usize {
-        let route = line.routes[t];
-        if line.posts <= route.start.0 {
-            return Stage::Stopped(refusal::OFF_THE_LINE);
-        }
-        if line.posts <= route.end.0 {
-            return Stage::Stopped(refusal::OFF_THE_LINE);
-        }
-        t += 1;
+    if !routes_on_line(line) {
+        return Stage::Stopped(refusal::OFF_THE_LINE);
     }
     Stage::Passed(line.trains)
 }

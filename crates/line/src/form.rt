@@ -26,7 +26,8 @@ pub fn well_formed(line: Line) -> bool
     routes_on_line(line)
 }
 
-fn tracks_in_range(line: Line) -> bool
+// Whether every post has 1 to 4 tracks.
+pub(crate) fn tracks_in_range(line: Line) -> bool
     requires { ⌜ line .posts ≤ 8 ⌝ }
     ensures { λ r. ⌜ r ≡ tracksInRange line ⌝ }
 {
@@ -44,7 +45,8 @@ fn tracks_in_range(line: Line) -> bool
     true
 }
 
-fn routes_on_line(line: Line) -> bool
+// Whether every train starts and ends on the line.
+pub(crate) fn routes_on_line(line: Line) -> bool
     requires { ⌜ line .trains ≤ 6 ⌝ }
     ensures { λ r. ⌜ r ≡ routesOnLine line ⌝ }
 {

@@ -6,8 +6,7 @@ use mathlib.Core.Bool.{true, false}
 use Prim.Native.Nat.{ℕ, _<_}
 use native.Mathlib.Omega.{arith}
 use borrow.Author.Tests.{eq-eqb, ne-eqb}
-use Rattle.common.specs.Check.{unlessRefused}
-use Rattle.common.proofs.Check.{Refuses, none, stop, pass, refusal-is, accepts, refuses}
+use Rattle.common.proofs.Check.{Refuses, none, stop, pass, accepted-by, refused-by}
 use Rattle.line.specs.Refusal.{strangeState, notNow, atEnd}
 use Rattle.unit.specs.Types.{Move, Fa, Am, Asked, UnderWay, Arrived, Button, Ask, Depart, Reached, Report, Unit}
 use Rattle.unit.specs.State.{samePhase, ownMove, inPhase, validUnit}
@@ -16,7 +15,7 @@ use Rattle.unit.specs.Pressing.{phaseFor, pressChecks, silent, sending, 
 module _ (u : Unit) (b : Button) where
   refused : {n : ℕ} → 0 < n → Refuses (pressChecks u b) n → silent u n ≡ pressButton u b
   unfolding pressButton
-  refused h r = sym (ap (λ (k : ℕ). unlessRefused k (carriedOut u b) (silent u)) (refusal-is r) ∙ refuses _ (silent u) h)
+  refused h r = refused-by (carriedOut u b) (silent u) h r
 
   pub strange : validUnit u ≡ false → silent u strangeState ≡ pressButton u b
   strange h = refused (omega arith) (stop h)
@@ -32,9 +31,10 @@ module _ (u : Unit) (b : Button) where
       module _ (short : u .at .0 ≢ u .route .end .0) where
         carried-out : carriedOut u b ≡ pressButton u b
         unfolding pressButton
-        carried-out = sym (accepts (carriedOut u b) (silent u) (refusal-is (pass good (pass fits (pass (rw (ne-eqb _ _ short)) none)))))
+        carried-out = accepted-by (carriedOut u b) (silent u) (pass good (pass fits (pass (rw (ne-eqb _ _ short)) none)))
 
-        pub ask : b ≡ Ask → (v : Unit) (m : Move) → v ≡ inPhase u Asked → m ≡ ownMove u → sending v (Fa m) ≡ pressButton u b
+        pub ask : b ≡ Ask → (v : Unit) (m : Move) → v ≡ inPhase u Asked → m ≡ ownMove u
+            → sending v (Fa m) ≡ pressButton u b
         unfolding carriedOut
         ask e v m p q = rw (p, q) (ap (carriedOut u) (sym e) ∙ carried-out)
 
@@ -46,6 +46,7 @@ module _ (u : Unit) (b : Button) where
         unfolding carriedOut
         reached e v p = rw p (ap (carriedOut u) (sym e) ∙ carried-out)
 
-        pub report : b ≡ Report → (v : Unit) (m : Move) → v ≡ movedOn u → m ≡ ownMove u → sending v (Am m) ≡ pressButton u b
+        pub report : b ≡ Report → (v : Unit) (m : Move) → v ≡ movedOn u → m ≡ ownMove u
+            → sending v (Am m) ≡ pressButton u b
         unfolding carriedOut
         report e v m p q = rw (p, q) (ap (carriedOut u) (sym e) ∙ carried-out)

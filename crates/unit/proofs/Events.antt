@@ -17,7 +17,8 @@ with xs x = xs ++ (x ∷ [])
 abbrev pub Split : {A : Type 0} → List A → A → List A → A → List A → Type 0
 Split {A} xs x ys y zs = ((x ≡ y) × (xs ≡ ys)) ⊎ ((ws : List A) × (zs ≡ with ws x) × (xs ≡ ys ++ (y ∷ ws)))
 
-pub split-last : {A : Type 0} (xs : List A) (x : A) (ys : List A) (y : A) (zs : List A) → with xs x ≡ ys ++ (y ∷ zs) → Split xs x ys y zs
+pub split-last : {A : Type 0} (xs : List A) (x : A) (ys : List A) (y : A) (zs : List A)
+    → with xs x ≡ ys ++ (y ∷ zs) → Split xs x ys y zs
 split-last [] x [] y zs e = inl (cc, refl)
 split-last [] x (b ∷ []) y zs e = let z : _≡_ {A = ℕ} 0 1 = cc in absurd (omega arith)
 split-last [] x (b ∷ (b′ ∷ ys)) y zs e = let z : _≡_ {A = ℕ} 0 1 = cc in absurd (omega arith)

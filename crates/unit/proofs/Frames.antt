@@ -3,20 +3,21 @@
 use mathlib.Core.Path.{_≡_, refl, sym, ap, _∙_}
 use mathlib.Core.Logic.{_≢_}
 use mathlib.Core.Bool.{true, false, _&&_}
-use mathlib.Core.List.{List}
+use mathlib.Core.List.{List, _∷_, _++_}
 use Prim.Native.Nat.{ℕ, _<_}
 use native.Mathlib.Omega.{arith}
 use lib.Dec.{eqb}
 use borrow.Author.Tests.{eq-eqb, ne-eqb}
-use Rattle.common.specs.Check.{refusal, unlessRefused}
-use Rattle.common.proofs.Check.{Refuses, none, stop, pass, stop-within, pass-all, refusal-is, accepts, refuses}
+use Rattle.common.specs.Check.{Check, check}
+use Rattle.common.proofs.Check.{Refuses, none, stop, pass, stop-within, pass-all, accepted-by, refused-by}
 use Rattle.line.specs.Refusal.{strangeState, wrongEnd, notAwaited}
 use Rattle.frame.specs.Frame.{readChecks, readFrame}
 use Rattle.frame.specs.RoundTrip.{IsMessage}
 use Rattle.frame.proofs.Outcome.{read-passed, read-refused}
 use Rattle.unit.specs.Types.{Move, Message, Fa, Fe, Afe, Am, Refused, Phase, Asked, Declined, Granted, Unit}
 use Rattle.unit.specs.State.{samePhase, ownMove, inPhase, validUnit}
-use Rattle.unit.specs.Hearing.{forTrain, forMove, awaiting, forUnit, awaited, hearChecks, phaseAfter, answered, hearFrame}
+use Rattle.unit.specs.Hearing.{forTrain, forMove, awaiting, forUnit, awaited}
+use Rattle.unit.specs.Hearing.{hearChecks, phaseAfter, answered, hearFrame}
 
 -- the tests of a move against the unit's own
 module _ (u : Unit) (m own : Move) (is-own : own ≡ ownMove u) where
@@ -24,14 +25,15 @@ module _ (u : Unit) (m own : Move) (is-own : own ≡ ownMove u) where
   unfolding forMove
   other-train h = let z : forTrain u m ≡ false = rw is-own at (ne-eqb (m .train .0) (own .train .0) h) in rw z
 
-  pub own-train : m .train .0 ≡ own .train .0 → eqb (m .from .0) (own .from .0) && eqb (m .to .0) (own .to .0) ≡ forMove u m
+  pub own-train : m .train .0 ≡ own .train .0
+      → eqb (m .from .0) (own .from .0) && eqb (m .to .0) (own .to .0) ≡ forMove u m
   unfolding forMove
   own-train h = let z : forTrain u m ≡ true = rw is-own at (eq-eqb (m .train .0) (own .train .0) h) in rw (is-own, z)
 
 module _ (u : Unit) (f : List ℕ) where
   refused : {n : ℕ} → 0 < n → Refuses (hearChecks u f) n → answered u n ≡ hearFrame u f
   unfolding hearFrame
-  refused h r = sym (ap (λ (k : ℕ). unlessRefused k (answered (inPhase u (phaseAfter u (readFrame f))) 0) (answered u)) (refusal-is r) ∙ refuses _ (answered u) h)
+  refused h r = refused-by (answered (inPhase u (phaseAfter u (readFrame f))) 0) (answered u) h r
 
   pub strange : validUnit u ≡ false → answered u strangeState ≡ hearFrame u f
   strange h = refused (omega arith) (stop h)
@@ -44,24 +46,24 @@ module _ (u : Unit) (f : List ℕ) where
 
     -- a message x was read; the checks after 5 decide
     module _ (x : Message) (reads : readFrame f ≡ x) (whole : IsMessage x) where
-      read-well : refusal (readChecks f) ≡ 0
-      read-well = read-passed f (rw reads whole)
+      after-reading : {cs : List Check} {n : ℕ} → Refuses cs n
+          → Refuses (check strangeState (validUnit u) ∷ (readChecks f ++ cs)) n
+      after-reading r = pass good (pass-all (readChecks f) refl (read-passed f (rw reads whole)) r)
 
       pub other-end : forUnit x ≡ false → answered u wrongEnd ≡ hearFrame u f
-      other-end h = refused (omega arith) (pass good (pass-all (readChecks f) refl read-well (stop (ap forUnit reads ∙ h))))
+      other-end h = refused (omega arith) (after-reading (stop (ap forUnit reads ∙ h)))
 
       module _ (own : forUnit x ≡ true) where
         pub unawaited : awaited u x ≡ false → answered u notAwaited ≡ hearFrame u f
-        unawaited h = refused (omega arith)
-            (pass good (pass-all (readChecks f) refl read-well (pass (ap forUnit reads ∙ own) (stop (ap (awaited u) reads ∙ h)))))
+        unawaited h = refused (omega arith) (after-reading (pass (ap forUnit reads ∙ own) (stop (ap (awaited u) reads ∙ h))))
 
         pub taken : (p : Phase) → awaited u x ≡ true → phaseAfter u x ≡ p → answered (inPhase u p) 0 ≡ hearFrame u f
         unfolding hearFrame
         taken p h q =
-            let r : Refuses (hearChecks u f) 0 =
-            pass good (pass-all (readChecks f) refl read-well (pass (ap forUnit reads ∙ own) (pass (ap (awaited u) reads ∙ h) none))) in
-            sym (accepts (answered (inPhase u (phaseAfter u (readFrame f))) 0) (answered u) (refusal-is r)
-            ∙ ap (λ (y : Phase). answered (inPhase u y) 0) (ap (phaseAfter u) reads ∙ q))
+            let after : phaseAfter u (readFrame f) ≡ p = ap (phaseAfter u) reads ∙ q in
+            let passed = after-reading (pass (ap forUnit reads ∙ own) (pass (ap (awaited u) reads ∙ h) none)) in
+            ap (λ (y : Phase). answered (inPhase u y) 0) (sym after)
+            ∙ accepted-by (answered (inPhase u (phaseAfter u (readFrame f))) 0) (answered u) passed
 
     pub fa : (m : Move) → readFrame f ≡ Fa m → answered u wrongEnd ≡ hearFrame u f
     unfolding IsMessage
@@ -74,7 +76,8 @@ module _ (u : Unit) (f : List ℕ) where
     -- ---- FE
 
     module _ (m : Move) (e : readFrame f ≡ Fe m) where
-      fe-taken : (p : Phase) → awaited u (Fe m) ≡ true → phaseAfter u (Fe m) ≡ p → answered (inPhase u p) 0 ≡ hearFrame u f
+      fe-taken : (p : Phase) → awaited u (Fe m) ≡ true → phaseAfter u (Fe m) ≡ p
+          → answered (inPhase u p) 0 ≡ hearFrame u f
       unfolding IsMessage
       fe-taken = taken (Fe m) e tt refl
 
@@ -93,7 +96,8 @@ module _ (u : Unit) (f : List ℕ) where
         pub fe-not-now : forMove u m ≡ true → awaiting (u .phase) ≡ false → answered u notAwaited ≡ hearFrame u f
         fe-not-now h k = fe-refused (rw (eq-eqb _ _ own, h, k))
 
-        pub fe-granted : forMove u m ≡ true → awaiting (u .phase) ≡ true → (v : Unit) → v ≡ inPhase u Granted → answered v 0 ≡ hearFrame u f
+        pub fe-granted : forMove u m ≡ true → awaiting (u .phase) ≡ true → (v : Unit) → v ≡ inPhase u Granted
+            → answered v 0 ≡ hearFrame u f
         unfolding phaseAfter
         fe-granted h k v p = rw p (fe-taken Granted (rw (eq-eqb _ _ own, h, k)) (rw h))
 
@@ -113,6 +117,7 @@ module _ (u : Unit) (f : List ℕ) where
         unfolding phaseAfter
         afe-not-now h = afe-taken (u .phase) (rw (own, h))
 
-        pub afe-declined : samePhase (u .phase) Asked ≡ true → (v : Unit) → v ≡ inPhase u Declined → answered v 0 ≡ hearFrame u f
+        pub afe-declined : samePhase (u .phase) Asked ≡ true → (v : Unit) → v ≡ inPhase u Declined
+            → answered v 0 ≡ hearFrame u f
         unfolding phaseAfter
         afe-declined h v p = rw p (afe-taken Declined (rw (own, h)))

@@ -1,5 +1,5 @@
--- The history of a unit is orderly: `specs/History.antt`, proved. `Tied` is the invariant: what the events so far say of the unit's phase and post. Each
--- input keeps it, and finds the events so far as the claim wants them (`Due`).
+-- The history of a unit is orderly: `specs/History.antt`, proved. `Tied` is the invariant: what the events so far say of
+-- the unit's phase and post. Each input keeps it, and finds the events so far as the claim wants them (`Due`).
 -- Assumes nothing.
 use mathlib.Core.Path.{_≡_, refl, sym, ap, subst, subst⁻¹, _∙_}
 use mathlib.Core.Logic.{_≢_}
@@ -11,16 +11,20 @@ use Rattle.common.specs.Check.{refusal, unlessRefused}
 use Rattle.frame.specs.Frame.{readFrame, bytesOf}
 use Rattle.frame.specs.RoundTrip.{IsMessage}
 use Rattle.frame.proofs.RoundTrip.{round-trip}
-use Rattle.unit.specs.Types.{Move, Message, Fa, Fe, Afe, Am, Phase, Standing, Asked, Declined, Granted, UnderWay, Arrived, Button, Ask, Depart, Reached, Report, Unit, Pressed, Heard}
+use Rattle.unit.specs.Types.{Move, Message, Fa, Fe, Afe, Am, Unit, Pressed, Heard}
+use Rattle.unit.specs.Types.{Phase, Standing, Asked, Declined, Granted, UnderWay, Arrived, Button, Ask, Depart, Reached, Report}
 use Rattle.unit.specs.State.{ownMove, inPhase, validUnit}
 use Rattle.unit.specs.Making.{makeUnit}
 use Rattle.unit.specs.Pressing.{phaseFor, carriedOut, movedOn}
 use Rattle.unit.specs.Hearing.{answered}
-use Rattle.unit.specs.History.{Input, press, frame, exchange, ofPress, ofFrame, after, run, Event, fa, fe, am, other, acceptedEvent, heardEvent, eventOf, reported, place, Onward, Requested, Authorised, History}
+use Rattle.unit.specs.History.{Input, press, frame, exchange, ofPress, ofFrame, after, run}
+use Rattle.unit.specs.History.{Event, fa, fe, am, other, acceptedEvent, heardEvent, eventOf, reported, place}
+use Rattle.unit.specs.History.{Onward, Requested, Authorised, History}
 use Rattle.unit.proofs.Validity.{carried-out-valid, heard-valid, fits-made, made-standing, standing-unit-valid}
 use Rattle.unit.proofs.Outcomes as outcomes
 use Rattle.unit.proofs.Events.{with, place-with}
-use Rattle.unit.proofs.Past.{Quiet, nothing, elsewhere, quiet-place, Free, Told, none-yet, after-fa, after-fe, after-am, requested-kept, authorised-kept, told-kept, told-requested}
+use Rattle.unit.proofs.Past.{Quiet, nothing, elsewhere, quiet-place, Free, Told, none-yet, told-requested}
+use Rattle.unit.proofs.Past.{after-fa, after-fe, after-am, requested-kept, authorised-kept, told-kept}
 
 -- ---- what an exchange says
 
@@ -36,7 +40,8 @@ says-am : (i : Input) (n : ℕ) (m : Move) → eventOf (record { input = i; refu
 unfolding eventOf IsMessage
 says-am i n m = rw (round-trip .back (Am m) tt)
 
-says-accepted : (f : List ℕ) (v : Unit) (x : Message) → readFrame f ≡ x → eventOf (ofFrame f (answered v 0)) ≡ acceptedEvent x
+says-accepted : (f : List ℕ) (v : Unit) (x : Message) → readFrame f ≡ x
+    → eventOf (ofFrame f (answered v 0)) ≡ acceptedEvent x
 says-accepted f v x e = says-heard (frame f) 0 ∙ ap acceptedEvent e
 
 -- ---- the invariant, for a unit that was made for this train, start and end
@@ -70,8 +75,8 @@ module _ (t a e : ℕ) where
     }
 
     -- the unit in another phase, or the same, after an event that reports no post
-    in-phase : (x : Event) (p : Phase) → validUnit (inPhase u p) ≡ true → ((n : ℕ) → reported n x ≡ n) → Told t p (with past x) (ownMove u)
-        → Tied (inPhase u p) (with past x)
+    in-phase : (x : Event) (p : Phase) → validUnit (inPhase u p) ≡ true → ((n : ℕ) → reported n x ≡ n)
+        → Told t p (with past x) (ownMove u) → Tied (inPhase u p) (with past x)
     in-phase x p good still told = record {
       good = good;
       train = k .train;
@@ -81,45 +86,61 @@ module _ (t a e : ℕ) where
     }
 
     unchanged : (x : Event) → Quiet t x → Tied u (with past x)
-    unchanged x q = in-phase x (u .phase) (k .good) (λ n. quiet-place n q) (told-kept t past q (ownMove u) (u .phase) (k .told))
+    unchanged x q =
+        in-phase x (u .phase) (k .good) (λ n. quiet-place n q) (told-kept t past q (ownMove u) (u .phase) (k .told))
 
-    carried-out : (b : Button) → u .phase ≡ phaseFor b → u .at .0 ≢ u .route .end .0 → Stepped past (carriedOut u b .unit) (eventOf (ofPress b (carriedOut u b)))
+    -- an event that an exchange says is this one
+    with-event : (v : Unit) {x y : Event} → y ≡ x → Due past x → Tied v (with past x) → Stepped past v y
+    with-event v e d s = subst⁻¹ (Stepped past v) e (d, s)
+
+    carried-out : (b : Button) → u .phase ≡ phaseFor b → u .at .0 ≢ u .route .end .0
+        → Stepped past (carriedOut u b .unit) (eventOf (ofPress b (carriedOut u b)))
     unfolding carriedOut
-    carried-out Ask h short = subst⁻¹ (Stepped past (inPhase u Asked)) (says-fa (press Ask) 0 (ownMove u)) (
-      (onward short, told-as Standing h),
-      in-phase (fa (ownMove u)) Asked (carried-out-valid u (k .good) Ask short) (λ n. refl) (after-fa t past (ownMove u)),
-    )
-    carried-out Depart h short = subst⁻¹ (Stepped past (inPhase u UnderWay)) (says-heard (press Depart) 0)
-        (record {}, in-phase other UnderWay (carried-out-valid u (k .good) Depart short) (λ n. refl) (authorised-kept t past nothing (told-as Granted h)))
-    carried-out Reached h short = subst⁻¹ (Stepped past (inPhase u Arrived)) (says-heard (press Reached) 0)
-        (record {}, in-phase other Arrived (carried-out-valid u (k .good) Reached short) (λ n. refl) (authorised-kept t past nothing (told-as UnderWay h)))
-    carried-out Report h short = subst⁻¹ (Stepped past (movedOn u)) (says-am (press Report) 0 (ownMove u)) (
-      (onward short, told-as Arrived h),
-      record {
-        good = carried-out-valid u (k .good) Report short;
-        train = k .train;
-        end = k .end;
-        post = sym (place-with a past (am (ownMove u)));
-        told = after-am t past (ownMove u);
-      },
-    )
+    carried-out Ask h short =
+        let good = carried-out-valid u (k .good) Ask short in
+        let asked = after-fa t past (ownMove u) in
+        with-event (inPhase u Asked) (says-fa (press Ask) 0 (ownMove u)) (onward short, told-as Standing h)
+        (in-phase (fa (ownMove u)) Asked good (λ n. refl) asked)
+    carried-out Depart h short =
+        let good = carried-out-valid u (k .good) Depart short in
+        let granted = authorised-kept t past nothing (told-as Granted h) in
+        with-event (inPhase u UnderWay) (says-heard (press Depart) 0) (record {}) (in-phase other UnderWay good (λ n. refl) granted)
+    carried-out Reached h short =
+        let good = carried-out-valid u (k .good) Reached short in
+        let granted = authorised-kept t past nothing (told-as UnderWay h) in
+        with-event (inPhase u Arrived) (says-heard (press Reached) 0) (record {}) (in-phase other Arrived good (λ n. refl) granted)
+    carried-out Report h short =
+        let standing : Tied (movedOn u) (with past (am (ownMove u))) = record {
+          good = carried-out-valid u (k .good) Report short;
+          train = k .train;
+          end = k .end;
+          post = sym (place-with a past (am (ownMove u)));
+          told = after-am t past (ownMove u);
+        } in
+        with-event (movedOn u) (says-am (press Report) 0 (ownMove u)) (onward short, told-as Arrived h) standing
 
     pressed : {b : Button} {r : Pressed} → outcomes.PressOutcome u b r → Stepped past (r .unit) (eventOf (ofPress b r))
-    pressed {b} (outcomes.refused n) = subst⁻¹ (Stepped past u) (says-heard (press b) (suc n)) (record {}, unchanged other nothing)
+    pressed {b} (outcomes.refused n) = with-event u (says-heard (press b) (suc n)) (record {}) (unchanged other nothing)
     pressed {b} (outcomes.accepted h short) = carried-out b h short
 
     heard : {f : List ℕ} {r : Heard} → outcomes.HearOutcome u f r → Stepped past (r .unit) (eventOf (ofFrame f r))
-    heard {f} (outcomes.refused n) = subst⁻¹ (Stepped past u) (says-heard (frame f) (suc n)) (record {}, unchanged other nothing)
-    heard {f} (outcomes.fe-passed-over m r h) = subst⁻¹ (Stepped past u) (says-accepted f u (Fe m) r)
-        ((λ z. absurd (h (z ∙ sym (k .train)))), unchanged (fe m) (elsewhere m (λ z. h (z ∙ sym (k .train)))))
+    heard {f} (outcomes.refused n) = with-event u (says-heard (frame f) (suc n)) (record {}) (unchanged other nothing)
+    heard {f} (outcomes.fe-passed-over m r h) =
+        let another : m .train .0 ≢ t = λ z. h (z ∙ sym (k .train)) in
+        with-event u (says-accepted f u (Fe m) r) (λ z. absurd (another z)) (unchanged (fe m) (elsewhere m another))
     heard {f} (outcomes.granted m r o w) =
+        let good : validUnit (inPhase u Granted) ≡ true = heard-valid u (k .good) (outcomes.granted m r o w) in
         let asked = subst⁻¹ (Requested t past) o (told-requested t past (ownMove u) (u .phase) w (k .told)) in
         let granted = subst (Authorised t (with past (fe m))) o (after-fe t past asked) in
-        subst⁻¹ (Stepped past (inPhase u Granted)) (says-accepted f (inPhase u Granted) (Fe m) r)
-        ((λ z. asked), in-phase (fe m) Granted (heard-valid u (k .good) (outcomes.granted m r o w)) (λ n. refl) granted)
-    heard {f} (outcomes.afe-passed-over m r) = subst⁻¹ (Stepped past u) (says-accepted f u (Afe m) r) (record {}, unchanged other nothing)
-    heard {f} (outcomes.declined m r h) = subst⁻¹ (Stepped past (inPhase u Declined)) (says-accepted f (inPhase u Declined) (Afe m) r)
-        (record {}, in-phase other Declined (heard-valid u (k .good) (outcomes.declined m r h)) (λ n. refl) (requested-kept t past nothing (told-as Asked h)))
+        with-event (inPhase u Granted) (says-accepted f (inPhase u Granted) (Fe m) r) (λ z. asked)
+        (in-phase (fe m) Granted good (λ n. refl) granted)
+    heard {f} (outcomes.afe-passed-over m r) =
+        with-event u (says-accepted f u (Afe m) r) (record {}) (unchanged other nothing)
+    heard {f} (outcomes.declined m r h) =
+        let good : validUnit (inPhase u Declined) ≡ true = heard-valid u (k .good) (outcomes.declined m r h) in
+        let asked = requested-kept t past nothing (told-as Asked h) in
+        with-event (inPhase u Declined) (says-accepted f (inPhase u Declined) (Afe m) r) (record {})
+        (in-phase other Declined good (λ n. refl) asked)
 
     step : (i : Input) → Stepped past (after u i) (eventOf (exchange u i))
     step (press b) = pressed (outcomes.press-outcome u b)
@@ -134,12 +155,14 @@ module _ (t a e : ℕ) where
   run-due [] u past k (y ∷ xs) x ys h = let z : _≡_ {A = ℕ} 0 1 = cc in absurd (omega arith)
   run-due (i ∷ is) u past k [] x ys h =
       let first : eventOf (exchange u i) ≡ x = cc in
-      subst (Due (past ++ [])) first (subst⁻¹ (λ (l : List Event). Due l (eventOf (exchange u i))) (append-nil past) (step k i .0))
+      let due = subst⁻¹ (λ (l : List Event). Due l (eventOf (exchange u i))) (append-nil past) (step k i .0) in
+      subst (Due (past ++ [])) first due
   run-due (i ∷ is) u past k (y ∷ xs) x ys h =
+      let next = with past (eventOf (exchange u i)) in
       let first : eventOf (exchange u i) ≡ y = cc in
       let rest : map eventOf (run (after u i) is) ≡ xs ++ (x ∷ ys) = cc in
-      let joined : with past (eventOf (exchange u i)) ++ xs ≡ past ++ (y ∷ xs) = append-assoc past (eventOf (exchange u i) ∷ []) xs ∙ rw first in
-      subst (λ (l : List Event). Due l x) joined (run-due is (after u i) (with past (eventOf (exchange u i))) (step k i .1) xs x ys rest)
+      let joined : next ++ xs ≡ past ++ (y ∷ xs) = append-assoc past (eventOf (exchange u i) ∷ []) xs ∙ rw first in
+      subst (λ (l : List Event). Due l x) joined (run-due is (after u i) next (step k i .1) xs x ys rest)
 
   at-start : makeUnit t a e .refusal ≡ 0 → Tied (makeUnit t a e .unit) []
   unfolding place
@@ -157,7 +180,9 @@ history t a e h is =
     record {
       am-granted = λ past later m z. due past (am m) later z .1;
       fe-awaited = λ past later m z. due past (fe m) later z;
-      one-request = λ past between later m n z. due (past ++ (fa m ∷ between)) (fa n) later (z ∙ sym (append-assoc past (fa m ∷ between) (fa n ∷ later))) .1 past between m refl;
+      one-request = λ past between later m n z.
+          let joined = z ∙ sym (append-assoc past (fa m ∷ between) (fa n ∷ later)) in
+          due (past ++ (fa m ∷ between)) (fa n) later joined .1 past between m refl;
       fa-onward = λ past later m z. due past (fa m) later z .0;
       am-onward = λ past later m z. due past (am m) later z .0;
     }

@@ -1,4 +1,5 @@
--- The laws that the functions' proofs cite, by what they are about, and the claims of `specs/`, proved in files of their names.
+-- `Numbers` to `Frames` have the laws that the functions' proofs cite. `Outcomes` turns the definitions round; `Validity`
+-- and `History` prove the claims of `specs/`, the latter by way of `Events` and `Past`.
 pub mod Phases
 pub mod Numbers
 pub mod Validity

@@ -1,17 +1,16 @@
 -- The numbers that a unit may have, and the unit that is made of them.
 -- Assumes nothing.
-use mathlib.Core.Path.{_≡_, sym, ap, _∙_}
+use mathlib.Core.Path.{_≡_}
 use mathlib.Core.Bool.{true, false, _&&_}
 use Prim.Native.Nat.{ℕ, _≤_, _<_}
 use native.Mathlib.Omega.{arith}
 use lib.Dec.{leb}
 use borrow.Author.Tests.{le-leb, lt-leb}
-use Rattle.common.specs.Check.{unlessRefused}
-use Rattle.common.proofs.Check.{Refuses, none, stop, pass, refusal-is, accepts, refuses}
+use Rattle.common.proofs.Check.{none, stop, pass, accepted-by, refused-by}
 use Rattle.line.specs.Refusal.{offTheLine}
 use Rattle.unit.specs.Types.{Unit}
 use Rattle.unit.specs.State.{numbersFit}
-use Rattle.unit.specs.Making.{standingUnit, emptyUnit, made, makeChecks, makeUnit}
+use Rattle.unit.specs.Making.{standingUnit, emptyUnit, made, makeUnit}
 
 module _ (t a e : ℕ) where
   pub train-above : 5 < t → false ≡ numbersFit t a e
@@ -24,10 +23,8 @@ module _ (t a e : ℕ) where
 
   pub makes : numbersFit t a e ≡ true → (u : Unit) → u ≡ standingUnit t a e → made u 0 ≡ makeUnit t a e
   unfolding makeUnit
-  makes h u p = rw p (sym (accepts (made (standingUnit t a e) 0) (made emptyUnit) (refusal-is (pass h none))))
+  makes h u p = rw p (accepted-by (made (standingUnit t a e) 0) (made emptyUnit) (pass h none))
 
   pub makes-none : numbersFit t a e ≡ false → (u : Unit) → u ≡ emptyUnit → made u offTheLine ≡ makeUnit t a e
   unfolding makeUnit
-  makes-none h u p =
-      let r : Refuses (makeChecks t a e) offTheLine = stop h in
-      rw p (sym (ap (λ (k : ℕ). unlessRefused k (made (standingUnit t a e) 0) (made emptyUnit)) (refusal-is r) ∙ refuses _ (made emptyUnit) (omega arith)))
+  makes-none h u p = rw p (refused-by (made (standingUnit t a e) 0) (made emptyUnit) (omega arith) (stop h))

@@ -1,4 +1,5 @@
--- How a press and a frame come out, turned round from the definitions: a refusal leaves the unit as it was, and what is accepted passed every check.
+-- How a press and a frame come out, turned round from the definitions: a refusal leaves the unit as it was, and what is
+-- accepted passed every check.
 -- Assumes nothing.
 use mathlib.Core.Path.{_≡_, refl}
 use mathlib.Core.Logic.{_≢_}
@@ -11,10 +12,12 @@ use Rattle.common.specs.Check.{refusal, unlessRefused}
 use Rattle.common.proofs.Tests.{by-cases, not-passed, and-left, and-right}
 use Rattle.common.proofs.Check.{passed-at}
 use Rattle.frame.specs.Frame.{moveOf, readFrame}
-use Rattle.unit.specs.Types.{Move, Message, Fa, Fe, Afe, Am, Refused, Asked, Declined, Granted, Unit, Button, Pressed, Heard}
+use Rattle.unit.specs.Types.{Move, Message, Fa, Fe, Afe, Am, Refused, Button, Unit, Pressed, Heard}
+use Rattle.unit.specs.Types.{Asked, Declined, Granted}
 use Rattle.unit.specs.State.{samePhase, ownMove, inPhase}
 use Rattle.unit.specs.Pressing.{phaseFor, pressChecks, silent, carriedOut, pressButton}
-use Rattle.unit.specs.Hearing.{forTrain, forMove, awaiting, forUnit, awaited, hearChecks, phaseAfter, answered, hearFrame}
+use Rattle.unit.specs.Hearing.{forTrain, forMove, awaiting, forUnit, awaited}
+use Rattle.unit.specs.Hearing.{hearChecks, phaseAfter, answered, hearFrame}
 use Rattle.unit.proofs.Phases.{same-phase}
 
 pub data PressOutcome (u : Unit) (b : Button) : Pressed → Type 0 where
@@ -26,14 +29,17 @@ unfolding pressButton unlessRefused
 press-outcome u b = at (refusal (pressChecks u b)) refl
   where
     at : (n : ℕ) → refusal (pressChecks u b) ≡ n → PressOutcome u b (unlessRefused n (carriedOut u b) (silent u))
-    at zero e = let passed = passed-at (pressChecks u b) refl e in accepted (same-phase (u .phase) (phaseFor b) (passed 1)) (eqb-false _ _ (not-true _ (passed 2)))
+    at zero e =
+        let passed = passed-at (pressChecks u b) refl e in
+        accepted (same-phase (u .phase) (phaseFor b) (passed 1)) (eqb-false _ _ (not-true _ (passed 2)))
     at (suc n) e = refused n
 
 -- an FE or AFE that is passed over, or the FE or AFE for the unit's own move when it waits for one
 pub data HearOutcome (u : Unit) (f : List ℕ) : Heard → Type 0 where
   refused : (n : ℕ) → HearOutcome u f (answered u (suc n))
   fe-passed-over : (m : Move) → readFrame f ≡ Fe m → m .train .0 ≢ u .train .0 → HearOutcome u f (answered u 0)
-  granted : (m : Move) → readFrame f ≡ Fe m → m ≡ ownMove u → awaiting (u .phase) ≡ true → HearOutcome u f (answered (inPhase u Granted) 0)
+  granted : (m : Move) → readFrame f ≡ Fe m → m ≡ ownMove u → awaiting (u .phase) ≡ true
+      → HearOutcome u f (answered (inPhase u Granted) 0)
   afe-passed-over : (m : Move) → readFrame f ≡ Afe m → HearOutcome u f (answered u 0)
   declined : (m : Move) → readFrame f ≡ Afe m → u .phase ≡ Asked → HearOutcome u f (answered (inPhase u Declined) 0)
 
@@ -55,7 +61,8 @@ module _ (u : Unit) (m : Move) where
 
 module _ (u : Unit) (f : List ℕ) where
   -- by the message, once the checks are passed
-  taken : (x : Message) → readFrame f ≡ x → forUnit x ≡ true → awaited u x ≡ true → HearOutcome u f (answered (inPhase u (phaseAfter u x)) 0)
+  taken : (x : Message) → readFrame f ≡ x → forUnit x ≡ true → awaited u x ≡ true
+      → HearOutcome u f (answered (inPhase u (phaseAfter u x)) 0)
   unfolding phaseAfter
   taken (Fa m) e own w = absurd (false≢true own)
   taken (Fe m) e own w = by-cases (forMove u m)
@@ -71,6 +78,9 @@ module _ (u : Unit) (f : List ℕ) where
   unfolding hearFrame unlessRefused
   hear-outcome = at (refusal (hearChecks u f)) refl
     where
-      at : (n : ℕ) → refusal (hearChecks u f) ≡ n → HearOutcome u f (unlessRefused n (answered (inPhase u (phaseAfter u (readFrame f))) 0) (answered u))
-      at zero e = let passed = passed-at (hearChecks u f) refl e in taken (readFrame f) refl (passed 4) (passed 5)
+      at : (n : ℕ) → refusal (hearChecks u f) ≡ n
+          → HearOutcome u f (unlessRefused n (answered (inPhase u (phaseAfter u (readFrame f))) 0) (answered u))
+      at zero e =
+          let passed = passed-at (hearChecks u f) refl e in
+          taken (readFrame f) refl (passed 4) (passed 5)
       at (suc n) e = refused n

@@ -1,4 +1,5 @@
--- When a unit is valid, by the tests that the code makes, and that a valid unit stays valid: `specs/Validity.antt`, proved.
+-- When a unit is valid, by the tests that the code makes, and that a valid unit stays valid: `specs/Validity.antt`,
+-- proved.
 -- Assumes nothing.
 use mathlib.Core.Path.{_≡_, refl, sym, ap, _∙_}
 use mathlib.Core.Logic.{_≢_}
@@ -9,7 +10,8 @@ use native.Mathlib.Omega.{arith}
 use borrow.Author.Tests.{eq-eqb, ne-eqb}
 use Rattle.common.proofs.Tests.{by-cases, by-equality, and-left, and-right}
 use Rattle.line.proofs.Travel.{between-of, of-between, start-between, next-between}
-use Rattle.unit.specs.Types.{Phase, Standing, Asked, Declined, Granted, UnderWay, Arrived, Button, Ask, Depart, Reached, Report, Unit, Made, Pressed, Heard}
+use Rattle.unit.specs.Types.{Phase, Standing, Asked, Declined, Granted, UnderWay, Arrived}
+use Rattle.unit.specs.Types.{Button, Ask, Depart, Reached, Report, Unit, Made, Pressed, Heard}
 use Rattle.unit.specs.State.{samePhase, numbersFit, inRanges, onRoute, inPhase, validUnit}
 use Rattle.unit.specs.Making.{standingUnit, emptyUnit, made, makeUnit}
 use Rattle.unit.specs.Pressing.{movedOn, carriedOut}
@@ -40,7 +42,8 @@ module _ (u : Unit) where
       at-its-end h = rw (fit, on, eq-eqb _ _ h)
 
       standing-valid : samePhase (u .phase) Standing ≡ true → validUnit u ≡ true
-      standing-valid h = by-equality (u .at .0) (u .route .end .0) (λ e. sym (at-its-end e) ∙ h) (λ e. sym (short-of-end e))
+      standing-valid h =
+          by-equality (u .at .0) (u .route .end .0) (λ e. sym (at-its-end e) ∙ h) (λ e. sym (short-of-end e))
 
 -- ---- what follows for a valid unit
 
@@ -66,7 +69,9 @@ module _ (u : Unit) (good : validUnit u ≡ true) where
 
     pub valid-moved-on : validUnit (movedOn u) ≡ true
     unfolding samePhase
-    valid-moved-on = standing-valid (movedOn u) fits (of-between _ _ _ (next-between _ _ _ (between-of _ _ _ on-route) short)) refl
+    valid-moved-on =
+        let between = next-between _ _ _ (between-of _ _ _ on-route) short in
+        standing-valid (movedOn u) fits (of-between _ _ _ between) refl
 
 -- ---- a unit that is made
 
@@ -99,7 +104,8 @@ module _ (u : Unit) (good : validUnit u ≡ true) where
   unfolding samePhase
   heard-valid (outcomes.refused n) = good
   heard-valid (outcomes.fe-passed-over m e h) = good
-  heard-valid (outcomes.granted m e o h) = valid-in-phase u good (short-unless-standing u good (awaiting-not-standing (u .phase) h)) Granted
+  heard-valid (outcomes.granted m e o h) =
+      valid-in-phase u good (short-unless-standing u good (awaiting-not-standing (u .phase) h)) Granted
   heard-valid (outcomes.afe-passed-over m e) = good
   heard-valid (outcomes.declined m e h) = valid-in-phase u good (short-unless-standing u good (rw h)) Declined
 

@@ -6,14 +6,16 @@ use lib.Dec.{eqb}
 use Rattle.common.specs.Check.{Check, check, refusal, unlessRefused}
 use Rattle.line.specs.Refusal.{strangeState, wrongEnd, notAwaited}
 use Rattle.frame.specs.Frame.{readChecks, readFrame}
-use Rattle.unit.specs.Types.{Move, Message, Fa, Fe, Afe, Am, Refused, Phase, Standing, Asked, Declined, Granted, UnderWay, Arrived, Unit, Heard}
+use Rattle.unit.specs.Types.{Move, Message, Fa, Fe, Afe, Am, Refused, Unit, Heard}
+use Rattle.unit.specs.Types.{Phase, Standing, Asked, Declined, Granted, UnderWay, Arrived}
 use Rattle.unit.specs.State.{samePhase, ownMove, inPhase, validUnit}
 
 -- "for its own train"
 abbrev pub forTrain : Unit → Move → Bool
 forTrain u m = eqb (m .train .0) (u .train .0)
 
--- "for its own train and move": from the present to the next post. At the end there is none, but a valid unit there is Standing and awaits nothing.
+-- "for its own train and move": from the present to the next post. At the end there is none, but a valid unit there is
+-- Standing and awaits nothing.
 unfoldable pub forMove : Unit → Move → Bool
 forMove u m = forTrain u m && (eqb (m .from .0) (ownMove u .from .0) && eqb (m .to .0) (ownMove u .to .0))
 
@@ -47,8 +49,8 @@ hearChecks u f =
     check strangeState (validUnit u)
     ∷ (readChecks f ++ (check wrongEnd (forUnit (readFrame f)) ∷ check notAwaited (awaited u (readFrame f)) ∷ []))
 
--- "Heard FE for its own train and move: Asked or Declined to Granted. Heard AFE for its own train and move: Asked to Declined. .. Any other AFE, and
--- an FE for another train, changes nothing."
+-- "Heard FE for its own train and move: Asked or Declined to Granted. Heard AFE for its own train and move: Asked to
+-- Declined. .. Any other AFE, and an FE for another train, changes nothing."
 unfoldable pub phaseAfter : Unit → Message → Phase
 phaseAfter u (Fa m) = u .phase
 phaseAfter u (Fe m) = cond (forMove u m) Granted (u .phase)
@@ -62,4 +64,5 @@ answered u n = record { unit = u; refusal = n }
 
 -- "A refusal returns its number and the state unchanged"
 unfoldable pub hearFrame : Unit → List ℕ → Heard
-hearFrame u f = unlessRefused (refusal (hearChecks u f)) (answered (inPhase u (phaseAfter u (readFrame f))) 0) (answered u)
+hearFrame u f =
+    unlessRefused (refusal (hearChecks u f)) (answered (inPhase u (phaseAfter u (readFrame f))) 0) (answered u)

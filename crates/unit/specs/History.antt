@@ -1,5 +1,5 @@
--- The claim on a unit's whole history: any list of presses and frames, in any order, torn and refused ones included. It is told from what went in and
--- what came out, never from the unit's state.
+-- The claim on a unit's whole history: any list of presses and frames, in any order, torn and refused ones included. It
+-- is told from what went in and what came out, never from the unit's state.
 use mathlib.Core.Path.{_≡_}
 use mathlib.Core.Logic.{_≢_}
 use mathlib.Core.Bool.{Bool, true, false, cond, _||_}
@@ -112,7 +112,8 @@ pub record Onward (train end post : ℕ) (m : Move) : Type 0 where
   pub short : post ≢ end
   pub move : m ≡ moveOf train post (nextPost post end)
 
--- FA was sent for m, and since then no AM was sent and no FE for this train accepted: the move is asked for, and the answer outstanding or declined
+-- FA was sent for m, and since then no AM was sent and no FE for this train accepted: the unit has asked for m, and its
+-- authority is outstanding
 pub record Requested (train : ℕ) (past : List Event) (m : Move) : Type 0 where
   pub before : List Event
   pub since : List Event
@@ -120,7 +121,7 @@ pub record Requested (train : ℕ) (past : List Event) (m : Move) : Type 0 where
   pub no-am : some isAm since ≡ false
   pub no-fe : some (isFe train) since ≡ false
 
--- FE for m was accepted when m was requested, and since then no AM was sent: the move is granted, and not yet reported
+-- FE for m was accepted when m was requested, and since then no AM was sent: m is granted, and its arrival not reported
 pub record Authorised (train : ℕ) (past : List Event) (m : Move) : Type 0 where
   pub before : List Event
   pub since : List Event
@@ -131,16 +132,23 @@ pub record Authorised (train : ℕ) (past : List Event) (m : Move) : Type 0 wher
 -- ---- the claim
 
 pub record Orderly (train start end : ℕ) (events : List Event) : Type 0 where
-  -- AM is sent only for a move that was asked for, and then granted by an FE for that very move, with no other AM in between
-  pub am-granted : (past later : List Event) (m : Move) → events ≡ past ++ (am m ∷ later) → Authorised train past m
+  -- AM is sent only for a move that was asked for and then granted by an FE for that very move, with no AM in between
+  pub am-granted : (past later : List Event) (m : Move)
+      → events ≡ past ++ (am m ∷ later) → Authorised train past m
   -- FE for the unit's own train is accepted only for a move that is asked for, and only once
-  pub fe-awaited : (past later : List Event) (m : Move) → events ≡ past ++ (fe m ∷ later) → m .train .0 ≡ train → Requested train past m
+  pub fe-awaited : (past later : List Event) (m : Move)
+      → events ≡ past ++ (fe m ∷ later) → m .train .0 ≡ train → Requested train past m
   -- between two FAs lies an AM
   pub one-request : (past between later : List Event) (m n : Move)
       → events ≡ past ++ (fa m ∷ (between ++ (fa n ∷ later))) → some isAm between ≡ true
-  -- each FA and each AM is for the move from the post that the last AM reported, at first from the start, to the next one towards the end
-  pub fa-onward : (past later : List Event) (m : Move) → events ≡ past ++ (fa m ∷ later) → Onward train end (place start past) m
-  pub am-onward : (past later : List Event) (m : Move) → events ≡ past ++ (am m ∷ later) → Onward train end (place start past) m
+  -- each FA and each AM is for the move from the post that the last AM reported, or from the start, to the next one
+  -- towards the end: the AMs, one after the other, are the train's way
+  pub fa-onward : (past later : List Event) (m : Move)
+      → events ≡ past ++ (fa m ∷ later) → Onward train end (place start past) m
+  pub am-onward : (past later : List Event) (m : Move)
+      → events ≡ past ++ (am m ∷ later) → Onward train end (place start past) m
 
+-- for every unit that is made, and every list
 abbrev pub History : Type 0
-History = (t a e : ℕ) → makeUnit t a e .refusal ≡ 0 → (is : List Input) → Orderly t a e (map eventOf (run (makeUnit t a e .unit) is))
+History = (t a e : ℕ) → makeUnit t a e .refusal ≡ 0 → (is : List Input)
+    → Orderly t a e (map eventOf (run (makeUnit t a e .unit) is))

@@ -8,7 +8,12 @@ use Rattle.unit.specs.State.{numbersFit}
 
 -- a unit that stands at its start
 abbrev pub standingUnit : ℕ → ℕ → ℕ → Unit
-standingUnit t a e = record { train = record { 0 = t }; route = record { start = record { 0 = a }; end = record { 0 = e } }; at = record { 0 = a }; phase = Standing }
+standingUnit t a e = record {
+  train = record { 0 = t };
+  route = record { start = record { 0 = a }; end = record { 0 = e } };
+  at = record { 0 = a };
+  phase = Standing;
+}
 
 -- "for a unit train 255, all else 0, Standing"
 abbrev pub emptyUnit : Unit

@@ -7,7 +7,8 @@ use Rattle.common.specs.Check.{Check, check, refusal, unlessRefused}
 use Rattle.line.specs.Refusal.{strangeState, notNow, atEnd}
 use Rattle.line.specs.Route.{nextPost}
 use Rattle.frame.specs.Frame.{bytesOf}
-use Rattle.unit.specs.Types.{Message, Fa, Am, Phase, Standing, Asked, Granted, UnderWay, Arrived, Button, Ask, Depart, Reached, Report, Unit, Pressed}
+use Rattle.unit.specs.Types.{Message, Fa, Am, Unit, Pressed, Button, Ask, Depart, Reached, Report}
+use Rattle.unit.specs.Types.{Phase, Standing, Asked, Granted, UnderWay, Arrived}
 use Rattle.unit.specs.State.{samePhase, ended, ownMove, inPhase, validUnit}
 
 -- the phase in which a button may be pressed: "Another button press is 21"
@@ -37,10 +38,15 @@ sending u m = record { unit = u; refusal = 0; sent = true; frame = bytesOf m }
 
 -- Standing at the next post
 abbrev pub movedOn : Unit → Unit
-movedOn u = record { train = u .train; route = u .route; at = record { 0 = nextPost (u .at .0) (u .route .end .0) }; phase = Standing }
+movedOn u = record {
+  train = u .train;
+  route = u .route;
+  at = record { 0 = nextPost (u .at .0) (u .route .end .0) };
+  phase = Standing;
+}
 
--- "Ask: Standing to Asked, gives FA. .. Depart: Granted to Under way. Reached: Under way to Arrived. Report: Arrived to Standing at the next
--- post, gives AM (the source's two steps in one)."
+-- "Ask: Standing to Asked, gives FA. .. Depart: Granted to Under way. Reached: Under way to Arrived. Report: Arrived to
+-- Standing at the next post, gives AM (the source's two steps in one)."
 unfoldable pub carriedOut : Unit → Button → Pressed
 carriedOut u Ask = sending (inPhase u Asked) (Fa (ownMove u))
 carriedOut u Depart = silent (inPhase u UnderWay) 0

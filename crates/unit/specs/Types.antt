@@ -4,7 +4,8 @@ pub use Rattle.frame.specs.declared.message.Move.{Move}
 pub use Rattle.frame.specs.declared.message.Message.{Message}
 pub use Rattle.frame.specs.declared.message.Message.the-variants.{Fa, Fe, Afe, Am, Refused}
 pub use Rattle.unit.specs.declared.state.Phase.{Phase}
-pub use Rattle.unit.specs.declared.state.Phase.the-variants.{Standing, Asked, Declined, Granted, UnderWay, Arrived}
+pub use Rattle.unit.specs.declared.state.Phase.the-variants.{Standing, Asked, Declined}
+pub use Rattle.unit.specs.declared.state.Phase.the-variants.{Granted, UnderWay, Arrived}
 pub use Rattle.unit.specs.declared.state.Button.{Button}
 pub use Rattle.unit.specs.declared.state.Button.the-variants.{Ask, Depart, Reached, Report}
 pub use Rattle.unit.specs.declared.state.Unit.{Unit}

@@ -1,13 +1,14 @@
 -- `line::book::read` meets its contract: at each `return` the stages so far give the book's refusal, or its line.
 -- Assumes nothing.
-use mathlib.Core.Path.{_≡_, refl, _∙_}
+use mathlib.Core.Path.{refl, _∙_}
 use mathlib.Core.List.{List}
 use Prim.Native.Nat.{ℕ}
 use native.Mathlib.Omega.{arith}
 use denote.Ref.{now}
 use borrow.Author.Needs.{needs}
 use Rattle.line.proofs.InOrder.{Left, afterTracks, PostsRead, TrainsRead, posts-refused, posts-read}
-use Rattle.line.proofs.InOrder.{tracks-refused, tracks-read, trains-refused, trains-read, routes-refused, routes-read}
+use Rattle.line.proofs.InOrder.{tracks-refused, tracks-read, trains-refused, trains-read}
+use Rattle.line.proofs.InOrder.{routes-refused, routes-read}
 use Rattle.line.proofs.book.read.Statement.{statement}
 use Rattle.line.proofs.book.read.Tie as tie
 
@@ -99,7 +100,8 @@ returns-3 : tie.Need-returns-3
 returns-3 c =
     let a = c .before .before .before in
     let p = posts (from-tracks (a .before)) in
-    c .refused3 .ensures ∙ trains-refused _ p (counts (a .before)) (a .read-trains .ensures) (c .before .enum-told4 .given .1)
+    let k = counts (a .before) in
+    c .refused3 .ensures ∙ trains-refused _ p k (a .read-trains .ensures) (c .before .enum-told4 .given .1)
 
 read-routes-requires : tie.Need-read-routes-requires
 read-routes-requires c κs = let r = trains c in (r .few, omega arith)
@@ -123,8 +125,9 @@ returns-4 c =
     let tracks = t .before .before .before .read-tracks .ensures in
     let routes = a .read-routes .ensures in
     let ends = c .before .before .before .check-routes .ensures in
+    let p = posts (from-tracks t) in
     c .refused4 .ensures
-    ∙ routes-refused _ (posts (from-tracks t)) (trains (a .before)) _ refl tracks refl routes ends (c .before .enum-told6 .given .1)
+    ∙ routes-refused _ p (trains (a .before)) _ refl tracks refl routes ends (c .before .enum-told6 .given .1)
 
 returns-5 : tie.Need-returns-5
 returns-5 c =
@@ -133,7 +136,8 @@ returns-5 c =
     let tracks = t .before .before .before .read-tracks .ensures in
     let routes = a .read-routes .ensures in
     let ends = c .before .before .check-routes .ensures in
-    routes-read _ (posts (from-tracks t)) (trains (a .before)) _ refl tracks refl routes ends (c .enum-told5 .given .1)
+    let p = posts (from-tracks t) in
+    routes-read _ p (trains (a .before)) _ refl tracks refl routes ends (c .enum-told5 .given .1)
 
 pub read-spec : {M : Type 1} → statement M
 read-spec =

@@ -18,7 +18,8 @@ silent-requires : tie.Need-silent-requires
 silent-requires c κs = search needs
 
 returns : tie.Need-returns
-returns c = c .silent .ensures ∙ strange _ _ (sym (c .before .before .valid .ensures) ∙ not-true _ (c .before .if1 .taken))
+returns c =
+    c .silent .ensures ∙ strange _ _ (sym (c .before .before .valid .ensures) ∙ not-true _ (c .before .if1 .taken))
 
 phase-for-requires : tie.Need-phase-for-requires
 phase-for-requires c κs = search needs
@@ -55,7 +56,9 @@ silent-requires-3 : tie.Need-silent-requires-3
 silent-requires-3 c κs = search needs
 
 returns-3 : tie.Need-returns-3
-returns-3 c = let e = c .before .before .before .before in c .silent3 .ensures ∙ no-move _ _ (good (e .before)) (fits e) (c .before .if3 .taken)
+returns-3 c =
+    let e = c .before .before .before .before in
+    c .silent3 .ensures ∙ no-move _ _ (good (e .before)) (fits e) (c .before .if3 .taken)
 
 -- the tests that led to the arms
 module _ (c : tie.Else3) where
@@ -117,14 +120,16 @@ returns-5 c =
     let told = c .before .before in
     let s = told .before .before in
     c .silent4 .ensures
-    ∙ depart _ _ (good (passed s .before)) (fits (passed s)) (s .if3 .left) (told .enum-told2 .given .1) _ (c .before .in-phase2 .ensures)
+    ∙ depart _ _ (good (passed s .before)) (fits (passed s)) (s .if3 .left) (told .enum-told2 .given .1)
+    _ (c .before .in-phase2 .ensures)
 
 returns-6 : tie.Need-returns-6
 returns-6 c =
     let told = c .before .before in
     let s = told .before .before in
     c .silent5 .ensures
-    ∙ reached _ _ (good (passed s .before)) (fits (passed s)) (s .if3 .left) (told .enum-told3 .given .1) _ (c .before .in-phase3 .ensures)
+    ∙ reached _ _ (good (passed s .before)) (fits (passed s)) (s .if3 .left) (told .enum-told3 .given .1)
+    _ (c .before .in-phase3 .ensures)
 
 returns-7 : tie.Need-returns-7
 returns-7 c =

@@ -1,11 +1,10 @@
 -- `valid` meets its contract: at each `return` the tests that led there decide.
 -- Assumes nothing.
+use mathlib.Core.Path.{_≡_, sym, _∙_}
 use mathlib.Core.Bool.{true}
 use borrow.Author.Tests.{not-true, not-false}
-use Rattle.line.specs.Route.{between}
 use Rattle.unit.specs.Types.{Unit}
-use Rattle.unit.specs.State.{numbersFit}
-use mathlib.Core.Path.{_≡_, sym, _∙_}
+use Rattle.unit.specs.State.{inRanges, onRoute}
 use Rattle.unit.proofs.Validity.{numbers-wrong, post-wrong, short-of-end, at-its-end}
 use borrow.Author.Needs.{needs}
 use Rattle.unit.proofs.state.valid.Statement.{statement}
@@ -24,14 +23,14 @@ module _ (c : tie.After-between) where
   abbrev given : Unit
   given = c .before .before .before .before .args .unit
 
-  fit : numbersFit (given .train .0) (given .route .start .0) (given .route .end .0) ≡ true
+  fit : inRanges given ≡ true
   fit = sym (c .before .before .numbers-fit .ensures) ∙ not-false _ (c .before .if1 .left)
 
 returns-2 : tie.Need-returns-2
 returns-2 c = post-wrong _ (fit (c .before)) (sym (c .before .between .ensures) ∙ not-true _ (c .if2 .taken))
 
 module _ (c : tie.Else2) where
-  on-route : between (given (c .before) .route .start .0) (given (c .before) .at .0) (given (c .before) .route .end .0) ≡ true
+  on-route : onRoute (given (c .before)) ≡ true
   on-route = sym (c .before .between .ensures) ∙ not-false _ (c .if2 .left)
 
 returns-3 : tie.Need-returns-3
@@ -41,7 +40,9 @@ same-requires : tie.Need-same-requires
 same-requires c κs = search needs
 
 returns-4 : tie.Need-returns-4
-returns-4 c = let e = c .before .before .before .before in c .same .ensures ∙ at-its-end _ (fit (e .before)) (on-route e) (c .before .if3 .left)
+returns-4 c =
+    let e = c .before .before .before .before in
+    c .same .ensures ∙ at-its-end _ (fit (e .before)) (on-route e) (c .before .if3 .left)
 
 pub valid-spec : {M : Type 1} → statement M
 valid-spec =

@@ -1,0 +1,16 @@
+-- `opening::empty_state` meets its contract.
+-- Assumes nothing.
+use borrow.Author.Needs.{needs}
+use Rattle.common.specs.Tabulate.{valuesFrom}
+use Rattle.dispatcher.proofs.opening.empty_state.Statement.{statement}
+use Rattle.dispatcher.proofs.opening.empty_state.Tie as tie
+
+no-train-requires : tie.Need-no-train-requires
+no-train-requires c κs = search needs
+
+returns : tie.Need-returns
+unfolding valuesFrom
+returns c = rw (c .no-train .ensures)
+
+pub empty-state-spec : {M : Type 1} → statement M
+empty-state-spec = tie.close (tie.spec no-train-requires returns)

@@ -1,0 +1,76 @@
+-- `opening::opened_state` meets its contract. The loop's invariant: the trains passed stand at their starts.
+-- Assumes nothing.
+use mathlib.Core.Path.{_≡_, _∙_}
+use Prim.Native.Nat.{_≤_, _-_}
+use native.Mathlib.Omega.{arith}
+use borrow.Author.Needs.{needs}
+use Rattle.common.specs.Tabulate.{padded}
+use Rattle.common.proofs.Tabulate.{padded-none, padded-more}
+use Rattle.line.specs.Line.{routeOf}
+use Rattle.dispatcher.specs.State.{noTrain}
+use Rattle.dispatcher.specs.Opening.{fresh}
+use Rattle.dispatcher.proofs.OpeningCases.{opened-fleet}
+use Rattle.dispatcher.proofs.opening.opened_state.Statement.{statement}
+use Rattle.dispatcher.proofs.opening.opened_state.Tie as tie
+
+abbrev Inv-loop : tie.InvT-loop
+Inv-loop line fleet₀ t₀ fleet t = (t ≤ 6) × (fleet ≡ padded 6 t (λ u. fresh (routeOf line u)) noTrain)
+
+abbrev μ-loop : tie.MeasureT-loop
+μ-loop line fleet₀ t₀ fleet t = 6 - t
+
+no-train-requires : tie.Need-no-train-requires Inv-loop μ-loop
+no-train-requires c κs = search needs
+
+loop-holds : tie.Need-loop-holds Inv-loop μ-loop
+loop-holds c = (omega arith, rw (c .no-train .ensures) (padded-none 6 _ noTrain))
+
+mul-fresh : tie.Need-mul-fresh Inv-loop μ-loop
+mul-fresh c = omega arith
+
+element-copy-out-fresh : tie.Need-element-copy-out-fresh Inv-loop μ-loop
+element-copy-out-fresh c = omega arith
+
+fresh-requires : tie.Need-fresh-requires Inv-loop μ-loop
+fresh-requires c κs = search needs
+
+mul-fleet : tie.Need-mul-fleet Inv-loop μ-loop
+mul-fleet c = omega arith
+
+array-set-from-fleet : tie.Need-array-set-from-fleet Inv-loop μ-loop
+array-set-from-fleet c = omega arith
+
+add-t : tie.Need-add-t Inv-loop μ-loop
+add-t c = omega arith
+
+loop-less : tie.Need-loop-less Inv-loop μ-loop
+loop-less c = omega arith
+
+loop-again : tie.Need-loop-again Inv-loop μ-loop
+loop-again c =
+    let a = c .before .before .before in
+    (omega arith, rw (a .loop .inv .1, c .fresh .ensures) (padded-more 6 _ noTrain (a .loop .t) (omega arith)))
+
+returns : tie.Need-returns Inv-loop μ-loop
+returns c =
+    let a = c .before .before in
+    let all : a .loop .t ≡ 6 = omega arith in
+    rw ((rw all at (a .loop .inv .1)) ∙ opened-fleet (a .before .before .args .t1))
+
+pub opened-state-spec : {M : Type 1} → statement M
+opened-state-spec =
+    tie.close
+    (tie.spec
+    Inv-loop
+    μ-loop
+    no-train-requires
+    loop-holds
+    mul-fresh
+    element-copy-out-fresh
+    fresh-requires
+    mul-fleet
+    array-set-from-fleet
+    add-t
+    loop-less
+    loop-again
+    returns)

@@ -1,0 +1,130 @@
+// The opening of a book: the table is filled, and every train stands at its start.
+ghost use mathlib.Core.Path.{_≡_};
+ghost use Rattle.line.specs.Book.{outcomeNumber};
+ghost use Rattle.dispatcher.specs.State.{noTrain};
+ghost use Rattle.dispatcher.specs.Opening.{fresh, openedState, emptyState, openingOf, openingWith};
+use crate::state::State;
+use crate::state::Status;
+use crate::state::Train;
+use completion::TABLE_LENGTH;
+use journal::JOURNAL_LENGTH;
+use line::Line;
+use line::Outcome;
+use line::PostNo;
+use line::Route;
+use line::refusal::NO_WAY_THROUGH;
+use line::refusal::OVERFULL;
+use line::refusal::SHORT_STORE;
+
+// The state that a book opens with, and the number of the refusal, or 0.
+pub struct Opened {
+    pub state: State,
+    pub refusal: u8,
+}
+
+// The opening, with a journal of so many records: checks 2, those of the book, 19 and 20, in that
+// order. 20 needs the table, so that it alone leaves it filled.
+pub fn open_with(book: &[u8], table: &mut [u8], records: usize) -> Opened
+    ensures { λ r. ⌜ openingOf r (now (table .exit)) ≡ openingWith (now (book .entry)) (now (table .entry)) records ⌝ }
+{
+    if table.len() < TABLE_LENGTH {
+        return refused(SHORT_STORE);
+    }
+    if records < JOURNAL_LENGTH {
+        return refused(SHORT_STORE);
+    }
+    let reading = line::book::read(book);
+    let outcome = reading.outcome;
+    let Outcome::Read = outcome else {
+        return refused(number_of(outcome));
+    };
+    let line = reading.line;
+    if !completion::feasible_start(line) {
+        return refused(OVERFULL);
+    }
+    completion::fill(line, table);
+    let travelled = [0u8; 6];
+    let start = completion::code(travelled, line.trains);
+    if !completion::bit(table, start) {
+        return refused(NO_WAY_THROUGH);
+    }
+    let state = opened_state(line);
+    Opened { state, refusal: 0 }
+}
+
+// The number that a book is refused by; 0 of one that is read.
+fn number_of(outcome: Outcome) -> u8
+    ensures { λ r. ⌜ r ≡ outcomeNumber outcome ⌝ }
+{
+    match outcome {
+        Outcome::Read => 0,
+        Outcome::Refused(n) => n,
+    }
+}
+
+fn refused(number: u8) -> Opened
+    ensures { λ r. ⌜ (r .state ≡ emptyState) × (r .refusal ≡ number) ⌝ }
+{
+    let state = empty_state();
+    Opened {
+        state,
+        refusal: number,
+    }
+}
+
+// 01: "an empty state that is not sound (all 0 and Free".
+fn empty_state() -> State
+    ensures { λ r. ⌜ r ≡ emptyState ⌝ }
+{
+    let tracks = [0u8; 8];
+    let fleet = [no_train(); 6];
+    State {
+        posts: 0,
+        tracks,
+        trains: 0,
+        fleet,
+        logged: 0,
+    }
+}
+
+// 01: "every train Free at its start, count 0".
+fn opened_state(line: Line) -> State
+    ensures { λ r. ⌜ r ≡ openedState line ⌝ }
+{
+    let mut fleet = [no_train(); 6];
+    let mut t: usize = 0;
+    while t < 6 {
+        fleet[t] = fresh(line.routes[t]);
+        t += 1;
+    }
+    let tracks = line.tracks;
+    State {
+        posts: line.posts,
+        tracks,
+        trains: line.trains,
+        fleet,
+        logged: 0,
+    }
+}
+
+// A train at its start.
+fn fresh(route: Route) -> Train
+    ensures { λ r. ⌜ r ≡ fresh route ⌝ }
+{
+    let at = route.start;
+    Train {
+        route,
+        at,
+        status: Status::Free,
+    }
+}
+
+// What stands at the places past the trains.
+fn no_train() -> Train
+    ensures { λ r. ⌜ r ≡ noTrain ⌝ }
+{
+    fresh(Route {
+        start: PostNo(0),
+        end: PostNo(0),
+    })
+}

@@ -1,0 +1,48 @@
+-- The further examples, evaluated.
+-- Assumes nothing.
+use mathlib.Core.Path.{refl}
+use Rattle.common.specs.Below.{countBelow, allBelow}
+use Rattle.common.specs.Check.{refusal, unlessRefused}
+use Rattle.common.specs.Tabulate.{valuesFrom}
+use Rattle.line.specs.Line.{wellFormed}
+use Rattle.line.specs.Route.{between, nextPost}
+use Rattle.frame.specs.Frame.{readFrame, bytesOf}
+use Rattle.dispatcher.specs.Valid.{valid}
+use Rattle.dispatcher.specs.Answer.{answer}
+use Rattle.examples.specs.Reading.{opened, ranFrom, answersIn, seenIn}
+use Rattle.examples.specs.Further.{OlderThen, FullPost, Parked, SixTrains, BothHome, Precedence}
+
+pub older-then : OlderThen
+unfolding bytesOf opened ranFrom answersIn
+older-then = refl
+
+pub full-post : FullPost
+unfolding bytesOf opened ranFrom answersIn
+full-post = refl
+
+pub parked : Parked
+unfolding bytesOf opened ranFrom answersIn
+parked = record { passed = refl; blocks = refl; stays = refl }
+
+pub six-trains : SixTrains
+unfolding bytesOf opened ranFrom answersIn
+six-trains = refl
+
+pub both-home : BothHome
+unfolding bytesOf opened ranFrom seenIn
+both-home = (refl, refl)
+
+pub precedence : Precedence
+unfolding bytesOf opened ranFrom answer valid wellFormed between nextPost countBelow allBelow valuesFrom
+    refusal unlessRefused readFrame
+precedence = record {
+  fresh = refl;
+  later = refl;
+  full = refl;
+  room = refl;
+  strange = refl;
+  table = refl;
+  journal = refl;
+  out = refl;
+  torn = refl;
+}

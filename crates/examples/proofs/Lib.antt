@@ -1,0 +1,3 @@
+-- The examples, worked out.
+pub mod Examples
+pub mod Further

@@ -1,0 +1,85 @@
+-- How the examples are read: books are opened and frames put to the box with blank stores, and the answers are read
+-- from the out buffers. The `unfolding` lines say which definitions are worked out where these are evaluated.
+use mathlib.Core.List.{List, [], _∷_, map}
+use Prim.Native.Nat.{ℕ}
+use lib.ListN.{take, replicate}
+use Rattle.common.specs.Below.{countBelow, allBelow, anyBelow}
+use Rattle.common.specs.Bits.{setBelow}
+use Rattle.common.specs.Check.{refusal, unlessRefused}
+use Rattle.common.specs.Part.{replaced}
+use Rattle.common.specs.Tabulate.{valuesFrom, padded}
+use Rattle.common.specs.Update.{update}
+use Rattle.line.specs.Route.{nextPost, between, postAfter}
+use Rattle.line.specs.Line.{wellFormed}
+use Rattle.line.specs.Book.{lineOf}
+use Rattle.frame.specs.Frame.{moveOf, messageOf, readFrame, bytesOf}
+use Rattle.journal.specs.Journal.{journalLength, blank, recordOf}
+use Rattle.completion.specs.Configuration.{codeBelow, within, fits, arrived, feasible}
+use Rattle.completion.specs.Table.{tableLength, movesOn, completableBy, completableIn, tableOf}
+use Rattle.dispatcher.specs.Valid.{valid}
+use Rattle.dispatcher.specs.Granting.{grantable, oldest, grants}
+use Rattle.dispatcher.specs.Answer.{outLength, accepted, framesOf, answer}
+use Rattle.dispatcher.specs.Opening.{Opening, openingWith, opening}
+use Rattle.assurance.specs.Types.{Message, Fa, Fe, Afe, Am, Record, State, Verdict}
+use Rattle.assurance.specs.Run.{Input, Exchange, Ran, run}
+use Rattle.assurance.specs.Observer.{Seen, readFrames, answersOf, atOpening, hearAnswers, observe}
+
+-- ---- messages, by train, from and to
+
+abbrev pub fa : ℕ → ℕ → ℕ → Message
+fa t p q = Fa (moveOf t p q)
+
+abbrev pub fe : ℕ → ℕ → ℕ → Message
+fe t p q = Fe (moveOf t p q)
+
+abbrev pub afe : ℕ → ℕ → ℕ → Message
+afe t p q = Afe (moveOf t p q)
+
+abbrev pub am : ℕ → ℕ → ℕ → Message
+am t p q = Am (moveOf t p q)
+
+-- ---- openings
+
+-- the opening of a book with blank stores
+unfoldable pub opened : List ℕ → Opening
+unfolding openingWith refusal unlessRefused valuesFrom padded countBelow allBelow anyBelow setBelow postAfter
+    codeBelow within fits arrived feasible movesOn completableBy completableIn tableOf
+opened book = opening book (replicate tableLength 0) (replicate journalLength blank)
+
+-- the number by which a book is refused; 0 where it opens
+abbrev pub refusalOf : List ℕ → ℕ
+refusalOf book = opened book .number
+
+-- ---- runs
+
+-- a frame with an out buffer of 42 bytes
+abbrev pub input : List ℕ → Input
+input frame = record { frame = frame; out = replicate outLength 0 }
+
+-- frames put to a box in the state s, with a table and a blank journal
+unfoldable pub ranFrom : State → List ℕ → List (List ℕ) → Ran
+unfolding run answer refusal unlessRefused replaced accepted framesOf recordOf readFrame messageOf bytesOf valid
+    wellFormed between nextPost countBelow allBelow grantable oldest grants update codeBelow
+ranFrom s table frames = run table s (replicate journalLength blank) (map input frames)
+
+-- frames put to the box that a book opened, with the table that the opening filled
+abbrev pub ran : List ℕ → List (List ℕ) → Ran
+ran book frames = ranFrom (opened book .state) (opened book .table) frames
+
+-- the verdict on each frame
+abbrev pub verdictsOf : Ran → List Verdict
+verdictsOf r = map (λ e. e .verdict) (r .exchanges)
+
+-- the answers to each frame, read from its out buffer
+unfoldable pub answersIn : Ran → List (List Message)
+unfolding readFrames readFrame refusal unlessRefused messageOf
+answersIn r = map (λ e. answersOf (e .verdict) (e .out)) (r .exchanges)
+
+-- the records in the journal
+abbrev pub recordsIn : Ran → List Record
+recordsIn r = take (r .state .logged) (r .journal)
+
+-- what the observer has of train t
+unfoldable pub seenIn : List ℕ → Ran → ℕ → Seen
+unfolding padded valuesFrom observe hearAnswers update readFrames readFrame refusal unlessRefused messageOf
+seenIn book r t = observe (atOpening (lineOf book)) (r .exchanges) t
