@@ -1,9 +1,15 @@
 // The dispatcher's box: its state, who holds what, the granting, the answer to a frame and the
 // opening of a book.
+mod accepting;
+mod asking;
+mod checks;
 mod grantable;
+mod granting;
 mod holding;
 mod opening;
+mod sending;
 mod state;
+mod step;
 mod train;
 mod valid;
 
