@@ -5,3 +5,4 @@ pub mod Valid
 pub mod Granting
 pub mod Answer
 pub mod Opening
+pub mod Log

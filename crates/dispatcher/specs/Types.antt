@@ -14,3 +14,4 @@ pub use Rattle.dispatcher.specs.declared.state.State.{State}
 pub use Rattle.dispatcher.specs.declared.state.Verdict.{Verdict}
 pub use Rattle.dispatcher.specs.declared.state.Verdict.the-variants.{Sent, Refused as RefusedBy}
 pub use Rattle.dispatcher.specs.declared.opening.Opened.{Opened}
+pub use Rattle.dispatcher.specs.declared.log.Log.{Log}

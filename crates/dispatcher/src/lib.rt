@@ -2,11 +2,14 @@
 // opening of a book.
 mod grantable;
 mod holding;
+mod log;
 mod opening;
 mod state;
 mod train;
 mod valid;
 
+pub use log::Log;
+pub use log::blank_log;
 pub use opening::Opened;
 pub use opening::open_with;
 pub use state::State;
