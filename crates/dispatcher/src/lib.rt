@@ -11,6 +11,8 @@ mod valid;
 pub use log::Log;
 pub use log::blank_log;
 pub use opening::Opened;
+pub use opening::open;
+pub use opening::open_log;
 pub use opening::open_with;
 pub use state::State;
 pub use state::Status;
