@@ -6,3 +6,4 @@ pub mod Granting
 pub mod Answer
 pub mod Opening
 pub mod Step
+pub mod Log
