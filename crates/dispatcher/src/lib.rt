@@ -15,6 +15,8 @@ mod train;
 mod valid;
 
 pub use log::Log;
+pub use log::Turn;
+pub use log::answer_log;
 pub use log::blank_log;
 pub use opening::Opened;
 pub use opening::open;
