@@ -64,6 +64,16 @@ not-given n (c ∷ cs) h k e = by-cases (c .passes)
     let passes : c .passes ≡ true = rw (eq-eqb (c .number) n same) at own in
     clash (c .passes) passes p)
 
+-- ---- the first check, and the others
+
+pub check-passes : (c : Check) (cs : List Check) → c .passes ≡ true → refusal (c ∷ cs) ≡ refusal cs
+unfolding refusal
+check-passes c cs e = rw e
+
+pub check-fails : (c : Check) (cs : List Check) → c .passes ≡ false → refusal (c ∷ cs) ≡ c .number
+unfolding refusal
+check-fails c cs e = rw e
+
 -- ---- checks in two parts
 
 pub second-part : (cs ds : List Check) → numbered cs ≡ true → refusal cs ≡ 0 → refusal (cs ++ ds) ≡ refusal ds

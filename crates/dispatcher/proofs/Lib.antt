@@ -9,7 +9,13 @@ pub mod GrantTest
 pub mod Oldest
 pub mod Grants
 pub mod Settling
+pub mod Askers
+pub mod Working
 pub mod Acceptance
 pub mod Frames
+pub mod Refusals
+pub mod Sent
+pub mod Batched
+pub mod Stepping
 pub mod Taking
 pub mod OpeningCases

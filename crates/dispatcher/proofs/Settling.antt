@@ -86,7 +86,7 @@ pub record Roomy (w : Work) : Type 0 where
   pub valid-state : Valid (w .state)
   pub room : w .state .logged + askedCount (w .state) ≤ journalLength
 
-roomy-next : (table : List ℕ) (w : Work) (t : ℕ) → Roomy w → Turn table w t → Roomy (granted w t)
+pub roomy-next : (table : List ℕ) (w : Work) (t : ℕ) → Roomy w → Turn table w t → Roomy (granted w t)
 roomy-next table w t k f =
     let less = granted-fewer table w t f in
     let room = k .room in

@@ -10,7 +10,7 @@ use Rattle.line.specs.Refusal.{strangeState, shortStore, wrongEnd, unknownTrain
 use Rattle.frame.specs.Frame.{moveOf, readChecks, readFrame, bytesOf}
 use Rattle.journal.specs.Journal.{journalLength, recordOf}
 use Rattle.completion.specs.Table.{tableLength}
-use Rattle.dispatcher.specs.Types.{Move, Message, Fa, Fe, Afe, Am, Refused, Record, Asked, Train, State, Verdict, Sent, RefusedBy}
+use Rattle.dispatcher.specs.Types.{Move, Message, Fa, Fe, Afe, Am, Refused, Record, Status, Asked, Train, State, Verdict, Sent, RefusedBy}
 use Rattle.dispatcher.specs.State.{isAsked, isRunning, atEnd, nextOf, trainOf, withStatus, arrivedNext, withTrain}
 use Rattle.dispatcher.specs.Valid.{valid}
 use Rattle.dispatcher.specs.Granting.{Work, log, settled}
@@ -45,25 +45,34 @@ moveIn (Afe m) = m
 moveIn (Am m) = m
 moveIn (Refused n) = moveOf 0 0 0
 
+-- "then 10 or 11 for FA, 12 for AM"
+abbrev pub statusChecks : Bool → Bool → Status → List Check
+statusChecks asks arrives w =
+    check alreadyAsked (not (asks && isAsked w))
+    ∷ check underAuthority (not (asks && isRunning w))
+    ∷ check noAuthority (not arrives || isRunning w)
+    ∷ []
+
+-- "7, 8 (at its end), 9", then those, "then 13": of the move that an FA `asks` for, or an AM `arrives` by
+abbrev pub moveChecks : State → Bool → Bool → Move → List Check
+moveChecks s asks arrives m =
+    let x = trainOf s (m .train .0) in
+    check unknownTrain (ltb (m .train .0) (s .trains))
+    ∷ check trainAtEnd (not (atEnd x))
+    ∷ check wrongPost (eqb (m .from .0) (x .at .0) && eqb (m .to .0) (nextOf x))
+    ∷ statusChecks asks arrives (x .status)
+    ++ (check journalFull (leb (s .logged + mostLogged) journalLength) ∷ [])
+
 -- "Checks in order: 1, 2, 3, 4, 5, 6, 7, 8 (at its end), 9, then 10 or 11 for FA, 12 for AM, then 13."
 -- Of the table, the journal and the out buffer only the sizes are looked at.
 abbrev pub frameChecks : State → ℕ → ℕ → List ℕ → ℕ → List Check
 frameChecks s table records frame room =
     let a = readFrame frame in
-    let m = moveIn a in
-    let x = trainOf s (m .train .0) in
     check strangeState (valid s)
     ∷ check shortStore (leb tableLength table && (leb journalLength records && leb outLength room))
     ∷ readChecks frame
     ++ (check wrongEnd (isFa a || isAm a)
-    ∷ check unknownTrain (ltb (m .train .0) (s .trains))
-    ∷ check trainAtEnd (not (atEnd x))
-    ∷ check wrongPost (eqb (m .from .0) (x .at .0) && eqb (m .to .0) (nextOf x))
-    ∷ check alreadyAsked (not (isFa a && isAsked (x .status)))
-    ∷ check underAuthority (not (isFa a && isRunning (x .status)))
-    ∷ check noAuthority (not (isAm a) || isRunning (x .status))
-    ∷ check journalFull (leb (s .logged + mostLogged) journalLength)
-    ∷ [])
+    ∷ moveChecks s (isFa a) (isAm a) (moveIn a))
 
 -- ---- an accepted frame
 

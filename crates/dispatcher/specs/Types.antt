@@ -7,10 +7,17 @@ pub use Rattle.frame.specs.declared.message.Move.{Move}
 pub use Rattle.frame.specs.declared.message.Message.{Message}
 pub use Rattle.frame.specs.declared.message.Message.the-variants.{Fa, Fe, Afe, Am, Refused}
 pub use Rattle.journal.specs.declared.record.Record.{Record}
+pub use Rattle.journal.specs.declared.batch.Batch.{Batch}
 pub use Rattle.dispatcher.specs.declared.state.Status.{Status}
 pub use Rattle.dispatcher.specs.declared.state.Status.the-variants.{Free, Asked, Running}
 pub use Rattle.dispatcher.specs.declared.state.Train.{Train}
 pub use Rattle.dispatcher.specs.declared.state.State.{State}
 pub use Rattle.dispatcher.specs.declared.state.Verdict.{Verdict}
 pub use Rattle.dispatcher.specs.declared.state.Verdict.the-variants.{Sent, Refused as RefusedBy}
+pub use Rattle.dispatcher.specs.declared.asking.Asker.{Asker}
+pub use Rattle.dispatcher.specs.declared.asking.Asker.the-variants.{Of, Nobody}
+pub use Rattle.dispatcher.specs.declared.granting.Progress.{Progress}
+pub use Rattle.dispatcher.specs.declared.step.Outcome.{Outcome}
 pub use Rattle.dispatcher.specs.declared.opening.Opened.{Opened}
+pub use Rattle.dispatcher.specs.declared.log.Log.{Log}
+pub use Rattle.dispatcher.specs.declared.log.Turn.{Turn}

@@ -1,13 +1,26 @@
 // The dispatcher's box: its state, who holds what, the granting, the answer to a frame and the
 // opening of a book.
+mod accepting;
+mod asking;
+mod checks;
 mod grantable;
+mod granting;
 mod holding;
+mod log;
 mod opening;
+mod sending;
 mod state;
+mod step;
 mod train;
 mod valid;
 
+pub use log::Log;
+pub use log::Turn;
+pub use log::answer_log;
+pub use log::blank_log;
 pub use opening::Opened;
+pub use opening::open;
+pub use opening::open_log;
 pub use opening::open_with;
 pub use state::State;
 pub use state::Status;

@@ -1,6 +1,7 @@
--- What a frame reads as tells how the checks of reading went: what reads as a message passed them, and a refusal has the number of the first that failed.
+-- What a frame reads as tells how the checks of reading went: what reads as a message passed them, and a refusal has
+-- the number of the first that failed.
 -- Assumes nothing.
-use mathlib.Core.Path.{_≡_, refl, sym, _∙_}
+use mathlib.Core.Path.{_≡_, refl, _∙_}
 use mathlib.Core.Bool.{true}
 use mathlib.Core.List.{List}
 use Prim.Native.Nat.{ℕ, zero, suc, _<_}
@@ -12,14 +13,15 @@ use Rattle.common.specs.Check.{refusal, unlessRefused}
 use Rattle.common.proofs.Tests.{by-equality, and-left, and-right}
 use Rattle.common.proofs.Check.{passed-at, accepted-if}
 use Rattle.line.specs.Line.{inRange}
-use Rattle.frame.specs.Types.{Move, Message, Refused}
+use Rattle.frame.specs.Types.{Move, Refused}
 use Rattle.frame.specs.Frame.{readChecks, messageOf, readFrame}
 use Rattle.frame.specs.RoundTrip.{IsMessage}
 use Rattle.frame.proofs.Cases.{namedMove}
 
 pub read-passed : (s : List ℕ) → IsMessage (readFrame s) → refusal (readChecks s) ≡ 0
 unfolding readFrame IsMessage
-read-passed s h = accepted-if IsMessage (refusal (readChecks s)) (messageOf (getD s 3 0) (namedMove s)) Refused (λ k z. z) h .0
+read-passed s h =
+    accepted-if IsMessage (refusal (readChecks s)) (messageOf (getD s 3 0) (namedMove s)) Refused (λ k z. z) h .0
 
 known-message : (k : ℕ) (m : Move) → inRange 1 4 k ≡ true → IsMessage (messageOf k m)
 unfolding messageOf IsMessage
@@ -36,7 +38,7 @@ pub read-refused : (s : List ℕ) (n : ℕ) → readFrame s ≡ Refused n → (0
 unfolding readFrame unlessRefused IsMessage
 read-refused s n = at (refusal (readChecks s)) refl
   where
-    at : (k : ℕ) → refusal (readChecks s) ≡ k → unlessRefused k (messageOf (getD s 3 0) (namedMove s)) Refused ≡ Refused n
-        → (0 < n) × (refusal (readChecks s) ≡ n)
+    at : (k : ℕ) → refusal (readChecks s) ≡ k
+        → unlessRefused k (messageOf (getD s 3 0) (namedMove s)) Refused ≡ Refused n → (0 < n) × (refusal (readChecks s) ≡ n)
     at zero r e = absurd (rw e at (known-message (getD s 3 0) (namedMove s) (passed-at (readChecks s) refl r 2)))
     at (suc k) r e = let z : suc k ≡ n = cc in (rw (← z) (omega arith), r ∙ z)

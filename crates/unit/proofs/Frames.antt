@@ -55,7 +55,8 @@ module _ (u : Unit) (f : List ℕ) where
 
       module _ (own : forUnit x ≡ true) where
         pub unawaited : awaited u x ≡ false → answered u notAwaited ≡ hearFrame u f
-        unawaited h = refused (omega arith) (after-reading (pass (ap forUnit reads ∙ own) (stop (ap (awaited u) reads ∙ h))))
+        unawaited h =
+            refused (omega arith) (after-reading (pass (ap forUnit reads ∙ own) (stop (ap (awaited u) reads ∙ h))))
 
         pub taken : (p : Phase) → awaited u x ≡ true → phaseAfter u x ≡ p → answered (inPhase u p) 0 ≡ hearFrame u f
         unfolding hearFrame

@@ -1,5 +1,5 @@
--- The history of a unit is orderly: `specs/History.antt`, proved. `Tied` is the invariant: what the events so far say of
--- the unit's phase and post. Each input keeps it, and finds the events so far as the claim wants them (`Due`).
+-- The history of a unit is orderly: `specs/History.antt`, proved. `Tied` is the invariant: what the events so far say
+-- of the unit's phase and post. Each input keeps it, and finds the events so far as the claim wants them (`Due`).
 -- Assumes nothing.
 use mathlib.Core.Path.{_≡_, refl, sym, ap, subst, subst⁻¹, _∙_}
 use mathlib.Core.Logic.{_≢_}
@@ -12,7 +12,8 @@ use Rattle.frame.specs.Frame.{readFrame, bytesOf}
 use Rattle.frame.specs.RoundTrip.{IsMessage}
 use Rattle.frame.proofs.RoundTrip.{round-trip}
 use Rattle.unit.specs.Types.{Move, Message, Fa, Fe, Afe, Am, Unit, Pressed, Heard}
-use Rattle.unit.specs.Types.{Phase, Standing, Asked, Declined, Granted, UnderWay, Arrived, Button, Ask, Depart, Reached, Report}
+use Rattle.unit.specs.Types.{Phase, Standing, Asked, Declined, Granted, UnderWay, Arrived}
+use Rattle.unit.specs.Types.{Button, Ask, Depart, Reached, Report}
 use Rattle.unit.specs.State.{ownMove, inPhase, validUnit}
 use Rattle.unit.specs.Making.{makeUnit}
 use Rattle.unit.specs.Pressing.{phaseFor, carriedOut, movedOn}
@@ -104,11 +105,13 @@ module _ (t a e : ℕ) where
     carried-out Depart h short =
         let good = carried-out-valid u (k .good) Depart short in
         let granted = authorised-kept t past nothing (told-as Granted h) in
-        with-event (inPhase u UnderWay) (says-heard (press Depart) 0) (record {}) (in-phase other UnderWay good (λ n. refl) granted)
+        with-event (inPhase u UnderWay) (says-heard (press Depart) 0) (record {})
+        (in-phase other UnderWay good (λ n. refl) granted)
     carried-out Reached h short =
         let good = carried-out-valid u (k .good) Reached short in
         let granted = authorised-kept t past nothing (told-as UnderWay h) in
-        with-event (inPhase u Arrived) (says-heard (press Reached) 0) (record {}) (in-phase other Arrived good (λ n. refl) granted)
+        with-event (inPhase u Arrived) (says-heard (press Reached) 0) (record {})
+        (in-phase other Arrived good (λ n. refl) granted)
     carried-out Report h short =
         let standing : Tied (movedOn u) (with past (am (ownMove u))) = record {
           good = carried-out-valid u (k .good) Report short;

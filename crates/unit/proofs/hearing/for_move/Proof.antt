@@ -25,7 +25,8 @@ module _ (c : tie.After-struct-known4) where
 returns-2 : tie.Need-returns-2
 returns-2 c =
     let k = c .before .before .before in
-    and-passed _ _ (eq-eqb _ _ (c .before .before .if2 .taken)) ∙ own-train _ _ _ (own k .own-move .ensures) (passed k .if1 .left)
+    and-passed _ _ (eq-eqb _ _ (c .before .before .if2 .taken))
+    ∙ own-train _ _ _ (own k .own-move .ensures) (passed k .if1 .left)
 
 returns-3 : tie.Need-returns-3
 returns-3 c =

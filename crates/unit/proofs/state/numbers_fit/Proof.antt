@@ -11,7 +11,8 @@ returns : tie.Need-returns
 returns c = train-above _ _ _ (c .if1 .taken)
 
 returns-2 : tie.Need-returns-2
-returns-2 c = and-passed _ _ (le-leb _ _ (c .before .if2 .taken)) ∙ train-fits _ _ _ (c .before .before .before .if1 .left)
+returns-2 c =
+    and-passed _ _ (le-leb _ _ (c .before .if2 .taken)) ∙ train-fits _ _ _ (c .before .before .before .if1 .left)
 
 returns-3 : tie.Need-returns-3
 returns-3 c = and-failed _ _ (lt-leb _ _ (c .if2 .left)) ∙ train-fits _ _ _ (c .before .before .if1 .left)

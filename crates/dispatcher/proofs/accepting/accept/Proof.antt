@@ -1,0 +1,83 @@
+-- `accept` meets its contract: each arm has what the definition says of its message.
+-- Assumes nothing.
+use mathlib.Core.Path.{_≡_, sym, ap, subst, _∙_}
+use denote.Ref.{now}
+use borrow.Author.Needs.{needs}
+use Rattle.dispatcher.specs.Types.{Message}
+use Rattle.dispatcher.specs.Answer.{accepted}
+use Rattle.dispatcher.specs.Step.{progressOf, Acceptable}
+use Rattle.dispatcher.proofs.accepting.accept.Statement.{statement}
+use Rattle.dispatcher.proofs.accepting.accept.Tie as tie
+
+enum-known-message : tie.Need-enum-known-message
+enum-known-message c = search needs
+
+request-requires : tie.Need-request-requires
+request-requires c κs = let start = c .before .before .before .before in subst (λ (a : Message). Acceptable (start .args .state) a) (c .before .message .given .1) (start .pre)
+
+enum-told : tie.Need-enum-told
+enum-told c = search needs
+
+untouched-requires : tie.Need-untouched-requires
+untouched-requires c κs = search needs
+
+enum-told-2 : tie.Need-enum-told-2
+enum-told-2 c = search needs
+
+untouched-requires-2 : tie.Need-untouched-requires-2
+untouched-requires-2 c κs = search needs
+
+enum-known-message-2 : tie.Need-enum-known-message-2
+enum-known-message-2 c = search needs
+
+arrival-requires : tie.Need-arrival-requires
+arrival-requires c κs = let start = c .before .before .before .before in subst (λ (a : Message). Acceptable (start .args .state) a) (c .before .message2 .given .1) (start .pre)
+
+enum-told-3 : tie.Need-enum-told-3
+enum-told-3 c = search needs
+
+untouched-requires-3 : tie.Need-untouched-requires-3
+untouched-requires-3 c κs = search needs
+
+-- what holds of the message that was told holds of the one that was handed in
+module _ (start : tie.Start) where
+  same : {a b : Message} → a ≡ b → progressOf (accepted (now (start .args .table)) (start .args .state) b) ≡ progressOf (accepted (now (start .args .table)) (start .args .state) a)
+  same e = ap (λ (a : Message). progressOf (accepted (now (start .args .table)) (start .args .state) a)) (sym e)
+
+returns : tie.Need-returns
+returns c = c .request .ensures ∙ same (c .before .before .before .before .before) (c .before .before .message .given .1)
+
+returns-2 : tie.Need-returns-2
+unfolding accepted
+returns-2 c = c .untouched .ensures ∙ same (c .before .before .before .before) (c .before .enum-told .given .1)
+
+returns-3 : tie.Need-returns-3
+unfolding accepted
+returns-3 c = c .untouched2 .ensures ∙ same (c .before .before .before .before) (c .before .enum-told2 .given .1)
+
+returns-4 : tie.Need-returns-4
+returns-4 c = c .arrival .ensures ∙ same (c .before .before .before .before .before) (c .before .before .message2 .given .1)
+
+returns-5 : tie.Need-returns-5
+unfolding accepted
+returns-5 c = c .untouched3 .ensures ∙ same (c .before .before .before .before) (c .before .enum-told3 .given .1)
+
+pub accept-spec : {M : Type 1} → statement M
+accept-spec =
+    tie.close
+    (tie.spec
+    enum-known-message
+    request-requires
+    enum-told
+    untouched-requires
+    enum-told-2
+    untouched-requires-2
+    enum-known-message-2
+    arrival-requires
+    enum-told-3
+    untouched-requires-3
+    returns
+    returns-2
+    returns-3
+    returns-4
+    returns-5)

@@ -1,0 +1,42 @@
+-- `decline` meets its contract: the asker is still Asked, or it was granted.
+-- Assumes nothing.
+use mathlib.Core.Path.{_≡_, sym, ap, _∙_}
+use borrow.Author.Needs.{needs}
+use Rattle.dispatcher.specs.Types.{Status}
+use Rattle.dispatcher.specs.State.{isAsked, trainOf}
+use Rattle.dispatcher.proofs.Working.{declined-asker, granted-asker}
+use Rattle.dispatcher.proofs.accepting.decline.Statement.{statement}
+use Rattle.dispatcher.proofs.accepting.decline.Tie as tie
+
+status-of-requires : tie.Need-status-of-requires
+status-of-requires c κs = search needs
+
+is-asked-requires : tie.Need-is-asked-requires
+is-asked-requires c κs = search needs
+
+logged-requires : tie.Need-logged-requires
+logged-requires c κs = search needs
+
+-- the test of the asker's status
+module _ (c : tie.After-is-asked) where
+  abbrev start : tie.Start
+  start = c .before .before .before .before
+
+  tested : isAsked (trainOf (start .args .work .state) (start .args .m .train .0) .status) ≡ c .is-asked .result
+  tested = ap (λ (w : Status). isAsked w) (sym (c .before .status-of .ensures)) ∙ sym (c .is-asked .ensures)
+
+returns : tie.Need-returns
+returns c = λ w held. c .logged .ensures ∙ declined-asker _ w _ held (tested (c .before .before) ∙ c .before .if1 .taken)
+
+returns-2 : tie.Need-returns-2
+returns-2 c = λ w held. granted-asker _ w _ held (tested (c .before) ∙ c .if1 .left)
+
+pub decline-spec : {M : Type 1} → statement M
+decline-spec =
+    tie.close
+    (tie.spec
+    status-of-requires
+    is-asked-requires
+    logged-requires
+    returns
+    returns-2)

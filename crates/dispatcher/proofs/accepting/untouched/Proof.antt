@@ -1,0 +1,20 @@
+-- `untouched` meets its contract.
+-- Assumes nothing.
+use borrow.Author.Needs.{needs}
+use Rattle.dispatcher.specs.Step.{addRecords}
+use Rattle.dispatcher.proofs.accepting.untouched.Statement.{statement}
+use Rattle.dispatcher.proofs.accepting.untouched.Tie as tie
+
+empty-requires : tie.Need-empty-requires
+empty-requires c κs = search needs
+
+returns : tie.Need-returns
+unfolding addRecords
+returns c = rw (c .empty .ensures)
+
+pub untouched-spec : {M : Type 1} → statement M
+untouched-spec =
+    tie.close
+    (tie.spec
+    empty-requires
+    returns)

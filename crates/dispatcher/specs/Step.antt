@@ -1,0 +1,95 @@
+-- Words of the functions below the entry points: what they hold by value where the definitions have lists, and what they ask of a state. Nothing
+-- above the entry points cites them.
+use mathlib.Core.Path.{_≡_}
+use mathlib.Core.Bool.{Bool, true, false, cond}
+use mathlib.Core.List.{List, [], _∷_, _++_}
+use Prim.Native.Nat.{ℕ, _+_, _-_, _≤_, _<_}
+use lib.Dec.{ltb}
+use lib.ListN.{length, take, drop}
+use Rattle.common.specs.Check.{refusal}
+use Rattle.common.specs.Part.{replaced}
+use Rattle.line.specs.Refusal.{wrongEnd}
+use Rattle.journal.specs.Journal.{journalLength, frameOf, recordOf, emptyBatch, withRecord, appended}
+use Rattle.dispatcher.specs.Types.{TrainNo, Message, Fa, Fe, Afe, Am, Refused, Record, Batch, Status, Free, Asked, Running, Train, State, Asker, Of, Nobody, Progress, Outcome}
+use Rattle.dispatcher.specs.State.{trainOf, withStatus, arrivedNext, oneLogged}
+use Rattle.dispatcher.specs.Valid.{valid}
+use Rattle.dispatcher.specs.Granting.{Work}
+use Rattle.dispatcher.specs.Answer.{mostLogged, moveIn, moveChecks, taken, Answer, answer}
+
+-- ---- the Asked trains in the order of their requests
+
+-- the lower of two numbers, with its train
+abbrev pub lower : TrainNo → ℕ → Asker → Asker
+lower t n (Of u m) = cond (ltb n m) (Of t n) (Of u m)
+lower t n Nobody = Of t n
+
+-- the best so far, or train t, if its request has a lower number that is not below `from`
+abbrev pub elder : Asker → TrainNo → Status → ℕ → Asker
+elder best t Free from = best
+elder best t (Asked n) from = cond (ltb n from) best (lower t n best)
+elder best t Running from = best
+
+-- of the first n trains, the one whose request has the lowest number from `from` on
+pub data NextAsked (s : State) (from n : ℕ) : Asker → Type 0 where
+  nobody : ((u : ℕ) → u < n → (m : ℕ) → trainOf s u .status ≡ Asked m → m < from) → NextAsked s from n Nobody
+  next : (t : TrainNo) (k : ℕ) → t .0 < n → trainOf s (t .0) .status ≡ Asked k → from ≤ k
+      → ((u : ℕ) → u < n → (m : ℕ) → trainOf s u .status ≡ Asked m → from ≤ m → k ≤ m) → NextAsked s from n (Of t k)
+
+-- ---- the work on one frame
+
+-- the records of some messages, added to a batch one by one
+unfoldable pub addRecords : Batch → List Message → Batch
+addRecords b [] = b
+addRecords b (a ∷ l) = addRecords (withRecord b (recordOf a)) l
+
+abbrev pub batchOf : List Message → Batch
+batchOf l = addRecords emptyBatch l
+
+abbrev pub progressOf : Work → Progress
+progressOf w = record { state = w .state; batch = batchOf (w .logged) }
+
+-- a message more is logged: `log` of the work
+abbrev pub progressWith : State → Batch → Message → Progress
+progressWith s b a = record { state = oneLogged s; batch = withRecord b (recordOf a) }
+
+-- ---- a frame
+
+-- the number by which a frame that reads so is refused: reading's own, 6, or that of its move
+abbrev pub messageRefusal : State → Message → ℕ
+messageRefusal s (Fa m) = refusal (moveChecks s true false m)
+messageRefusal s (Am m) = refusal (moveChecks s false true m)
+messageRefusal s (Fe m) = wrongEnd
+messageRefusal s (Afe m) = wrongEnd
+messageRefusal s (Refused n) = n
+
+-- what the frame a and the new record x of its train must meet for the granting
+abbrev pub Ready : State → Message → Train → Type 0
+Ready s a x = (moveIn a .train .0 < s .trains) × (s .logged + mostLogged ≤ journalLength) × (valid (taken s a x .state) ≡ true)
+
+abbrev pub Acceptable : State → Message → Type 0
+Acceptable s (Fa m) = Ready s (Fa m) (withStatus (trainOf s (m .train .0)) (Asked (s .logged)))
+Acceptable s (Am m) = Ready s (Am m) (arrivedNext (trainOf s (m .train .0)))
+Acceptable s (Fe m) = Unit {0}
+Acceptable s (Afe m) = Unit {0}
+Acceptable s (Refused n) = Unit {0}
+
+-- ---- the answers' frames
+
+-- the frames of some records, one after the other
+unfoldable pub framesIn : List Record → List ℕ
+framesIn [] = []
+framesIn (r ∷ l) = frameOf r ++ framesIn l
+
+-- of the first n items the answers: all but the first, which is the frame's own
+abbrev pub answersIn : List Record → ℕ → List Record
+answersIn items n = take (n - 1) (drop 1 items)
+
+-- ---- the outcome
+
+-- the outcome of a frame, with the records of its batch written
+abbrev pub answerBy : Outcome → List Record → List ℕ → Answer
+answerBy o journal out = record { state = o .state; verdict = o .verdict; journal = appended journal (o .at) (o .batch); out = out }
+
+-- o, and the out buffer afterwards, are the answer with every journal of so many records
+pub record Stepped (s : State) (table : List ℕ) (records : ℕ) (frame out : List ℕ) (o : Outcome) (after : List ℕ) : Type 0 where
+  pub answers : (journal : List Record) → length journal ≡ records → answer s table journal frame out ≡ answerBy o journal after

@@ -1,0 +1,77 @@
+// What an accepted frame does.
+ghost use mathlib.Core.Path.{_≡_};
+ghost use mathlib.Core.List.{[]};
+ghost use Prim.Native.Nat.{_≤_, _<_};
+ghost use Rattle.journal.specs.Journal.{journalLength};
+ghost use Rattle.dispatcher.specs.Types.{Fa, Am, Asked};
+ghost use Rattle.dispatcher.specs.State.{trainOf, withStatus, arrivedNext};
+ghost use Rattle.dispatcher.specs.Granting.{Work};
+ghost use Rattle.dispatcher.specs.Answer.{accepted, declined};
+ghost use Rattle.dispatcher.specs.Step.{progressOf, Ready, Acceptable};
+use crate::granting::Progress;
+use crate::granting::logged;
+use crate::granting::settle;
+use crate::state::State;
+use crate::state::Status;
+use crate::state::status_of;
+use crate::state::train_of;
+use crate::state::with_train;
+use crate::train::arrived;
+use crate::train::is_asked;
+use crate::train::with_status;
+use frame::Message;
+use frame::Move;
+
+// The frame is logged and answered. What is neither an FA nor an AM is not accepted.
+pub fn accept(state: State, table: &[u8], message: Message) -> Progress
+    requires { ⌜ Acceptable state message ⌝ }
+    ensures { λ r. ⌜ r ≡ progressOf (accepted (now (table .entry)) state message) ⌝ }
+{
+    match message {
+        Message::Fa(m) => request(state, table, m),
+        Message::Fe(_) => untouched(state),
+        Message::Afe(_) => untouched(state),
+        Message::Am(m) => arrival(state, table, m),
+        Message::Refused(_) => untouched(state),
+    }
+}
+
+// 01: "FA: the train becomes Asked. Then the oldest Asked train .. that can be granted becomes
+// Running .. If the asker was not granted, its AFE comes last."
+fn request(state: State, table: &[u8], m: Move) -> Progress
+    requires { ⌜ Ready state (Fa m) (withStatus (trainOf state (m .train .0)) (Asked (state .logged))) ⌝ }
+    ensures { λ r. ⌜ r ≡ progressOf (accepted (now (table .entry)) state (Fa m)) ⌝ }
+{
+    let asked = with_status(train_of(state, m.train), Status::Asked(state.logged));
+    let work = settle(with_train(state, m.train, asked), table, Message::Fa(m));
+    decline(work, m)
+}
+
+// 01: "AM: the train becomes Free at the post it ran to. Then the same granting."
+fn arrival(state: State, table: &[u8], m: Move) -> Progress
+    requires { ⌜ Ready state (Am m) (arrivedNext (trainOf state (m .train .0))) ⌝ }
+    ensures { λ r. ⌜ r ≡ progressOf (accepted (now (table .entry)) state (Am m)) ⌝ }
+{
+    let free = arrived(train_of(state, m.train));
+    settle(with_train(state, m.train, free), table, Message::Am(m))
+}
+
+// If the asker was not granted, its AFE is logged.
+fn decline(work: Progress, m: Move) -> Progress
+    requires { ⌜ (m .train .0 < 6) × (work .state .logged ≤ journalLength) ⌝ }
+    ensures { λ r. ⌜ ((w : Work) → work ≡ progressOf w → r ≡ progressOf (declined m w)) ⌝ }
+{
+    let state = work.state;
+    let batch = work.batch;
+    if is_asked(status_of(state, m.train)) {
+        return logged(state, batch, Message::Afe(m));
+    }
+    work
+}
+
+fn untouched(state: State) -> Progress
+    ensures { λ r. ⌜ r ≡ progressOf (record { state = state; logged = [] }) ⌝ }
+{
+    let batch = journal::empty();
+    Progress { state, batch }
+}

@@ -1,0 +1,116 @@
+// Whether a frame is refused, and by which number. 01: "Checks in order: 1, 2, 3, 4, 5, 6, 7, 8 (at
+// its end), 9, then 10 or 11 for FA, 12 for AM, then 13."
+ghost use mathlib.Core.Path.{_≡_};
+ghost use mathlib.Core.Bool.{not, _&&_};
+ghost use Prim.Native.Nat.{_≤_};
+ghost use lib.Dec.{leb};
+ghost use Rattle.common.specs.Check.{refusal};
+ghost use Rattle.journal.specs.Journal.{journalLength};
+ghost use Rattle.completion.specs.Table.{tableLength};
+ghost use Rattle.dispatcher.specs.Answer.{outLength, statusChecks, moveChecks, frameChecks};
+ghost use Rattle.dispatcher.specs.Step.{messageRefusal};
+use crate::state::State;
+use crate::state::Status;
+use crate::state::train_of;
+use crate::train::at_end;
+use crate::train::next_post;
+use crate::valid::valid;
+use completion::TABLE_LENGTH;
+use frame::Message;
+use frame::Move;
+use journal::BATCH_LENGTH;
+use journal::JOURNAL_LENGTH;
+use line::refusal;
+
+// At most six frames go out.
+pub const OUT_LENGTH: usize = 42;
+
+// The number by which a frame is refused, and 0 where it is accepted. Of the table, the journal and
+// the out buffer only the lengths are looked at.
+pub fn refusal_of(state: State, table: usize, records: usize, frame: &[u8], room: usize) -> u8
+    ensures { λ r. ⌜ r ≡ refusal (frameChecks state table records (now (frame .entry)) room) ⌝ }
+{
+    if !valid(state) {
+        return refusal::STRANGE_STATE;
+    }
+    if !long_enough(table, records, room) {
+        return refusal::SHORT_STORE;
+    }
+    message_refusal(state, frame::read(frame))
+}
+
+fn long_enough(table: usize, records: usize, room: usize) -> bool
+    ensures { λ r. ⌜ r ≡ leb tableLength table && (leb journalLength records && leb outLength room) ⌝ }
+{
+    if table < TABLE_LENGTH {
+        return false;
+    }
+    JOURNAL_LENGTH <= records && OUT_LENGTH <= room
+}
+
+fn message_refusal(state: State, message: Message) -> u8
+    requires { ⌜ state .trains ≤ 6 ⌝ }
+    ensures { λ r. ⌜ r ≡ messageRefusal state message ⌝ }
+{
+    match message {
+        Message::Fa(m) => move_refusal(state, true, m),
+        Message::Fe(_) => refusal::WRONG_END,
+        Message::Afe(_) => refusal::WRONG_END,
+        Message::Am(m) => move_refusal(state, false, m),
+        Message::Refused(n) => n,
+    }
+}
+
+// The checks of the move that an FA asks for, or an AM reports the arrival of.
+fn move_refusal(state: State, asks: bool, m: Move) -> u8
+    requires { ⌜ state .trains ≤ 6 ⌝ }
+    ensures { λ r. ⌜ r ≡ refusal (moveChecks state asks (not asks) m) ⌝ }
+{
+    if state.trains <= m.train.0 {
+        return refusal::UNKNOWN_TRAIN;
+    }
+    let train = train_of(state, m.train);
+    if at_end(train) {
+        return refusal::AT_END;
+    }
+    if m.from.0 != train.at.0 {
+        return refusal::WRONG_POST;
+    }
+    if m.to.0 != next_post(train).0 {
+        return refusal::WRONG_POST;
+    }
+    let status = train.status;
+    let number = status_refusal(asks, status);
+    if number != 0 {
+        return number;
+    }
+    if JOURNAL_LENGTH < state.logged as usize + BATCH_LENGTH {
+        return refusal::JOURNAL_FULL;
+    }
+    0
+}
+
+fn status_refusal(asks: bool, status: Status) -> u8
+    ensures { λ r. ⌜ r ≡ refusal (statusChecks asks (not asks) status) ⌝ }
+{
+    match status {
+        Status::Free => {
+            if asks {
+                return 0;
+            }
+            refusal::NO_AUTHORITY
+        }
+        Status::Asked(_) => {
+            if asks {
+                return refusal::ALREADY_ASKED;
+            }
+            refusal::NO_AUTHORITY
+        }
+        Status::Running => {
+            if asks {
+                return refusal::UNDER_AUTHORITY;
+            }
+            0
+        }
+    }
+}

@@ -1,0 +1,34 @@
+// The frames of the answers, written to the out buffer. Each is the frame of a record that was
+// logged.
+ghost use mathlib.Core.Path.{_≡_};
+ghost use Prim.Native.Nat.{_-_, _≤_};
+ghost use lib.ListN.{length};
+ghost use Rattle.common.specs.Part.{replaced};
+ghost use Rattle.journal.specs.Journal.{batchLength, frameOf};
+ghost use Rattle.dispatcher.specs.Answer.{outLength};
+ghost use Rattle.dispatcher.specs.Step.{framesIn, answersIn};
+use journal::BATCH_LENGTH;
+use journal::Record;
+
+// Writes the frames of the first n items but one, which is the frame's own, one after the other,
+// and answers how many they are.
+pub fn send(items: [Record; BATCH_LENGTH], n: usize, out: &mut [u8]) -> u8
+    requires { ⌜ (1 ≤ n) × (n ≤ batchLength) × (outLength ≤ length (now out)) ⌝ }
+    ensures { λ r. ⌜ (r ≡ n - 1) × (now (out .exit) ≡ replaced (now (out .entry)) 0 (framesIn (answersIn items n))) ⌝ }
+{
+    let answers = n - 1;
+    let mut sent: usize = 0;
+    while sent < answers {
+        let entry = items[sent + 1];
+        frame::place(frame_of(entry), out, 7 * sent);
+        sent += 1;
+    }
+    answers as u8
+}
+
+// The seven bytes of the frame that a record tells of.
+fn frame_of(entry: Record) -> [u8; 7]
+    ensures { λ r. ⌜ r ≡ frameOf entry ⌝ }
+{
+    [0, 5, 1, entry.kind, entry.train.0, entry.from.0, entry.to.0]
+}
