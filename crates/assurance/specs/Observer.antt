@@ -1,4 +1,5 @@
--- The observer (01: tally): "Who asked and who holds is told by a tally, kept from book, frames, answers and refusals, never from state or journal."
+-- The observer (01: tally): "Who asked and who holds is told by a tally, kept from book, frames, answers and refusals,
+-- never from state or journal."
 use mathlib.Core.Bool.{Bool, true, false, cond, _&&_}
 use mathlib.Core.List.{List, [], _∷_}
 use Prim.Native.Nat.{ℕ, zero, suc}
@@ -33,8 +34,8 @@ isFor nothing p q = false
 isFor asked p q = false
 isFor (authority a b) p q = eqb a p && eqb b q
 
--- an accepted frame: "An accepted FA makes its train asked. An accepted AM for the move its train has an authority for puts the train at that move's
--- to post, with nothing. .. All else changes nothing."
+-- an accepted frame: "An accepted FA makes its train asked. An accepted AM for the move its train has an authority for
+-- puts the train at that move's to post, with nothing. .. All else changes nothing."
 abbrev pub hearFrame : Observer → Message → Observer
 hearFrame o (Fa m) = update o (m .train .0) (record { post = o (m .train .0) .post; claim = asked })
 hearFrame o (Am m) =
@@ -82,7 +83,8 @@ observe o (e ∷ es) = observe (hear o e) es
 
 -- ---- what is told of a train
 
--- "a train with an authority holds as a Running train does, between the posts of its move; any other holds at its post in the tally"
+-- "a train with an authority holds as a Running train does, between the posts of its move; any other holds at its post
+-- in the tally"
 abbrev pub locatedBy : ℕ → Claim → Whereabouts
 locatedBy p nothing = at p
 locatedBy p asked = at p

@@ -1,5 +1,6 @@
--- A run over a list of frames. 01: "The list may be empty, and its frames are any bytes of any length, each with any out buffer. The first frame gets
--- the state, table and journal that an accepted opening left. Each later one gets them as the frame before it, accepted or refused, left them".
+-- A run over a list of frames. 01: "The list may be empty, and its frames are any bytes of any length, each with any
+-- out buffer. The first frame gets the state, table and journal that an accepted opening left. Each later one gets them
+-- as the frame before it, accepted or refused, left them".
 use mathlib.Core.List.{List, [], _∷_}
 use Prim.Native.Nat.{ℕ}
 use Rattle.dispatcher.specs.Answer.{Answer, answer}

@@ -1,5 +1,6 @@
--- Demand 3, the claim over a whole list of frames: "Take every line book that the box accepts, and every list of frames put to it from the opening
--- on, whatever crews send and in whatever order, torn and refused ones included." What it says after the list is the record `Assured`.
+-- Demand 3, the claim over a whole list of frames: "Take every line book that the box accepts, and every list of frames
+-- put to it from the opening on, whatever crews send and in whatever order, torn and refused ones included." What it
+-- says after the list is the record `Assured`.
 use mathlib.Core.Path.{_≡_}
 use mathlib.Core.Logic.{_≢_}
 use mathlib.Core.Bool.{Bool, true, false, _&&_}
@@ -19,8 +20,8 @@ use Rattle.assurance.specs.Types.{Line, Move, Fa, Fe, Record}
 use Rattle.assurance.specs.Run.{Input, Exchange, Ran, run}
 use Rattle.assurance.specs.Observer.{Observer, atOpening, answersOf, observe, located, hasAuthority, hasAsked}
 
--- "An authority written, that is an FE, has its logged request if, below the journal count, the journal has that FE and, at a lower number, an FA of
--- the same train, from and to."
+-- "An authority written, that is an FE, has its logged request if, below the journal count, the journal has that FE
+-- and, at a lower number, an FA of the same train, from and to."
 pub record Requested (r : Ran) (m : Move) : Type 0 where
   pub granted : ℕ
   pub below : granted < r .state .logged
@@ -54,9 +55,11 @@ pub record Assured (l : Line) (r : Ran) (o : Observer) : Type 0 where
   pub posts : (p : ℕ) → p < l .posts → postHolders (l .trains) (located o) p ≤ tracksAt l p
   -- "Every authority written has its logged request."
   pub requests : (e : Exchange) → List·Memᴰ e (r .exchanges) → (m : Move) → List·Memᴰ (Fe m) (answersOf (e .verdict) (e .out)) → Requested r m
-  -- "While any train is short of its end, at least one such train has an authority or has not asked for its next section."
+  -- "While any train is short of its end, at least one such train has an authority or has not asked for its next
+  -- section."
   pub onward : (t : ℕ) → t < l .trains → ShortOfEnd l o t → Unhindered l o
-  -- "a train's FE records number its posts travelled, plus one while it is Running": by the state, and as the observer tells it
+  -- "a train's FE records number its posts travelled, plus one while it is Running": by the state, and as the observer
+  -- tells it
   pub authorities-given : (t : ℕ) → t < l .trains → authorities r t ≡ reached (r .state) t
   pub authorities-seen : (t : ℕ) → t < l .trains
       → authorities r t ≡ distance (routeOf l t .start .0) (o t .post) + ofBool (hasAuthority (o t .claim))

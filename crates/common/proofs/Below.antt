@@ -8,7 +8,8 @@ use native.Mathlib.Nat.{not-suc-le-zero}
 use native.Mathlib.Numerals.{add-one}
 use native.Mathlib.Omega.{arith}
 use Rattle.common.specs.Below.{ofBool, countBelow, allBelow, anyBelow}
-use Rattle.common.proofs.Tests.{clash, by-cases, by-equality, not-passed, and-left, and-right, and-both, or-left, or-right}
+use Rattle.common.proofs.Tests.{clash, by-cases, by-equality, not-passed, and-left, and-right, and-both}
+use Rattle.common.proofs.Tests.{or-left, or-right}
 
 pub ofBool-le : (b : Bool) → ofBool b ≤ 1
 ofBool-le true = omega arith

@@ -14,7 +14,8 @@ use Rattle.journal.specs.Journal.{blank, journalLength, recordOf, batchLength, 
 use Rattle.journal.proofs.Appended.{appended-none}
 use Rattle.dispatcher.specs.Types.{Message, Record, State, Sent, RefusedBy, Progress, Outcome}
 use Rattle.dispatcher.specs.Granting.{Work}
-use Rattle.dispatcher.specs.Answer.{mostLogged, frameChecks, accepted, framesOf, sent, Answer, answered, refused, answer}
+use Rattle.dispatcher.specs.Answer.{mostLogged, frameChecks, accepted, framesOf, sent, Answer, answered}
+use Rattle.dispatcher.specs.Answer.{refused, answer}
 use Rattle.dispatcher.specs.Step.{batchOf, progressOf, Acceptable, framesIn, answersIn, answerBy, Stepped}
 use Rattle.dispatcher.proofs.Validity.{Valid, is-valid}
 use Rattle.dispatcher.proofs.Changes.{valid-request, valid-arrival}

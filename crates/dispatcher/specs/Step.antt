@@ -1,5 +1,5 @@
--- Words of the functions below the entry points: what they hold by value where the definitions have lists, and what they ask of a state. Nothing
--- above the entry points cites them.
+-- Words of the functions below the entry points: what they hold by value where the definitions have lists, and what
+-- they ask of a state. Nothing above the entry points cites them.
 use mathlib.Core.Path.{_≡_}
 use mathlib.Core.Bool.{Bool, true, false, cond}
 use mathlib.Core.List.{List, [], _∷_, _++_}
@@ -10,7 +10,8 @@ use Rattle.common.specs.Check.{refusal}
 use Rattle.common.specs.Part.{replaced}
 use Rattle.line.specs.Refusal.{wrongEnd}
 use Rattle.journal.specs.Journal.{journalLength, frameOf, recordOf, emptyBatch, withRecord, appended}
-use Rattle.dispatcher.specs.Types.{TrainNo, Message, Fa, Fe, Afe, Am, Refused, Record, Batch, Status, Free, Asked, Running, Train, State, Asker, Of, Nobody, Progress, Outcome}
+use Rattle.dispatcher.specs.Types.{TrainNo, Message, Fa, Fe, Afe, Am, Refused, Record, Batch, Status, Free}
+use Rattle.dispatcher.specs.Types.{Asked, Running, Train, State, Asker, Of, Nobody, Progress, Outcome}
 use Rattle.dispatcher.specs.State.{trainOf, withStatus, arrivedNext, oneLogged}
 use Rattle.dispatcher.specs.Valid.{valid}
 use Rattle.dispatcher.specs.Granting.{Work}

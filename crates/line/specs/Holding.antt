@@ -1,6 +1,6 @@
--- Who holds posts and sections. 01: "A Running train, from its present post p to q, holds the section between them and a
--- track at each of p and q. .. Another train holds a track at its present post." Configurations, the dispatcher's state and
--- the observer all go by these words.
+-- Who holds posts and sections. 01: "A Running train, from its present post p to q, holds the section between them and
+-- a track at each of p and q. .. Another train holds a track at its present post." Configurations, the dispatcher's
+-- state and the observer all go by these words.
 use mathlib.Core.Bool.{Bool, false, _||_}
 use Prim.Native.Nat.{ℕ}
 use lib.Dec.{eqb}

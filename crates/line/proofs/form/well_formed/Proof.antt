@@ -7,7 +7,8 @@ use borrow.Author.Needs.{needs}
 use borrow.Author.Tests.{not-true, not-false}
 use Rattle.line.specs.Sorts.{Line}
 use Rattle.line.specs.Line.{postsInRange, tracksInRange}
-use Rattle.line.proofs.WellFormed.{ranged, below-range, above-range, posts-fail, tracks-fail, trains-fail, routes-decide}
+use Rattle.line.proofs.WellFormed.{ranged, below-range, above-range, posts-fail, tracks-fail, trains-fail}
+use Rattle.line.proofs.WellFormed.{routes-decide}
 use Rattle.line.proofs.form.well_formed.Statement.{statement}
 use Rattle.line.proofs.form.well_formed.Tie as tie
 
