@@ -1,7 +1,6 @@
 // Writing to the lent journal.
 ghost use mathlib.Core.Path.{_≡_};
 ghost use Rattle.journal.specs.Journal.{fitting, appended};
-use crate::JOURNAL_LENGTH;
 use crate::batch::BATCH_LENGTH;
 use crate::batch::Batch;
 use crate::batch::nth;
@@ -19,26 +18,8 @@ pub fn append(journal: &mut [Record], at: usize, batch: Batch)
     }
 }
 
-// The same for a journal by value.
-pub fn extend(
-    records: [Record; JOURNAL_LENGTH],
-    at: usize,
-    batch: Batch,
-) -> [Record; JOURNAL_LENGTH]
-    ensures { λ r. ⌜ r ≡ appended records at batch ⌝ }
-{
-    let mut after = records;
-    let n = fitting(JOURNAL_LENGTH, at, batch.n);
-    let mut k = 0;
-    while k < n {
-        after[at + k] = nth(batch, k);
-        k += 1;
-    }
-    after
-}
-
 // How many of n records are written from place `at` on in a journal of `len` records: all or none.
-fn fitting(len: usize, at: usize, n: usize) -> usize
+pub(crate) fn fitting(len: usize, at: usize, n: usize) -> usize
     ensures { λ r. ⌜ r ≡ fitting len at n ⌝ }
 {
     if BATCH_LENGTH < n {

@@ -9,8 +9,8 @@ use borrow.Author.Needs.{needs}
 use Rattle.journal.specs.Journal.{journalLength, batchLength}
 use Rattle.journal.proofs.Appended.{Extended, extended-none, extended-more, extended-all}
 use Rattle.journal.proofs.Appended.{extended-room, extended-few}
-use Rattle.journal.proofs.writing.extend.Statement.{statement}
-use Rattle.journal.proofs.writing.extend.Tie as tie
+use Rattle.journal.proofs.value.extend.Statement.{statement}
+use Rattle.journal.proofs.value.extend.Tie as tie
 
 abbrev Inv-loop : tie.InvT-loop
 Inv-loop at batch after₀ n k₀ after k = Extended after₀ at batch n after k
