@@ -1,9 +1,10 @@
-// Reading a book and frames from a descriptor. A read that fails counts as the end of the input.
+// Reading a book from a descriptor. A read that fails counts as the end of the input.
 ghost use Prim.Native.Nat.{_≤_};
 
 // The longest book: eight posts and six trains.
 const LONGEST_BOOK: usize = 25;
 
+// The first `length` bytes are the book.
 pub struct Book {
     pub bytes: [u8; LONGEST_BOOK],
     pub length: usize,
@@ -14,19 +15,20 @@ pub struct Book {
 pub fn read_book(fd: i32) -> Book
     ensures { λ r. ⌜ r .length ≤ 25 ⌝ }
 {
+    let mut head = [0u8; 2];
+    let got = io::read_full(fd, &mut head);
     let mut bytes = [0u8; LONGEST_BOOK];
-    let head = io::read_full(fd, &mut bytes[..2]);
-    if head < 2 {
-        return Book {
-            bytes,
-            length: head,
-        };
+    if got < 2 {
+        bytes[0] = head[0];
+        return Book { bytes, length: got };
     }
-    let end = book_end(bytes[0], bytes[1]);
+    let end = book_end(head[0], head[1]);
     let rest = io::read_full(fd, &mut bytes[2..end]);
+    bytes[0] = head[0];
+    bytes[1] = head[1];
     Book {
         bytes,
-        length: 2 + rest,
+        length: after_two(rest),
     }
 }
 
@@ -34,24 +36,16 @@ pub fn read_book(fd: i32) -> Book
 fn book_end(high: u8, low: u8) -> usize
     ensures { λ r. ⌜ (2 ≤ r) × (r ≤ 25) ⌝ }
 {
-    let named = line::word::word(high, low) as usize;
-    if named < LONGEST_BOOK - 2 {
-        2 + named
+    after_two(line::word::word(high, low) as usize)
+}
+
+// So many bytes and the two before them, at most as many as the longest book has.
+fn after_two(n: usize) -> usize
+    ensures { λ r. ⌜ (2 ≤ r) × (r ≤ 25) ⌝ }
+{
+    if n < LONGEST_BOOK - 2 {
+        2 + n
     } else {
         LONGEST_BOOK
     }
-}
-
-// Up to seven bytes: a frame, or 01's "shorter rest after whole frames".
-pub struct Frame {
-    pub bytes: [u8; 7],
-    pub length: usize,
-}
-
-pub fn read_frame(fd: i32) -> Frame
-    ensures { λ r. ⌜ r .length ≤ 7 ⌝ }
-{
-    let mut bytes = [0u8; 7];
-    let length = io::read_full(fd, &mut bytes);
-    Frame { bytes, length }
 }
