@@ -5,4 +5,5 @@ pub mod Valid
 pub mod Granting
 pub mod Answer
 pub mod Opening
+pub mod Log
 pub mod Step

@@ -19,3 +19,4 @@ pub use Rattle.dispatcher.specs.declared.asking.Asker.the-variants.{Of, 
 pub use Rattle.dispatcher.specs.declared.granting.Progress.{Progress}
 pub use Rattle.dispatcher.specs.declared.step.Outcome.{Outcome}
 pub use Rattle.dispatcher.specs.declared.opening.Opened.{Opened}
+pub use Rattle.dispatcher.specs.declared.log.Log.{Log}

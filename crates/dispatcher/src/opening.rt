@@ -2,12 +2,15 @@
 ghost use mathlib.Core.Path.{_≡_};
 ghost use Rattle.line.specs.Book.{outcomeNumber};
 ghost use Rattle.dispatcher.specs.State.{noTrain};
-ghost use Rattle.dispatcher.specs.Opening.{fresh, openedState, emptyState, openingOf, openingWith};
+ghost use Rattle.dispatcher.specs.Opening.{fresh, openedState, emptyState, openingOf, openingWith, opening};
+use crate::log::Log;
+use crate::log::log_length;
 use crate::state::State;
 use crate::state::Status;
 use crate::state::Train;
 use completion::TABLE_LENGTH;
 use journal::JOURNAL_LENGTH;
+use journal::Record;
 use line::Line;
 use line::Outcome;
 use line::PostNo;
@@ -20,6 +23,21 @@ use line::refusal::SHORT_STORE;
 pub struct Opened {
     pub state: State,
     pub refusal: u8,
+}
+
+// Opens a book. Of the journal only its length is looked at.
+pub fn open(book: &[u8], table: &mut [u8], journal: &[Record]) -> Opened
+    ensures { λ r. ⌜ openingOf r (now (table .exit)) ≡ opening (now (book .entry)) (now (table .entry)) (now (journal .entry)) ⌝ }
+{
+    open_with(book, table, journal.len())
+}
+
+// The same with a journal by value.
+pub fn open_log(book: &[u8], table: &mut [u8], log: Log) -> Opened
+    ensures { λ r. ⌜ openingOf r (now (table .exit)) ≡ opening (now (book .entry)) (now (table .entry)) (log .records) ⌝ }
+{
+    let records = log.records;
+    open_with(book, table, log_length(records))
 }
 
 // The opening, with a journal of so many records: checks 2, those of the book, 19 and 20, in that

@@ -1,0 +1,14 @@
+-- `blank_log` meets its contract: as many blank records as a journal has at least.
+-- Assumes nothing.
+use borrow.Author.Needs.{needs}
+use Rattle.dispatcher.proofs.log.blank_log.Statement.{statement}
+use Rattle.dispatcher.proofs.log.blank_log.Tie as tie
+
+blank-requires : tie.Need-blank-requires
+blank-requires c κs = search needs
+
+returns : tie.Need-returns
+returns c = rw (c .blank .ensures)
+
+pub blank-log-spec : {M : Type 1} → statement M
+blank-log-spec = tie.close (tie.spec blank-requires returns)
