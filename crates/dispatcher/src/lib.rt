@@ -15,7 +15,9 @@ mod step;
 mod train;
 mod valid;
 
+pub use answering::Logged;
 pub use answering::answer;
+pub use answering::answer_log;
 pub use log::Log;
 pub use log::blank_log;
 pub use opening::Opened;

@@ -1,7 +1,12 @@
 // A journal by value, for programs that keep one.
 ghost use mathlib.Core.Path.{_≡_};
+ghost use Prim.Native.Nat.{ℕ, _+_, _≤_, _<_};
 ghost use lib.ListN.{length};
+ghost use lib.Seq.{paste};
+ghost use Rattle.journal.specs.Journal.{batchLength, appended};
 ghost use Rattle.dispatcher.specs.Log.{blankLog};
+use journal::BATCH_LENGTH;
+use journal::Batch;
 use journal::JOURNAL_LENGTH;
 use journal::Record;
 
@@ -22,4 +27,33 @@ pub fn log_length(records: [Record; JOURNAL_LENGTH]) -> usize
     ensures { λ r. ⌜ r ≡ length records ⌝ }
 {
     JOURNAL_LENGTH
+}
+
+// The log with the records of the batch from place `at` on; as it is where they do not all fit.
+pub fn appended(log: Log, at: usize, batch: Batch) -> Log
+    ensures { λ r. ⌜ r .records ≡ appended (log .records) at batch ⌝ }
+{
+    let records = log.records;
+    let items = batch.items;
+    let n = journal::fitting(log_length(records), at, batch.n);
+    let records = with_items(records, at, items, n);
+    Log { records }
+}
+
+fn with_items(
+    records: [Record; JOURNAL_LENGTH],
+    at: usize,
+    items: [Record; BATCH_LENGTH],
+    n: usize,
+) -> [Record; JOURNAL_LENGTH]
+    requires { ⌜ (n ≤ batchLength) × ((k : ℕ) → k < n → at + k < length records) ⌝ }
+    ensures { λ r. ⌜ r ≡ paste records at items n ⌝ }
+{
+    let mut after = records;
+    let mut k: usize = 0;
+    while k < n {
+        after[at + k] = items[k];
+        k += 1;
+    }
+    after
 }

@@ -14,6 +14,7 @@ pub use record::Record;
 pub use record::blank;
 pub use record::record_of;
 pub use writing::append;
+pub use writing::fitting;
 
 // How many records a lent journal has at least.
 pub const JOURNAL_LENGTH: usize = 176;
