@@ -14,9 +14,8 @@ use Rattle.journal.specs.Journal.{blank, journalLength, recordOf, batchLength, 
 use Rattle.journal.proofs.Appended.{appended-none}
 use Rattle.dispatcher.specs.Types.{Message, Record, State, Sent, RefusedBy, Progress, Outcome}
 use Rattle.dispatcher.specs.Granting.{Work}
-use Rattle.dispatcher.specs.Answer.{mostLogged, frameChecks, accepted, framesOf, sent, Answer, answered}
-use Rattle.dispatcher.specs.Answer.{refused, answer}
-use Rattle.dispatcher.specs.Step.{batchOf, progressOf, Acceptable, framesIn, answersIn, answerBy, Stepped}
+use Rattle.dispatcher.specs.Answer.{mostLogged, frameChecks, accepted, framesOf, sent, Answer, answerOf, answered, refused, answer}
+use Rattle.dispatcher.specs.Step.{batchOf, progressOf, Acceptable, framesIn, answersIn, outcomeOf, Stepped}
 use Rattle.dispatcher.proofs.Validity.{Valid, is-valid}
 use Rattle.dispatcher.proofs.Changes.{valid-request, valid-arrival}
 use Rattle.dispatcher.proofs.Acceptance.{Taken, request, arrival, Passed, frame-passed, Accepted, accepted-facts}
@@ -46,13 +45,13 @@ module _ (s : State) (table : List ℕ) (count : ℕ) (frame out : List ℕ) (nu
     taken z = accepts _ (refused s journal out) (numbered ∙ z)
 
   -- nothing is written
-  pub step-refused : number ≢ 0 → (o : Outcome) → o ≡ record { state = s; verdict = RefusedBy number; at = 0; batch = emptyBatch }
+  pub step-refused : number ≢ 0 → (o : Outcome) → o ≡ outcomeOf s (RefusedBy number) 0 emptyBatch
       → Stepped s table count frame out o out
   step-refused h o e = record {
     answers = λ journal long.
-        declined journal long h
-        ∙ ap (λ (j : List Record). record { state = s; verdict = RefusedBy number; journal = j; out = out }) (sym (appended-none journal 0 emptyBatch refl))
-        ∙ ap (λ (p : Outcome). answerBy p journal out) (sym e);
+        ap (λ (p : Outcome). answerOf (p .reply) (appended journal (p .at) (p .batch)) out) e
+        ∙ ap (λ (j : List Record). refused s j out number) (appended-none journal 0 emptyBatch refl)
+        ∙ sym (declined journal long h);
   }
 
   module _ (zero : number ≡ 0) where
@@ -101,18 +100,18 @@ module _ (s : State) (table : List ℕ) (count : ℕ) (frame out : List ℕ) (nu
           room a (arrival m n runs) = n .space
 
       pub step-accepted : (k : ℕ) → k ≡ p .batch .n - 1 → (after : List ℕ) → after ≡ replaced out 0 (framesIn (answersIn (p .batch .items) (p .batch .n)))
-          → Stepped s table count frame out (record { state = p .state; verdict = Sent k; at = s .logged; batch = p .batch }) after
+          → Stepped s table count frame out (outcomeOf (p .state) (Sent k) (s .logged) (p .batch)) after
       step-accepted k ek after ea =
           let state : work .state ≡ p .state = ap (λ (q : Progress). q .state) (sym held) in
           let verdict : length (sent work) ≡ k = omega (arith, size, counted) in
           let bytes : replaced out 0 (framesOf (sent work)) ≡ after = ap (replaced out 0) (sym frames) ∙ sym ea in
           record {
-            answers = λ journal long.
+            answers = λ journal long. sym (
                 taken journal long zero
                 ∙ ap (λ (t : State). made t (length (sent work)) (replaced journal (s .logged) (map recordOf (work .logged))) (replaced out 0 (framesOf (sent work)))) state
                 ∙ ap (λ (n : ℕ). made (p .state) n (replaced journal (s .logged) (map recordOf (work .logged))) (replaced out 0 (framesOf (sent work)))) verdict
                 ∙ ap (λ (j : List Record). made (p .state) k j (replaced out 0 (framesOf (sent work)))) (written journal long)
-                ∙ ap (λ (b : List ℕ). made (p .state) k (appended journal (s .logged) (p .batch)) b) bytes;
+                ∙ ap (λ (b : List ℕ). made (p .state) k (appended journal (s .logged) (p .batch)) b) bytes);
           }
         where
           made : State → ℕ → List Record → List ℕ → Answer

@@ -1,5 +1,4 @@
--- The tests of `specs/Valid.antt` one by one, in the order in which the code makes them: the first that fails decides,
--- and else the last.
+-- The tests of `specs/Valid.antt` one by one, in the order in which the code makes them: the first that fails decides, and else the last.
 -- Assumes nothing.
 use mathlib.Core.Path.{_≡_, _∙_}
 use mathlib.Core.Bool.{Bool, true, false, not}
@@ -14,8 +13,7 @@ use Rattle.line.proofs.WellFormed.{well-formed}
 use Rattle.journal.specs.Journal.{journalLength}
 use Rattle.dispatcher.specs.Types.{Status, Train, State}
 use Rattle.dispatcher.specs.State.{isFree, atEnd, trainOf, lineOf}
-use Rattle.dispatcher.specs.Valid.{trainValid, sectionsValid, postsValid, numberBelow, sameNumber, numberValid}
-use Rattle.dispatcher.specs.Valid.{valid}
+use Rattle.dispatcher.specs.Valid.{trainValid, sectionsValid, postsValid, numberBelow, sameNumber, numberValid, valid}
 
 -- ---- one train's record
 

@@ -1,5 +1,4 @@
--- The answer to a frame: the checks in order, what an accepted frame does, and what is left in state, journal and out
--- buffer.
+-- The answer to a frame: the checks in order, what an accepted frame does, and what is left in state, journal and out buffer.
 use mathlib.Core.Bool.{Bool, true, false, not, cond, _&&_, _||_}
 use mathlib.Core.List.{List, [], _∷_, _++_, map}
 use Prim.Native.Nat.{ℕ, _+_, _-_}
@@ -7,13 +6,11 @@ use lib.Dec.{leb, ltb, eqb}
 use lib.ListN.{length, drop}
 use Rattle.common.specs.Check.{Check, check, refusal, unlessRefused}
 use Rattle.common.specs.Part.{replaced}
-use Rattle.line.specs.Refusal.{strangeState, shortStore, wrongEnd, unknownTrain, atEnd as trainAtEnd, wrongPost}
-use Rattle.line.specs.Refusal.{alreadyAsked, underAuthority, noAuthority, journalFull}
+use Rattle.line.specs.Refusal.{strangeState, shortStore, wrongEnd, unknownTrain, atEnd as trainAtEnd, wrongPost, alreadyAsked, underAuthority, noAuthority, journalFull}
 use Rattle.frame.specs.Frame.{moveOf, readChecks, readFrame, bytesOf}
 use Rattle.journal.specs.Journal.{journalLength, recordOf}
 use Rattle.completion.specs.Table.{tableLength}
-use Rattle.dispatcher.specs.Types.{Move, Message, Fa, Fe, Afe, Am, Refused, Record, Status, Asked, Train, State}
-use Rattle.dispatcher.specs.Types.{Verdict, Sent, RefusedBy}
+use Rattle.dispatcher.specs.Types.{Move, Message, Fa, Fe, Afe, Am, Refused, Record, Status, Asked, Train, State, Verdict, Sent, RefusedBy, Reply}
 use Rattle.dispatcher.specs.State.{isAsked, isRunning, atEnd, nextOf, trainOf, withStatus, arrivedNext, withTrain}
 use Rattle.dispatcher.specs.Valid.{valid}
 use Rattle.dispatcher.specs.Granting.{Work, log, settled}
@@ -112,6 +109,10 @@ pub record Answer : Type 0 where
   pub verdict : Verdict
   pub journal : List Record
   pub out : List ℕ
+
+-- what the code hands back, with the journal and the out buffer afterwards
+abbrev pub answerOf : Reply → List Record → List ℕ → Answer
+answerOf r journal out = record { state = r .state; verdict = r .verdict; journal = journal; out = out }
 
 -- the records from the count on, and the frames at the buffer's beginning; all else is untouched
 abbrev pub answered : ℕ → List Record → List ℕ → Work → Answer

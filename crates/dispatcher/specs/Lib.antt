@@ -5,5 +5,5 @@ pub mod Valid
 pub mod Granting
 pub mod Answer
 pub mod Opening
-pub mod Step
 pub mod Log
+pub mod Step

@@ -1,5 +1,4 @@
--- The opening of a book: "Opening gives every train Free at its start, count 0, those places all 0 and Free, and the
--- journal's records untouched."
+-- The opening of a book: "Opening gives every train Free at its start, count 0, those places all 0 and Free, and the journal's records untouched."
 use mathlib.Core.Bool.{cond, _&&_}
 use mathlib.Core.List.{List, [], _∷_, _++_}
 use Prim.Native.Nat.{ℕ}

@@ -42,8 +42,8 @@ atEnd x = eqb (x .at .0) (x .route .end .0)
 abbrev pub nextOf : Train → ℕ
 nextOf x = nextPost (x .at .0) (x .route .end .0)
 
--- "A Running train, from its present post p to q, holds the section between them and a track at each of p and q. ..
--- Another train holds a track at its present post."
+-- "A Running train, from its present post p to q, holds the section between them and a track at each of p and q. .. Another train holds a track
+-- at its present post."
 abbrev pub locatedBy : Status → ℕ → ℕ → Whereabouts
 locatedBy Free p q = at p
 locatedBy (Asked n) p q = at p

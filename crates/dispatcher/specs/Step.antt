@@ -1,5 +1,5 @@
--- Words of the functions below the entry points: what they hold by value where the definitions have lists, and what
--- they ask of a state. Nothing above the entry points cites them.
+-- Words of the functions below the entry points: what they hold by value where the definitions have lists, and what they ask of a state. Nothing
+-- above the entry points cites them.
 use mathlib.Core.Path.{_≡_}
 use mathlib.Core.Bool.{Bool, true, false, cond}
 use mathlib.Core.List.{List, [], _∷_, _++_}
@@ -7,15 +7,13 @@ use Prim.Native.Nat.{ℕ, _+_, _-_, _≤_, _<_}
 use lib.Dec.{ltb}
 use lib.ListN.{length, take, drop}
 use Rattle.common.specs.Check.{refusal}
-use Rattle.common.specs.Part.{replaced}
 use Rattle.line.specs.Refusal.{wrongEnd}
 use Rattle.journal.specs.Journal.{journalLength, frameOf, recordOf, emptyBatch, withRecord, appended}
-use Rattle.dispatcher.specs.Types.{TrainNo, Message, Fa, Fe, Afe, Am, Refused, Record, Batch, Status, Free}
-use Rattle.dispatcher.specs.Types.{Asked, Running, Train, State, Asker, Of, Nobody, Progress, Outcome}
+use Rattle.dispatcher.specs.Types.{TrainNo, Message, Fa, Fe, Afe, Am, Refused, Record, Batch, Status, Free, Asked, Running, Train, State, Verdict, Asker, Of, Nobody, Progress, Outcome}
 use Rattle.dispatcher.specs.State.{trainOf, withStatus, arrivedNext, oneLogged}
 use Rattle.dispatcher.specs.Valid.{valid}
 use Rattle.dispatcher.specs.Granting.{Work}
-use Rattle.dispatcher.specs.Answer.{mostLogged, moveIn, moveChecks, taken, Answer, answer}
+use Rattle.dispatcher.specs.Answer.{mostLogged, moveIn, moveChecks, taken, answerOf, answer}
 
 -- ---- the Asked trains in the order of their requests
 
@@ -87,10 +85,10 @@ answersIn items n = take (n - 1) (drop 1 items)
 
 -- ---- the outcome
 
--- the outcome of a frame, with the records of its batch written
-abbrev pub answerBy : Outcome → List Record → List ℕ → Answer
-answerBy o journal out = record { state = o .state; verdict = o .verdict; journal = appended journal (o .at) (o .batch); out = out }
+abbrev pub outcomeOf : State → Verdict → ℕ → Batch → Outcome
+outcomeOf s v at b = record { reply = record { state = s; verdict = v }; at = at; batch = b }
 
--- o, and the out buffer afterwards, are the answer with every journal of so many records
+-- o, with the records of its batch written, and the out buffer afterwards are the answer, with every journal of so many records
 pub record Stepped (s : State) (table : List ℕ) (records : ℕ) (frame out : List ℕ) (o : Outcome) (after : List ℕ) : Type 0 where
-  pub answers : (journal : List Record) → length journal ≡ records → answer s table journal frame out ≡ answerBy o journal after
+  pub answers : (journal : List Record) → length journal ≡ records
+      → answerOf (o .reply) (appended journal (o .at) (o .batch)) after ≡ answer s table journal frame out

@@ -17,7 +17,7 @@ pub use Rattle.dispatcher.specs.declared.state.Verdict.the-variants.{Sen
 pub use Rattle.dispatcher.specs.declared.asking.Asker.{Asker}
 pub use Rattle.dispatcher.specs.declared.asking.Asker.the-variants.{Of, Nobody}
 pub use Rattle.dispatcher.specs.declared.granting.Progress.{Progress}
+pub use Rattle.dispatcher.specs.declared.step.Reply.{Reply}
 pub use Rattle.dispatcher.specs.declared.step.Outcome.{Outcome}
 pub use Rattle.dispatcher.specs.declared.opening.Opened.{Opened}
 pub use Rattle.dispatcher.specs.declared.log.Log.{Log}
-pub use Rattle.dispatcher.specs.declared.log.Turn.{Turn}

@@ -1,11 +1,12 @@
 // A journal by value, for programs that keep one.
 ghost use mathlib.Core.Path.{_≡_};
+ghost use Prim.Native.Nat.{ℕ, _+_, _≤_, _<_};
 ghost use lib.ListN.{length};
-ghost use Rattle.dispatcher.specs.Answer.{answer};
-ghost use Rattle.dispatcher.specs.Log.{blankLog, answerOf};
-use crate::state::State;
-use crate::state::Verdict;
-use crate::step::step;
+ghost use lib.Seq.{paste};
+ghost use Rattle.journal.specs.Journal.{batchLength, appended};
+ghost use Rattle.dispatcher.specs.Log.{blankLog};
+use journal::BATCH_LENGTH;
+use journal::Batch;
 use journal::JOURNAL_LENGTH;
 use journal::Record;
 
@@ -28,28 +29,31 @@ pub fn log_length(records: [Record; JOURNAL_LENGTH]) -> usize
     JOURNAL_LENGTH
 }
 
-// What a frame leaves: the state, the verdict, and the journal.
-pub struct Turn {
-    pub state: State,
-    pub verdict: Verdict,
-    pub log: Log,
+// The log with the records of the batch from place `at` on; as it is where they do not all fit.
+pub fn appended(log: Log, at: usize, batch: Batch) -> Log
+    ensures { λ r. ⌜ r .records ≡ appended (log .records) at batch ⌝ }
+{
+    let records = log.records;
+    let items = batch.items;
+    let n = journal::fitting(log_length(records), at, batch.n);
+    let records = with_items(records, at, items, n);
+    Log { records }
 }
 
-// The answer to a frame, with a journal by value.
-pub fn answer_log(state: State, table: &[u8], log: Log, frame: &[u8], out: &mut [u8]) -> Turn
-    ensures { λ r. ⌜ answerOf r (now (out .exit)) ≡ answer state (now (table .entry)) (log .records) (now (frame .entry)) (now (out .entry)) ⌝ }
+fn with_items(
+    records: [Record; JOURNAL_LENGTH],
+    at: usize,
+    items: [Record; BATCH_LENGTH],
+    n: usize,
+) -> [Record; JOURNAL_LENGTH]
+    requires { ⌜ (n ≤ batchLength) × ((k : ℕ) → k < n → at + k < length records) ⌝ }
+    ensures { λ r. ⌜ r ≡ paste records at items n ⌝ }
 {
-    let before = log.records;
-    let outcome = step(state, table, log_length(before), frame, out);
-    let next = outcome.state;
-    let verdict = outcome.verdict;
-    let at = outcome.at;
-    let batch = outcome.batch;
-    let records = journal::extend(before, at, batch);
-    let after = Log { records };
-    Turn {
-        state: next,
-        verdict,
-        log: after,
+    let mut after = records;
+    let mut k: usize = 0;
+    while k < n {
+        after[at + k] = items[k];
+        k += 1;
     }
+    after
 }

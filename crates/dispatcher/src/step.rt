@@ -2,7 +2,7 @@
 // to be written come back by value.
 ghost use mathlib.Core.Path.{_≡_};
 ghost use Rattle.journal.specs.Journal.{emptyBatch};
-ghost use Rattle.dispatcher.specs.Step.{Stepped};
+ghost use Rattle.dispatcher.specs.Step.{outcomeOf, Stepped};
 use crate::accepting::accept;
 use crate::checks::refusal_of;
 use crate::sending::send;
@@ -10,10 +10,15 @@ use crate::state::State;
 use crate::state::Verdict;
 use journal::Batch;
 
-// What a frame leaves: the state, the verdict, and the records to be written from place `at` on.
-pub struct Outcome {
+// What a frame leaves: the state, and whether it was refused or how many frames were sent.
+pub struct Reply {
     pub state: State,
     pub verdict: Verdict,
+}
+
+// The reply, and the records to be written from place `at` on.
+pub struct Outcome {
+    pub reply: Reply,
     pub at: usize,
     pub batch: Batch,
 }
@@ -33,21 +38,23 @@ pub fn step(state: State, table: &[u8], records: usize, frame: &[u8], out: &mut 
     let batch = work.batch;
     let items = batch.items;
     let sent = send(items, batch.n, out);
-    Outcome {
+    let reply = Reply {
         state: next,
         verdict: Verdict::Sent(sent),
-        at,
-        batch,
-    }
+    };
+    Outcome { reply, at, batch }
 }
 
 fn refused(state: State, number: u8) -> Outcome
-    ensures { λ r. ⌜ r ≡ record { state = state; verdict = Verdict.Refused number; at = 0; batch = emptyBatch } ⌝ }
+    ensures { λ r. ⌜ r ≡ outcomeOf state (Verdict.Refused number) 0 emptyBatch ⌝ }
 {
     let batch = journal::empty();
-    Outcome {
+    let reply = Reply {
         state,
         verdict: Verdict::Refused(number),
+    };
+    Outcome {
+        reply,
         at: 0,
         batch,
     }

@@ -1,7 +1,7 @@
 -- Laws of the journal with a batch appended. First what the code that writes cites: how many records are written, and
 -- the list while they are. Then what the crates above cite: the length, and the records below, in and above the part.
 -- Assumes nothing.
-use mathlib.Core.Path.{_≡_, refl, sym, ap, _∙_}
+use mathlib.Core.Path.{_≡_, refl, sym, ap}
 use mathlib.Core.Bool.{true}
 use mathlib.Core.List.{List, _++_}
 use Prim.Native.Nat.{ℕ, _+_, _≤_, _<_}
@@ -130,36 +130,3 @@ module _ (j : List Record) (at : ℕ) (b : Batch) where
       -- the journal up to the last record written
       pub take-appended : take (at + b .n) (appended j at b) ≡ take at j ++ records b
       take-appended = rw (appended-fits few room) (take-paste j at (b .items) (b .n) (omega arith) (omega arith))
-
--- ---- a journal by value, while records are written
-
--- of n records that fit, the first k are in their places
-pub record Extended (j : List Record) (at : ℕ) (b : Batch) (n : ℕ) (after : List Record) (k : ℕ) : Type 0 where
-  pub seven : length (b .items) ≡ batchLength
-  pub fit-all : n ≡ count j at b
-  pub few : k ≤ n
-  pub so-far : after ≡ written j at b k
-
-module _ {j : List Record} {at : ℕ} {b : Batch} {n : ℕ} {after : List Record} {k : ℕ} (x : Extended j at b n after k) where
-  pub extended-few : n ≤ batchLength
-  extended-few = omega (arith, x .fit-all, fitting-few (length j) at (b .n))
-
-  pub extended-room : k < n → at + k < length j
-  extended-room h = fitting-room (length j) at (b .n) k (omega (arith, x .fit-all))
-
-  pub extended-more : k < n → Extended j at b n (set after (at + k) (recordAt (b .items) k)) (k + 1)
-  extended-more h = record {
-    seven = x .seven;
-    fit-all = x .fit-all;
-    few = omega arith;
-    so-far = rw (x .so-far) (written-more j at b (x .seven) k (omega (arith, x .fit-all)));
-  }
-
-  pub extended-all : n ≤ k → after ≡ appended j at b
-  extended-all h =
-      let e : k ≡ count j at b = omega (arith, x .few, x .fit-all) in
-      x .so-far ∙ ap (written j at b) e ∙ all-written j at b
-
-pub extended-none : (j : List Record) (at : ℕ) (b : Batch) (n : ℕ) → length (b .items) ≡ batchLength → n ≡ count j at b
-    → Extended j at b n j 0
-extended-none j at b n seven e = record { seven = seven; fit-all = e; few = omega arith; so-far = paste-zero j at (b .items) }

@@ -3,7 +3,6 @@
 mod batch;
 mod reading;
 mod record;
-mod value;
 mod writing;
 
 pub use batch::BATCH_LENGTH;
@@ -14,8 +13,8 @@ pub use reading::at;
 pub use record::Record;
 pub use record::blank;
 pub use record::record_of;
-pub use value::extend;
 pub use writing::append;
+pub use writing::fitting;
 
 // How many records a lent journal has at least.
 pub const JOURNAL_LENGTH: usize = 176;

@@ -19,7 +19,7 @@ pub fn append(journal: &mut [Record], at: usize, batch: Batch)
 }
 
 // How many of n records are written from place `at` on in a journal of `len` records: all or none.
-pub(crate) fn fitting(len: usize, at: usize, n: usize) -> usize
+pub fn fitting(len: usize, at: usize, n: usize) -> usize
     ensures { λ r. ⌜ r ≡ fitting len at n ⌝ }
 {
     if BATCH_LENGTH < n {

@@ -77,9 +77,10 @@ fn serve_frame(fd: i32, table: &[u8], run: Run) -> Run {
     }
     let mut out = [0u8; OUT_LENGTH];
     let turn = dispatcher::answer_log(state, table, log, &frame[..length], &mut out);
-    let next = turn.state;
+    let reply = turn.reply;
+    let next = reply.state;
     let kept = turn.log;
-    let verdict = turn.verdict;
+    let verdict = reply.verdict;
     Run {
         state: next,
         log: kept,

@@ -1,5 +1,4 @@
--- `reached_with` meets its contract. The loop's invariant: the posts of the trains passed are stored, and 0 stands at
--- the other places.
+-- `reached_with` meets its contract. The loop's invariant: the posts of the trains passed are stored, and 0 stands at the other places.
 -- Assumes nothing.
 use mathlib.Core.Path.{_≡_}
 use Prim.Native.Nat.{_≤_, _-_}

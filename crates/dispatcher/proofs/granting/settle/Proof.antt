@@ -1,5 +1,5 @@
--- `settle` meets its contract. Outer loop: the work is one that ends as the work it began with, and each turn has one
--- Asked train fewer. Inner loop: nothing is changed, and nobody whose request has a number below `from` can be granted.
+-- `settle` meets its contract. Outer loop: the work is one that ends as the work it began with, and each turn has one Asked train fewer. Inner
+-- loop: nothing is changed, and nobody whose request has a number below `from` can be granted.
 -- Assumes nothing.
 use mathlib.Core.Path.{_≡_, refl, sym, ap, subst, _∙_}
 use mathlib.Core.Bool.{true}
@@ -16,10 +16,8 @@ use Rattle.dispatcher.proofs.Validity.{valid-facts}
 use Rattle.dispatcher.proofs.Oldest.{Oldest}
 use Rattle.dispatcher.proofs.Grants.{askedCount}
 use Rattle.dispatcher.proofs.GrantTest.{few-trains}
-use Rattle.dispatcher.proofs.Askers.{Next, Tried, next-found, next-small, tried-none, tried-all, first-oldest}
-use Rattle.dispatcher.proofs.Askers.{tried-more}
-use Rattle.dispatcher.proofs.Working.{Working, working-start, working-valid, working-end, working-next}
-use Rattle.dispatcher.proofs.Working.{working-less}
+use Rattle.dispatcher.proofs.Askers.{Next, Tried, next-found, next-small, tried-none, tried-all, first-oldest, tried-more}
+use Rattle.dispatcher.proofs.Working.{Working, working-start, working-valid, working-end, working-next, working-less}
 use Rattle.dispatcher.proofs.granting.settle.Statement.{statement}
 use Rattle.dispatcher.proofs.granting.settle.Tie as tie
 

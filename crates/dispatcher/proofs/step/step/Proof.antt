@@ -13,8 +13,7 @@ use Rattle.dispatcher.specs.Types.{Message, State}
 use Rattle.dispatcher.specs.Answer.{frameChecks, accepted}
 use Rattle.dispatcher.specs.Step.{progressOf, Acceptable}
 use Rattle.dispatcher.proofs.Acceptance.{Passed}
-use Rattle.dispatcher.proofs.Stepping.{taken-acceptable, step-refused, step-passed, step-some, step-few}
-use Rattle.dispatcher.proofs.Stepping.{step-accepted}
+use Rattle.dispatcher.proofs.Stepping.{taken-acceptable, step-refused, step-passed, step-some, step-few, step-accepted}
 use Rattle.dispatcher.proofs.step.step.Statement.{statement}
 use Rattle.dispatcher.proofs.step.step.Tie as tie
 

@@ -10,8 +10,7 @@ use Rattle.line.specs.Line.{wellFormed}
 use Rattle.dispatcher.specs.Types.{State}
 use Rattle.dispatcher.specs.State.{trainOf, lineOf}
 use Rattle.dispatcher.specs.Valid.{trainValid, sectionsValid, postsValid}
-use Rattle.dispatcher.proofs.Tested.{line-fails, six-trains, trains-fail, sections-fail, posts-fail}
-use Rattle.dispatcher.proofs.Tested.{count-fails, numbers-decide}
+use Rattle.dispatcher.proofs.Tested.{line-fails, six-trains, trains-fail, sections-fail, posts-fail, count-fails, numbers-decide}
 use Rattle.dispatcher.proofs.valid.valid.Statement.{statement}
 use Rattle.dispatcher.proofs.valid.valid.Tie as tie
 

@@ -25,8 +25,7 @@ use contract.Monad.{Fun, fact}
 use contract.Running.{givenOf, tables, tablesOf}
 use types.Kit.{Given, Item, Sq, runs, ‵, raw, _⊛_, ⋆, some, later, atRet, _$_, _∵_, !, qed, by, move, keep, drop, use1}
 use types.Kit.{split, join, pick, await, rewrite, fsplit, fjoin, suffices, frame, done}
-use types.Run.{look, look-raw, init, forget, stop, hop, fld, from, load, lit, of-opd, bin, no-more, assigns}
-use types.Run.{assigns-last}
+use types.Run.{look, look-raw, init, forget, stop, hop, fld, from, load, lit, of-opd, bin, no-more, assigns, assigns-last}
 use types.Run.{land-last, first, branches, exec, returns, enter, alloc1, alloc0, params1, pass1, pass0, free1, free0}
 use types.Part.{whole, sub, look-in}
 use sound.WpLaws.{fmOf, WpFn-mono}
@@ -47,8 +46,7 @@ use denote.Triple.Clauses.{ensured, lasts}
 use denote.Triple.Entry.{onEntry}
 use denote.Triple.Spec.{Meets, tripleOf}
 use denote.Triple.Table.{entered, cited}
-use denote.Triple.Walked.{says, Stays, stay-none, stay-none-slice, walkOf, goes-none, goes-none-slice, Walks, ends-at}
-use denote.Triple.Walked.{walked}
+use denote.Triple.Walked.{says, Stays, stay-none, stay-none-slice, walkOf, goes-none, goes-none-slice, Walks, ends-at, walked}
 use denote.Triple.Walked.{walk-meets}
 use denote.Exit.{yes}
 use Rattle.journal.specs.Types.{Record}

@@ -28,13 +28,10 @@ use prog.Wp.{Heap, Env, Wp, WpFn, Tables, afterTurn, afterBlock, afterSeq, atRet
 use ghost.Atoms.{Atoms, sem}
 use contract.Monad.{Fun, fact}
 use contract.Running.{givenOf, tables, tablesOf}
-use types.Kit.{Given, Item, Sq, runs, anyQ, ‵, raw, _⊛_, ⋆, given, some, later, atRet, _$_, _∵_, !, qed, by, move}
-use types.Kit.{keep, drop}
+use types.Kit.{Given, Item, Sq, runs, anyQ, ‵, raw, _⊛_, ⋆, given, some, later, atRet, _$_, _∵_, !, qed, by, move, keep, drop}
 use types.Kit.{use1, split, join, pick, learn, await, rewrite, fsplit, fjoin, feqI, suffices, frame, done}
-use types.Run.{look, init, store, store-raw, forget, stop, hop, fld, from, load, lit, unit-lit, of-opd, bin, and-then}
-use types.Run.{no-more}
-use types.Run.{assigns, assigns-last, land, first, blocks, loops, again, Below, stays, leaves-loop, exec, returns}
-use types.Run.{enter}
+use types.Run.{look, init, store, store-raw, forget, stop, hop, fld, from, load, lit, unit-lit, of-opd, bin, and-then, no-more}
+use types.Run.{assigns, assigns-last, land, first, blocks, loops, again, Below, stays, leaves-loop, exec, returns, enter}
 use types.Run.{alloc1, alloc0, params1, pass1, pass0, free1, free0}
 use types.Part.{whole, sub, look-in}
 use sound.WpLaws.{fmOf, WpFn-mono}
@@ -57,15 +54,13 @@ use denote.Triple.Clauses.{ensured, lasts}
 use denote.Triple.Entry.{onEntry}
 use denote.Triple.Spec.{Meets, tripleOf}
 use denote.Triple.Table.{entered, cited}
-use denote.Triple.Walked.{says, Stays, stay-none, stay-slice, walkOf, goes-none, goes-slice, Walks, ends-at, walked}
-use denote.Triple.Walked.{walk-meets}
+use denote.Triple.Walked.{says, Stays, stay-none, stay-slice, walkOf, goes-none, goes-slice, Walks, ends-at, walked, walk-meets}
 use denote.Exit.{yes}
 use borrow.Author.Tests.{ltb-true, ltb-false}
 use Rattle.common.proofs.Tests.{by-cases}
 use Rattle.journal.specs.Types.{Record, Batch}
 use Rattle.journal.specs.Journal.{blank, recordAt, batchLength, appended}
-use Rattle.journal.proofs.Appended.{written, count, fitting-few, fitting-room, written-length, written-more}
-use Rattle.journal.proofs.Appended.{all-written}
+use Rattle.journal.proofs.Appended.{written, count, fitting-few, fitting-room, written-length, written-more, all-written}
 use Rattle.journal.proofs.Appended.{length-appended}
 use Rattle.journal.proofs.record.Record as R
 use Rattle.journal.proofs.record.Record.Laws as R′
@@ -276,8 +271,7 @@ module _ {M : Type 1} (𝓤 : URA M) (H : Heap 𝓤) (A : Atoms 𝓤) (W : Given
           use1 W (raw (fact 𝓤 (r ≡ recordAt (h .items) k))) (nth-says k r) $ heard ! (r ≡ recordAt (h .items) k) (λ e.
           split ! $ drop ! $ peeks ! R.the-row (Is R.the-row) (shows 𝓤 H A R.the-row) r (v ∷ []) (λ ok.
           land ! (from ! (stop !)) (init ! 11 refl (typed r v ok)) $
-          -- _9 = _2 + _5, _10 = _9 * 4, _11 = _1.0 offset by _10: [what r owns; the row; the open borrow; two facts;
-          -- _11; …]
+          -- _9 = _2 + _5, _10 = _9 * 4, _11 = _1.0 offset by _10: [what r owns; the row; the open borrow; two facts; _11; …]
           assigns ! (bin ! (load ! (from ! (stop !)) (look ! 23 refl)) (load ! (from ! (stop !)) (look ! 17 refl))
           (record { fits = omega (arith, room .0) })) (from ! (stop !)) (init ! 9 refl (tt, record { fits = omega (arith, room .0) })) $
           assigns ! (bin ! (load ! (from ! (stop !)) (look ! 9 refl)) (lit ! tt)
@@ -287,8 +281,7 @@ module _ {M : Type 1} (𝓤 : URA M) (H : Heap 𝓤) (A : Atoms 𝓤) (W : Given
           rewrite ! 5 (λ (p : ℕ). cell tyPtr l₁₁ (vptr b p)) (sym (place-is 4 o (at + k))) refl $
           move ! (1 ∷ []) $ elem-out ! R.the-row (Is R.the-row) (shows 𝓤 H A R.the-row) (LL.vals R.the-type R′.the-laws)
           (LL.tells R.the-type R′.the-laws) fullShare (upto k) (at + k) blank b o here (λ _.
-          -- *_11 = _8: [journal[at + k]; what it owns; the other records; what r owns; the open borrow; two facts; _11;
-          -- …]
+          -- *_11 = _8: [journal[at + k]; what it owns; the other records; what r owns; the open borrow; two facts; _11; …]
           assigns ! (of-opd ! (load ! (from ! (stop !)) (look ! 13 refl))) (from ! (hop ! (look ! 7 refl) (stop !)))
           (store-raw ! 0 refl (typed r v ok)) $
           move ! (1 ∷ []) $ drop ! $ move ! (0 ∷ 2 ∷ 1 ∷ []) $

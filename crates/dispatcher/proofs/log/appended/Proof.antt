@@ -1,0 +1,58 @@
+-- `appended` meets its contract: all records of the batch are written, or none.
+-- Assumes nothing.
+use mathlib.Core.Path.{_≡_, ap, subst⁻¹, _∙_}
+use Prim.Native.Nat.{ℕ, _≤_}
+use lib.ListN.{length}
+use lib.Seq.{paste}
+use borrow.Author.Needs.{needs}
+use Rattle.journal.specs.Journal.{batchLength, fitting}
+use Rattle.journal.proofs.Appended.{fitting-few, fitting-room, all-written}
+use Rattle.dispatcher.specs.Types.{Record, Batch}
+use mathlib.Core.List.{List}
+use Rattle.dispatcher.proofs.log.appended.Statement.{statement}
+use Rattle.dispatcher.proofs.log.appended.Tie as tie
+
+log-length-requires : tie.Need-log-length-requires
+log-length-requires c κs = search needs
+
+fitting-requires : tie.Need-fitting-requires
+fitting-requires c κs = search needs
+
+-- how many are written
+module _ (c : tie.After-fitting) where
+  abbrev start : tie.Start
+  start = c .before .before .before .before
+
+  abbrev records : List Record
+  records = start .args .log .records
+
+  abbrev batch : Batch
+  batch = start .args .batch
+
+  count : c .fitting .result ≡ fitting (length records) (start .args .at) (batch .n)
+  count = c .fitting .ensures ∙ ap (λ (l : ℕ). fitting l (start .args .at) (batch .n)) (c .before .log-length .ensures)
+
+with-items-requires : tie.Need-with-items-requires
+with-items-requires c κs =
+    let at = start c .args .at in
+    let n = batch c .n in (
+      subst⁻¹ (λ (m : ℕ). m ≤ batchLength) (count c) (fitting-few (length (records c)) at n),
+      λ k h. fitting-room (length (records c)) at n k (rw (count c) at h),
+    )
+
+returns : tie.Need-returns
+returns c =
+    let d = c .before in
+    let at = start d .args .at in
+    c .with-items .ensures
+    ∙ ap (λ (m : ℕ). paste (records d) at (batch d .items) m) (count d)
+    ∙ all-written (records d) at (batch d)
+
+pub appended-spec : {M : Type 1} → statement M
+appended-spec =
+    tie.close
+    (tie.spec
+    log-length-requires
+    fitting-requires
+    with-items-requires
+    returns)

@@ -1,0 +1,43 @@
+// The answer to a frame: the step, and then its records are written to the journal.
+ghost use mathlib.Core.Path.{_≡_};
+ghost use Rattle.dispatcher.specs.Answer.{answerOf, answer};
+use crate::log::Log;
+use crate::log::appended;
+use crate::log::log_length;
+use crate::state::State;
+use crate::step::Reply;
+use crate::step::step;
+use journal::Record;
+
+// Answers a frame. The answers' frames are at the beginning of `out`.
+pub fn answer(
+    state: State,
+    table: &[u8],
+    journal: &mut [Record],
+    frame: &[u8],
+    out: &mut [u8],
+) -> Reply
+    ensures { λ r. ⌜ answerOf r (now (journal .exit)) (now (out .exit)) ≡ answer state (now (table .entry)) (now (journal .entry)) (now (frame .entry)) (now (out .entry)) ⌝ }
+{
+    let o = step(state, table, journal.len(), frame, out);
+    journal::append(journal, o.at, o.batch);
+    o.reply
+}
+
+// A reply, and the journal afterwards.
+pub struct Logged {
+    pub reply: Reply,
+    pub log: Log,
+}
+
+// The same with a journal by value.
+pub fn answer_log(state: State, table: &[u8], log: Log, frame: &[u8], out: &mut [u8]) -> Logged
+    ensures { λ r. ⌜ answerOf (r .reply) (r .log .records) (now (out .exit)) ≡ answer state (now (table .entry)) (log .records) (now (frame .entry)) (now (out .entry)) ⌝ }
+{
+    let records = log.records;
+    let o = step(state, table, log_length(records), frame, out);
+    let reply = o.reply;
+    let batch = o.batch;
+    let log = appended(log, o.at, batch);
+    Logged { reply, log }
+}
