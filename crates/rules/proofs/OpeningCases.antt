@@ -28,10 +28,10 @@ use Rattle.journal.specs.Journal.{journalLength}
 use Rattle.completion.specs.Configuration.{start, code, codeBelow, feasible}
 use Rattle.completion.specs.Table.{tableLength, bitOf, filled, Filling}
 use Rattle.completion.proofs.Codes.{code-cong}
-use Rattle.dispatcher.specs.Types.{Line, Opened}
+use Rattle.rules.specs.Types.{Line, Opened}
 use Rattle.rules.specs.State.{noTrain}
-use Rattle.rules.specs.Opening.{openingChecks, fresh, openedState, emptyState, Opening, opened, openingOf, refusedBook}
-use Rattle.rules.specs.Opening.{openingWith}
+use Rattle.rules.specs.Opening.{openingChecks, fresh, openedState, emptyState, Opening, opened, openingOf}
+use Rattle.rules.specs.Opening.{refusedBook, openingWith}
 
 -- ---- parts of the opening
 
