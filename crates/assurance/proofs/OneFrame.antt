@@ -16,8 +16,7 @@ use Rattle.rules.specs.Answer.{answer}
 use Rattle.rules.proofs.Validity.{Distinct, valid-facts, is-valid}
 use Rattle.rules.proofs.Changes.{distinct-change}
 use Rattle.rules.proofs.Oldest.{Oldest, oldest-none, oldest-some, earlier}
-use Rattle.rules.proofs.Grants.{askedCount, Turn, granted-fewer, granted-place, none-asked, few-asked}
-use Rattle.rules.proofs.Grants.{settled-next}
+use Rattle.rules.proofs.Grants.{askedCount, Turn, granted-fewer, granted-place, none-asked, few-asked, settled-next}
 use Rattle.rules.proofs.Settling.{settled-settles}
 use Rattle.rules.proofs.Acceptance.{by-verdict, accepted-facts}
 use Rattle.assurance.specs.Types.{Fe, Record, State, Sent}

@@ -1,20 +1,18 @@
 -- The observer tells of each train what its record says, so that the invariant says what is claimed.
 -- Assumes nothing.
 use mathlib.Core.Path.{_≡_, refl, sym, ap, _∙_}
-use mathlib.Core.List.{List, List·Memᴰ}
+use mathlib.Core.List.{List}
 use Prim.Native.Nat.{ℕ, _<_}
 use Rattle.common.proofs.Below.{count-cong}
 use Rattle.line.specs.Holding.{Whereabouts, holdsPost}
 use Rattle.rules.specs.declared.state.Status.{Status}
 use Rattle.rules.specs.declared.state.Status.the-variants.{Free, Asked, Running}
-use Rattle.rules.specs.State.{isAsked, isRunning, nextOf, trainOf, lineOf, locatedBy as recordedBy}
-use Rattle.rules.specs.State.{located as recorded}
+use Rattle.rules.specs.State.{isAsked, isRunning, nextOf, trainOf, lineOf, locatedBy as recordedBy, located as recorded}
 use Rattle.rules.proofs.Trains.{route-of}
 use Rattle.rules.proofs.Validity.{one-holder, is-valid}
-use Rattle.assurance.specs.Types.{Move, Fe}
-use Rattle.assurance.specs.Run.{Exchange, Ran}
-use Rattle.assurance.specs.Observer.{Seen, Observer, answersOf, locatedBy, located, hasAuthority, hasAsked}
-use Rattle.assurance.specs.WholeList.{Requested, ShortOfEnd, Unhindered, Assured}
+use Rattle.assurance.specs.Run.{Ran}
+use Rattle.assurance.specs.Observer.{Seen, Observer, locatedBy, located, hasAuthority, hasAsked}
+use Rattle.assurance.specs.WholeList.{ShortOfEnd, Unhindered, Assured}
 use Rattle.assurance.proofs.Invariant.{claimOf, seenOf}
 use Rattle.assurance.proofs.Standstill.{goes-on}
 use Rattle.assurance.proofs.Exchanged.{Settled}
@@ -62,7 +60,8 @@ module _ (table : List ℕ) (r : Ran) (o : Observer) (k : Settled table (r .stat
         known = g .1;
         short = λ e. g .2 (sym (at-post (g .0) (g .1)) ∙ e ∙ rw (route-of s (g .0)));
         unasked =
-            ap (λ (y : Seen). hasAsked (y .claim)) (seen (g .0) (g .1)) ∙ asked-as (trainOf s (g .0) .status) _ _ ∙ g .3;
+            ap (λ (y : Seen). hasAsked (y .claim)) (seen (g .0) (g .1)) ∙ asked-as (trainOf s (g .0) .status) _ _
+            ∙ g .3;
       }
 
   pub assured : AllRequested r → Assured (lineOf (r .state)) r o
@@ -80,6 +79,11 @@ module _ (table : List ℕ) (r : Ran) (o : Observer) (k : Settled table (r .stat
         authorities-given = λ t kt. k .kept .each t kt .authorities;
         authorities-seen = λ t kt.
             k .kept .each t kt .authorities
-            ∙ rw (seen t kt, route-of s t, authority-as (trainOf s t .status) (trainOf s t .at .0) (nextOf (trainOf s t)));
+            ∙ rw (
+              seen t kt,
+              route-of s t,
+              authority-as (trainOf s t .status) (trainOf s t .at .0)
+                  (nextOf (trainOf s t)),
+            );
         valid-state = is-valid s (k .kept .valid-state);
       }

@@ -50,11 +50,13 @@ pub record Unhindered (l : Line) (o : Observer) : Type 0 where
 
 pub record Assured (l : Line) (r : Ran) (o : Observer) : Type 0 where
   -- "no section has two holders"
-  pub sections : (i t u : ℕ) → t < l .trains → u < l .trains → holdsSection (located o t) i ≡ true → holdsSection (located o u) i ≡ true → t ≡ u
+  pub sections : (i t u : ℕ) → t < l .trains → u < l .trains → holdsSection (located o t) i ≡ true
+      → holdsSection (located o u) i ≡ true → t ≡ u
   -- "no post is held by more trains than it has tracks"
   pub posts : (p : ℕ) → p < l .posts → postHolders (l .trains) (located o) p ≤ tracksAt l p
   -- "Every authority written has its logged request."
-  pub requests : (e : Exchange) → List·Memᴰ e (r .exchanges) → (m : Move) → List·Memᴰ (Fe m) (answersOf (e .verdict) (e .out)) → Requested r m
+  pub requests : (e : Exchange) → List·Memᴰ e (r .exchanges) → (m : Move)
+      → List·Memᴰ (Fe m) (answersOf (e .verdict) (e .out)) → Requested r m
   -- "While any train is short of its end, at least one such train has an authority or has not asked for its next
   -- section."
   pub onward : (t : ℕ) → t < l .trains → ShortOfEnd l o t → Unhindered l o

@@ -8,8 +8,8 @@ use native.Mathlib.Nat.{not-suc-le-zero}
 use native.Mathlib.Numerals.{add-one}
 use native.Mathlib.Omega.{arith}
 use Rattle.common.specs.Below.{ofBool, countBelow, allBelow, anyBelow}
-use Rattle.common.proofs.Tests.{clash, by-cases, by-equality, not-passed, and-left, and-right, and-both}
-use Rattle.common.proofs.Tests.{or-left, or-right}
+use Rattle.common.proofs.Tests.{clash, by-cases, by-equality, not-passed, and-left, and-right, and-both, or-left}
+use Rattle.common.proofs.Tests.{or-right}
 
 pub ofBool-le : (b : Bool) → ofBool b ≤ 1
 ofBool-le true = omega arith
@@ -80,7 +80,8 @@ one-counted (suc n) f h t u kt ku p q = at (λ z lt lu. one-counted n f z t u lt
 
     at : (countBelow n f ≤ 1 → t < n → u < n → t ≡ u) → t ≡ u
     at ih = by-equality t n
-        (λ a. by-equality u n (λ b. omega arith) (λ b. let z : f n ≡ true = rw a at p in absurd (alone u (omega arith) q z)))
+        (λ a. by-equality u n (λ b. omega arith) (λ b. let z : f n ≡ true =
+        rw a at p in absurd (alone u (omega arith) q z)))
         (λ a. by-equality u n
         (λ b. let z : f n ≡ true = rw b at q in absurd (alone t (omega arith) p z))
         (λ b. ih (omega arith) (omega arith) (omega arith)))
@@ -92,7 +93,8 @@ unfolding countBelow
 counted-one zero f h = omega arith
 counted-one (suc n) f h = by-cases (f n)
     (λ e.
-    let alone : (u : ℕ) → u < n → f u ≡ true → ⊥ = λ u l p. let y = h u n (omega arith) (omega arith) p e in omega arith in
+    let alone : (u : ℕ) → u < n → f u ≡ true → ⊥ = λ u l p. let y =
+    h u n (omega arith) (omega arith) p e in omega arith in
     rw (e, count-none n f (λ u l. not-passed (f u) (alone u l))) (omega arith))
     (λ e. rw e (omega (arith, counted-one n f (λ t u kt ku. h t u (omega arith) (omega arith)))))
 
@@ -117,7 +119,8 @@ unfolding anyBelow
 any-below zero f e = absurd (false≢true e)
 any-below (suc n) f e = by-cases (f n)
     (λ p. (n, omega arith, p))
-    (λ p. let z : anyBelow n f ≡ true = rw p at e in let r = any-below n f z in (r .0, (let y = r .1 in omega arith), r .2))
+    (λ p. let z : anyBelow n f ≡ true = rw p at e in let r =
+    any-below n f z in (r .0, (let y = r .1 in omega arith), r .2))
 
 pub below-any : (n : ℕ) (f : ℕ → Bool) (u : ℕ) → u < n → f u ≡ true → anyBelow n f ≡ true
 unfolding anyBelow

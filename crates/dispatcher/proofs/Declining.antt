@@ -22,13 +22,15 @@ module _ (s : State) (a : Message) (x : Train) (r : Ready s a x) where
 
   pub ready-logged : (table : List ℕ) → settled table (taken s a x) .state .logged ≤ journalLength
   ready-logged table =
-      settled-roomy table (taken s a x) (begun-roomy (withTrain s (moveIn a .train .0) x) a (r .2) (r .1)) .valid-state .few-logged
+      settled-roomy table (taken s a x)
+      (begun-roomy (withTrain s (moveIn a .train .0) x) a (r .2) (r .1)) .valid-state .few-logged
 
 module _ (m : Move) (w : Work) where
   abbrev asks : State → Bool
   asks s = isAsked (trainOf s (m .train .0) .status)
 
-  still-asked : asks (w .state) ≡ true → progressWith (w .state) (batchOf (w .logged)) (Afe m) ≡ progressOf (declined m w)
+  still-asked : asks (w .state) ≡ true → progressWith (w .state) (batchOf (w .logged)) (Afe m) ≡ progressOf
+      (declined m w)
   still-asked e = logged-more (w .state) (w .logged) (Afe m) ∙ rw e
 
   not-asked : asks (w .state) ≡ false → progressOf w ≡ progressOf (declined m w)
@@ -36,7 +38,8 @@ module _ (m : Move) (w : Work) where
 
   module _ (p : Progress) (held : p ≡ progressOf w) where
     pub declined-asker : asks (p .state) ≡ true → progressWith (p .state) (p .batch) (Afe m) ≡ progressOf (declined m w)
-    declined-asker = subst⁻¹ (λ (q : Progress). asks (q .state) ≡ true → progressWith (q .state) (q .batch) (Afe m) ≡ progressOf (declined m w)) held still-asked
+    declined-asker = subst⁻¹ (λ (q : Progress). asks (q .state) ≡ true → progressWith (q .state) (q .batch)
+        (Afe m) ≡ progressOf (declined m w)) held still-asked
 
     pub granted-asker : asks (p .state) ≡ false → p ≡ progressOf (declined m w)
     granted-asker = subst⁻¹ (λ (q : Progress). asks (q .state) ≡ false → q ≡ progressOf (declined m w)) held not-asked

@@ -40,8 +40,12 @@ loop-again : tie.Need-loop-again Inv-loop μ-loop
 loop-again c =
     let seen =
     c .before .holds-section .ensures
-    ∙ ap (λ (x : Train). holdsSection (locatedAt x) (c .before .before .before .before .before .before .args .i .0)) (c .before .before .train-of .ensures) in
-    (omega arith, set-more _ _ _ (c .before .before .before .before .before .loop .inv .1) _ _ seen (c .with-holder .ensures))
+    ∙ ap (λ (x : Train). holdsSection (locatedAt x) (c .before .before .before .before .before .before .args .i .0))
+    (c .before .before .train-of .ensures) in (
+      omega arith,
+      set-more _ _ _ (c .before .before .before .before .before .loop .inv .1) _ _ seen
+          (c .with-holder .ensures),
+    )
 
 returns : tie.Need-returns Inv-loop μ-loop
 returns c =

@@ -1,4 +1,5 @@
--- `arrival` meets its contract: the train's record is changed as the definition has it, and then the granting is its own.
+-- `arrival` meets its contract: the train's record is changed as the definition has it, and then the granting is its
+-- own.
 -- Assumes nothing.
 use mathlib.Core.Path.{_≡_, ap, subst⁻¹, _∙_}
 use mathlib.Core.Bool.{true}
@@ -24,7 +25,8 @@ arrived-requires : tie.Need-arrived-requires
 arrived-requires c κs = search needs
 
 with-train-requires : tie.Need-with-train-requires
-with-train-requires c κs = let a = c .before .before .before .args in ready-train (a .state) (Am (a .m)) _ (c .before .before .before .pre)
+with-train-requires c κs = let a = c .before .before .before .args in ready-train (a .state) (Am (a .m)) _
+    (c .before .before .before .pre)
 
 -- the state with the train's new record
 module _ (c : tie.After-with-train) where
@@ -41,7 +43,8 @@ module _ (c : tie.After-with-train) where
   x = arrivedNext (trainOf s (m .train .0))
 
   changed : c .with-train .result ≡ withTrain s (m .train .0) x
-  changed = c .with-train .ensures ∙ ap (withTrain s (m .train .0)) (c .before .arrived .ensures ∙ ap (λ (y : Train). arrivedNext y) (c .before .before .train-of .ensures))
+  changed = c .with-train .ensures ∙ ap (withTrain s (m .train .0)) (c .before .arrived .ensures
+      ∙ ap (λ (y : Train). arrivedNext y) (c .before .before .train-of .ensures))
 
 settle-requires : tie.Need-settle-requires
 settle-requires c κs =
@@ -53,10 +56,12 @@ module _ (c : tie.After-settle) where
   abbrev begun : tie.After-with-train
   begun = c .before
 
-  ended : c .settle .result ≡ progressOf (settled (now (start begun .args .table)) (taken (s begun) (Am (m begun)) (x begun)))
+  ended : c .settle .result ≡ progressOf
+      (settled (now (start begun .args .table)) (taken (s begun) (Am (m begun)) (x begun)))
   ended =
       c .settle .ensures
-      ∙ ap (λ (t : State). progressOf (settled (now (start begun .args .table)) (log t [] (Am (m begun))))) (changed begun)
+      ∙ ap (λ (t : State). progressOf (settled (now (start begun .args .table)) (log t [] (Am (m begun)))))
+      (changed begun)
 
 returns : tie.Need-returns
 unfolding accepted

@@ -1,4 +1,5 @@
--- `request` meets its contract: the train's record is changed as the definition has it, and then the granting is its own.
+-- `request` meets its contract: the train's record is changed as the definition has it, and then the granting is its
+-- own.
 -- Assumes nothing.
 use mathlib.Core.Path.{_≡_, ap, subst⁻¹, _∙_}
 use mathlib.Core.Bool.{true}
@@ -24,7 +25,8 @@ with-status-requires : tie.Need-with-status-requires
 with-status-requires c κs = search needs
 
 with-train-requires : tie.Need-with-train-requires
-with-train-requires c κs = let a = c .before .before .before .args in ready-train (a .state) (Fa (a .m)) _ (c .before .before .before .pre)
+with-train-requires c κs = let a = c .before .before .before .args in ready-train (a .state) (Fa (a .m)) _
+    (c .before .before .before .pre)
 
 -- the state with the train's new record
 module _ (c : tie.After-with-train) where
@@ -41,7 +43,8 @@ module _ (c : tie.After-with-train) where
   x = withStatus (trainOf s (m .train .0)) (Asked (s .logged))
 
   changed : c .with-train .result ≡ withTrain s (m .train .0) x
-  changed = c .with-train .ensures ∙ ap (withTrain s (m .train .0)) (c .before .with-status .ensures ∙ ap (λ (y : Train). withStatus y (Asked (s .logged))) (c .before .before .train-of .ensures))
+  changed = c .with-train .ensures ∙ ap (withTrain s (m .train .0)) (c .before .with-status .ensures
+      ∙ ap (λ (y : Train). withStatus y (Asked (s .logged))) (c .before .before .train-of .ensures))
 
 settle-requires : tie.Need-settle-requires
 settle-requires c κs =
@@ -53,17 +56,20 @@ module _ (c : tie.After-settle) where
   abbrev begun : tie.After-with-train
   begun = c .before
 
-  ended : c .settle .result ≡ progressOf (settled (now (start begun .args .table)) (taken (s begun) (Fa (m begun)) (x begun)))
+  ended : c .settle .result ≡ progressOf
+      (settled (now (start begun .args .table)) (taken (s begun) (Fa (m begun)) (x begun)))
   ended =
       c .settle .ensures
-      ∙ ap (λ (t : State). progressOf (settled (now (start begun .args .table)) (log t [] (Fa (m begun))))) (changed begun)
+      ∙ ap (λ (t : State). progressOf (settled (now (start begun .args .table)) (log t [] (Fa (m begun)))))
+      (changed begun)
 
 decline-requires : tie.Need-decline-requires
 decline-requires c κs =
     let b = begun c in
     let ready = start b .pre in (
       ready-train (s b) (Fa (m b)) (x b) ready,
-      subst⁻¹ (λ (p : Progress). p .state .logged ≤ journalLength) (ended c) (ready-logged (s b) (Fa (m b)) (x b) ready (now (start b .args .table))),
+      subst⁻¹ (λ (p : Progress). p .state .logged ≤ journalLength) (ended c)
+          (ready-logged (s b) (Fa (m b)) (x b) ready (now (start b .args .table))),
     )
 
 returns : tie.Need-returns
