@@ -4,17 +4,35 @@ use mathlib.Core.Path.{_≡_}
 use mathlib.Core.Logic.{_≢_}
 use mathlib.Core.Bool.{true, false}
 use mathlib.Core.List.{List, _∷_, _++_}
-use Prim.Native.Nat.{ℕ, _<_}
-use Rattle.rules.specs.State.{askedAs, trainOf, nextMove}
+use Prim.Native.Nat.{ℕ, _≤_, _<_}
+use Rattle.completion.specs.Configuration.{moved, codeBelow}
+use Rattle.completion.specs.Table.{codeCount}
+use Rattle.rules.specs.State.{isAsked, askedAs, trainOf, reached, nextMove}
 use Rattle.rules.specs.Valid.{valid}
 use Rattle.rules.specs.Granting.{grantable, Work, granted, settled}
 use Rattle.rules.specs.Answer.{answer}
-use Rattle.assurance.specs.Types.{Message, Fe, Record, State, Sent}
+use Rattle.assurance.specs.Types.{Message, Fe, Record, State, Sent, RefusedBy}
 
 -- a valid state stays valid
 abbrev pub ValidKept : Type 0
 ValidKept = (s : State) (table : List ℕ) (journal : List Record) (frame out : List ℕ)
     → valid s ≡ true → valid (answer s table journal frame out .state) ≡ true
+
+-- "A refusal returns its number and the state unchanged, and changes no buffer."
+abbrev pub RefusalsChangeNothing : Type 0
+RefusalsChangeNothing = (s : State) (table : List ℕ) (journal : List Record) (frame out : List ℕ) (n : ℕ)
+    → answer s table journal frame out .verdict ≡ RefusedBy n
+    → answer s table journal frame out ≡ record { state = s; verdict = RefusedBy n; journal = journal; out = out }
+
+-- "At most 6 frames go out"
+abbrev pub AtMostSix : Type 0
+AtMostSix = (s : State) (table : List ℕ) (journal : List Record) (frame out : List ℕ) (n : ℕ)
+    → answer s table journal frame out .verdict ≡ Sent n → n ≤ 6
+
+-- the placing that a grant asks for has its bit in the table
+abbrev pub BitInTable : Type 0
+BitInTable = (s : State) (t : ℕ) → valid s ≡ true → t < s .trains → isAsked (trainOf s t .status) ≡ true
+    → codeBelow (s .trains) (moved (reached s) t) < codeCount
 
 -- none can be granted
 abbrev pub NoneLeft : List ℕ → State → Type 0

@@ -50,8 +50,7 @@ written-none o items room seven = record {
   room = room;
   seven = seven;
   few = omega arith;
-  written =
-      sym (replaced-none o 0);
+  written = sym (replaced-none o 0);
 }
 
 module _ (o : List ℕ) (items : List Record) (out : List ℕ) (k : ℕ) (w : Written o items out k) where

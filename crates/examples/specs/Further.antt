@@ -82,8 +82,7 @@ withRecords n frames =
       tracks = s .tracks;
       trains = s .trains;
       fleet = s .fleet;
-      logged =
-          n;
+      logged = n;
     } in
     ranFrom made (opened bookX .table) frames
 

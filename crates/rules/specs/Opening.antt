@@ -36,8 +36,7 @@ openedState l = record {
   posts = l .posts;
   tracks = l .tracks;
   trains = l .trains;
-  fleet =
-      tabulate 6 (λ t. fresh (routeOf l t));
+  fleet = tabulate 6 (λ t. fresh (routeOf l t));
   logged = 0;
 }
 
@@ -62,8 +61,7 @@ abbrev pub refusedBook : Line → List ℕ → ℕ → Opening
 refusedBook l table n = record {
   state = emptyState;
   number = n;
-  table =
-      cond (eqb n noWayThrough) (filled l table) table;
+  table = cond (eqb n noWayThrough) (filled l table) table;
 }
 
 -- with a journal of so many records, which is untouched

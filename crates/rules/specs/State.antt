@@ -106,6 +106,5 @@ oneLogged s = record {
   tracks = s .tracks;
   trains = s .trains;
   fleet = s .fleet;
-  logged =
-      s .logged + 1;
+  logged = s .logged + 1;
 }
