@@ -75,8 +75,8 @@ fitting len at n = cond (fit len at n) n 0
 unfoldable pub appended : List Record → ℕ → Batch → List Record
 appended j at b = cond (fit (length j) at (b .n)) (take at j ++ records b ++ drop (at + b .n) j) j
 
--- the claim on writing: each record of the batch stands in its place, and "records past the count are untouched", as are
--- those before it
+-- the claim on writing: each record of the batch stands in its place, and "records past the count are untouched", as
+-- are those before it
 pub record OnlyAppended : Type 0 where
   pub below : (j : List Record) (at : ℕ) (b : Batch) → length (b .items) ≡ batchLength
       → (i : ℕ) → i < at → recordAt (appended j at b) i ≡ recordAt j i
