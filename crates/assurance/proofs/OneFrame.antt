@@ -10,20 +10,23 @@ use lib.ListN.{length, length-drop}
 use Rattle.common.proofs.Tests.{by-equality}
 use Rattle.frame.specs.Frame.{readFrame}
 use Rattle.rules.specs.declared.state.Status.the-variants.{Running}
-use Rattle.rules.specs.State.{trainOf, nextMove, withStatus}
+use Rattle.completion.specs.Configuration.{moved}
+use Rattle.completion.specs.Table.{filled}
+use Rattle.completion.proofs.Rule.{bit-completable, completable-bit}
+use Rattle.rules.specs.State.{trainOf, lineOf, reached, nextMove, withStatus}
 use Rattle.rules.specs.Valid.{valid}
 use Rattle.rules.specs.Granting.{oldest, Work, granted, proceed, grants}
 use Rattle.rules.specs.Answer.{accepted, sent, refused, answer}
 use Rattle.rules.proofs.Validity.{Distinct, valid-facts, is-valid}
-use Rattle.rules.proofs.Changes.{distinct-change}
-use Rattle.rules.proofs.Reached.{moved-code}
+use Rattle.rules.proofs.Changes.{distinct-change, grantable-facts, is-grantable}
+use Rattle.rules.proofs.Reached.{moved-within, moved-code}
 use Rattle.rules.proofs.Oldest.{Oldest, oldest-none, oldest-some, earlier}
 use Rattle.rules.proofs.Grants.{askedCount, Turn, granted-fewer, granted-place, none-asked, few-asked, settled-next}
 use Rattle.rules.proofs.Settling.{settled-settles}
 use Rattle.rules.proofs.Acceptance.{by-verdict, accepted-facts}
 use Rattle.assurance.specs.Types.{Fe, Record, State, Sent, RefusedBy}
 use Rattle.assurance.specs.OneFrame.{ValidKept, RefusalsChangeNothing, AtMostSix, BitInTable, NoneLeft, First}
-use Rattle.assurance.specs.OneFrame.{Granting, done, next, ExactGrant, OldestFirst}
+use Rattle.assurance.specs.OneFrame.{Granting, done, next, ExactGrant, OldestFirst, RightGrant}
 
 pub valid-kept : ValidKept
 valid-kept s table journal frame out e =
@@ -105,3 +108,28 @@ oldest-first table w t e f =
       ap (λ (v : Work). v .logged) (sym (settled-next table w t d (first-turn table (w .state) t f))) ∙ rest .added ∙
           append-assoc (w .logged) (Fe (nextMove (w .state) t) ∷ []) (rest .answers),
     )
+
+-- ---- the grant, with the table of the line
+
+pub right-grant : RightGrant
+right-grant = record {
+  only = λ s table t e k g.
+      let d = valid-facts s e in
+      let f = grantable-facts (filled (lineOf s) table) s t g in
+      record {
+        asks = f .asks;
+        section = f .section;
+        post = f .post;
+        completable = bit-completable (lineOf s) (d .line) table (moved (reached s) t)
+            (moved-within s d t k (f .asks)) (f .bit);
+      };
+  then = λ s table t e k m.
+      let d = valid-facts s e in
+      is-grantable (filled (lineOf s) table) s t (record {
+        asks = m .asks;
+        section = m .section;
+        post = m .post;
+        bit = completable-bit (lineOf s) (d .line) table (moved (reached s) t) (moved-within s d t k (m .asks))
+            (m .completable);
+      });
+}

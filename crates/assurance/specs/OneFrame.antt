@@ -5,9 +5,12 @@ use mathlib.Core.Logic.{_≢_}
 use mathlib.Core.Bool.{true, false}
 use mathlib.Core.List.{List, _∷_, _++_}
 use Prim.Native.Nat.{ℕ, _≤_, _<_}
-use Rattle.completion.specs.Configuration.{moved, codeBelow}
-use Rattle.completion.specs.Table.{codeCount}
-use Rattle.rules.specs.State.{isAsked, askedAs, trainOf, reached, nextMove}
+use Rattle.line.specs.Route.{sectionOf}
+use Rattle.line.specs.Line.{tracksAt}
+use Rattle.line.specs.Holding.{postHolders, sectionHolders}
+use Rattle.completion.specs.Configuration.{Completable, moved, codeBelow}
+use Rattle.completion.specs.Table.{codeCount, filled}
+use Rattle.rules.specs.State.{isAsked, askedAs, nextOf, trainOf, lineOf, located, reached, nextMove}
 use Rattle.rules.specs.Valid.{valid}
 use Rattle.rules.specs.Granting.{grantable, Work, granted, settled}
 use Rattle.rules.specs.Answer.{answer}
@@ -65,3 +68,18 @@ pub record ExactGrant : Type 0 where
 abbrev pub OldestFirst : Type 0
 OldestFirst = (table : List ℕ) (w : Work) (t : ℕ) → valid (w .state) ≡ true → First table (w .state) t
     → (others : List Message) × (settled table w .logged ≡ w .logged ++ Fe (nextMove (w .state) t) ∷ others)
+
+-- what demand 2 asks for an authority: the train asked, "the section is free, the next post has a free track, and all
+-- trains could still reach their ends"
+pub record MayGo (s : State) (t : ℕ) : Type 0 where
+  pub asks : isAsked (trainOf s t .status) ≡ true
+  pub section : sectionHolders (s .trains) (located s) (sectionOf (trainOf s t .at .0) (nextOf (trainOf s t))) ≡ 0
+  pub post : postHolders (s .trains) (located s) (nextOf (trainOf s t)) < tracksAt (lineOf s) (nextOf (trainOf s t))
+  pub completable : Completable (lineOf s) (moved (reached s) t)
+
+-- with the table of the line, as every run from an opening has it, a train can be granted exactly then
+pub record RightGrant : Type 0 where
+  pub only : (s : State) (table : List ℕ) (t : ℕ) → valid s ≡ true → t < s .trains
+      → grantable (filled (lineOf s) table) s t ≡ true → MayGo s t
+  pub then : (s : State) (table : List ℕ) (t : ℕ) → valid s ≡ true → t < s .trains
+      → MayGo s t → grantable (filled (lineOf s) table) s t ≡ true
