@@ -55,10 +55,14 @@ module _ (s : State) (table : List ℕ) (count : ℕ) (frame out : List ℕ) (nu
     unfolding answer
     taken z = accepts _ (refused s journal out) (numbered ∙ z)
 
+  abbrev refusing : ℕ → Outcome
+  refusing n = outcomeOf s (RefusedBy n) 0 emptyBatch
+
   -- nothing is written
   pub step-refused : number ≢ 0 → (o : Outcome) → o ≡ outcomeOf s (RefusedBy number) 0 emptyBatch
       → Stepped s table count frame out o out
   step-refused h o e = record {
+    exact = e ∙ ap refusing given ∙ sym (refuses _ refusing (omega (arith, given)));
     answers = λ journal long.
         ap (λ (p : Outcome). answerOf (p .reply) (appended journal (p .at) (p .batch)) out) e
         ∙ ap (λ (j : List Record). refused s j out number) (appended-none journal 0 emptyBatch refl)
@@ -121,7 +125,13 @@ module _ (s : State) (table : List ℕ) (count : ℕ) (frame out : List ℕ) (nu
           let state : work .state ≡ p .state = ap (λ (q : Progress). q .state) (sym held) in
           let verdict : length (sent work) ≡ k = omega (arith, size, counted) in
           let bytes : replaced out 0 (framesOf (sent work)) ≡ after = ap (replaced out 0) (sym frames) ∙ sym ea in
+          let batch : batchOf (work .logged) ≡ p .batch = ap (λ (q : Progress). q .batch) (sym held) in
           record {
+            exact = sym (
+                accepts _ refusing (sym given ∙ zero)
+                ∙ ap (λ (t : State). outcomeOf t (Sent (length (sent work))) (s .logged) (batchOf (work .logged))) state
+                ∙ ap (λ (n : ℕ). outcomeOf (p .state) (Sent n) (s .logged) (batchOf (work .logged))) verdict
+                ∙ ap (outcomeOf (p .state) (Sent k) (s .logged)) batch);
             answers = λ journal long. sym (
                 taken journal long zero
                 ∙ ap (λ (t : State). made t (length (sent work))

@@ -5,14 +5,16 @@ use mathlib.Core.Bool.{true, false}
 use mathlib.Core.List.{List, [], _∷_, _++_}
 use Prim.Native.Nat.{ℕ, _+_, _-_, _≤_, _<_}
 use lib.ListN.{length, take, drop}
-use Rattle.common.specs.Check.{refusal}
+use Rattle.common.specs.Check.{refusal, unlessRefused}
 use Rattle.line.specs.Refusal.{wrongEnd}
-use Rattle.journal.specs.Journal.{journalLength, frameOf, appended}
+use Rattle.frame.specs.Frame.{readFrame}
+use Rattle.journal.specs.Journal.{journalLength, frameOf, emptyBatch, appended}
 use Rattle.dispatcher.specs.Types.{Message, Fa, Fe, Afe, Am, Refused, Record, Batch, Asked, Train, State, Verdict}
-use Rattle.dispatcher.specs.Types.{Outcome}
+use Rattle.dispatcher.specs.Types.{Sent, RefusedBy, Outcome}
+use Rattle.authority.specs.Progress.{batchOf}
 use Rattle.rules.specs.State.{trainOf, withStatus, arrivedNext}
 use Rattle.rules.specs.Valid.{valid}
-use Rattle.rules.specs.Answer.{mostLogged, moveIn, moveChecks, taken, answerOf, answer}
+use Rattle.rules.specs.Answer.{mostLogged, moveIn, moveChecks, frameChecks, taken, accepted, sent, answerOf, answer}
 
 -- ---- a frame
 
@@ -52,9 +54,18 @@ answersIn items n = take (n - 1) (drop 1 items)
 abbrev pub outcomeOf : State → Verdict → ℕ → Batch → Outcome
 outcomeOf s v at b = record { reply = record { state = s; verdict = v }; at = at; batch = b }
 
--- o, with the records of its batch written, and the out buffer afterwards are the answer, with every journal of so many
--- records
-pub record Stepped (s : State) (table : List ℕ) (records : ℕ) (frame out : List ℕ) (o : Outcome)
-    (after : List ℕ) : Type 0 where
+-- what a frame leaves by value: the reply, the place of the first record and the records
+abbrev pub outcomeFor : State → List ℕ → ℕ → List ℕ → ℕ → Outcome
+outcomeFor s table records frame room =
+    let w = accepted table s (readFrame frame) in
+    unlessRefused (refusal (frameChecks s (length table) records frame room))
+    (outcomeOf (w .state) (Sent (length (sent w))) (s .logged) (batchOf (w .logged)))
+    (λ n. outcomeOf s (RefusedBy n) 0 emptyBatch)
+
+-- o is that, and with its records written, and the out buffer afterwards, it is the answer, with every journal of so
+-- many records
+pub record Stepped (s : State) (table : List ℕ) (records : ℕ) (frame out : List ℕ) (o : Outcome) (after : List ℕ)
+    : Type 0 where
+  pub exact : o ≡ outcomeFor s table records frame (length out)
   pub answers : (journal : List Record) → length journal ≡ records
       → answerOf (o .reply) (appended journal (o .at) (o .batch)) after ≡ answer s table journal frame out
