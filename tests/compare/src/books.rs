@@ -27,7 +27,10 @@ pub fn any(random: &mut Random) -> (&'static str, Vec<u8>) {
         4 => ("book: wrong length", byte_altered(parts, 0..2, random)),
         5 => ("book: other edition", byte_altered(parts, 2..3, random)),
         6 => ("book: posts out of range", posts_out(parts, random)),
-        7 => ("book: ends before its trains", without_trains(parts, random)),
+        7 => (
+            "book: ends before its trains",
+            without_trains(parts, random),
+        ),
         8 => ("book: tracks out of range", tracks_out(parts, random)),
         9 => ("book: trains out of range", trains_out(parts, random)),
         10 => ("book: total differs", total_differs(parts, random)),

@@ -115,8 +115,16 @@ impl Counts {
         for (frames, count) in self.sent.iter().enumerate() {
             println!("  {frames:<44} {count:>12}");
         }
-        print_names("status of a train after an accepted frame", &STATUSES, &self.statuses);
-        print_names("phase of a unit after what it accepted", &PHASES, &self.phases);
+        print_names(
+            "status of a train after an accepted frame",
+            &STATUSES,
+            &self.statuses,
+        );
+        print_names(
+            "phase of a unit after what it accepted",
+            &PHASES,
+            &self.phases,
+        );
         let accepted = self.refusals[Entry::Answer as usize][0];
         println!("frames answered: {}, accepted: {accepted}", self.frames());
     }
@@ -144,7 +152,9 @@ impl Counts {
 
 fn never(what: &str, names: &[&str], counts: &[u64]) -> Vec<String> {
     let missing = names.iter().zip(counts).filter(|(_, count)| **count == 0);
-    missing.map(|(name, _)| format!("{what} {name} never reached")).collect()
+    missing
+        .map(|(name, _)| format!("{what} {name} never reached"))
+        .collect()
 }
 
 fn print_names(title: &str, names: &[&str], counts: &[u64]) {

@@ -28,7 +28,12 @@ impl Desk {
 
     /// The frames that the last answer wrote, given how many.
     pub fn answers(&self, sent: usize) -> Vec<Vec<u8>> {
-        self.out.bytes().chunks_exact(7).take(sent).map(<[u8]>::to_vec).collect()
+        self.out
+            .bytes()
+            .chunks_exact(7)
+            .take(sent)
+            .map(<[u8]>::to_vec)
+            .collect()
     }
 
     /// Puts a frame to the box. The out buffer is mostly as the frame before left it, at times

@@ -60,7 +60,10 @@ fn other_kind(mut frame: [u8; FRAME_BYTES]) -> Vec<u8> {
 /// A right frame with something wrong in it, or no frame at all.
 pub fn damaged(frame: [u8; FRAME_BYTES], random: &mut Random) -> (&'static str, Vec<u8>) {
     match random.below(10) {
-        0 => ("frame: cut short", frame[..random.below(FRAME_BYTES)].to_vec()),
+        0 => (
+            "frame: cut short",
+            frame[..random.below(FRAME_BYTES)].to_vec(),
+        ),
         1 => ("frame: longer", longer(frame, random)),
         2 => ("frame: wrong length", altered(frame, 0..2, random)),
         3 => ("frame: other version", altered(frame, 2..3, random)),

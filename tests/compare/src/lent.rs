@@ -118,7 +118,11 @@ mod tests {
         let random = &mut Random::new(1);
         for outside in [7, 8 + 24 + 5] {
             let mut lent = Lent::new(&[1, 2, 3, 4, 5], random);
-            let at = if outside == 7 { lent.front - 1 } else { lent.front + 5 };
+            let at = if outside == 7 {
+                lent.front - 1
+            } else {
+                lent.front + 5
+            };
             assert!(lent.agrees());
             lent.proved[at] ^= 1;
             assert!(!lent.agrees());

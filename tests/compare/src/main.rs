@@ -29,7 +29,7 @@ use random::Random;
 use std::process::ExitCode;
 
 /// Frames put to the box between two openings that are kept.
-const FRAMES_A_ROUND: u64 = 20_000;
+const FRAMES_A_ROUND: u64 = 5_000;
 
 /// Opened books, and altered tables, that are kept for runs.
 const KEPT: usize = 24;
@@ -92,9 +92,9 @@ fn all(pair: &mut Pair, options: &Options) -> Compared<()> {
     while pair.counts.frames() < options.frames {
         keep(&mut opened, openings::open_one(pair, random)?, random);
         keep(&mut strange, tables::strange(random), random);
-        openings::open_odd(pair, random, 8)?;
-        openings::read_books(pair, random, 500)?;
-        units::histories(pair, random, 200)?;
+        openings::open_odd(pair, random, 4)?;
+        openings::read_books(pair, random, 100)?;
+        units::histories(pair, random, 100)?;
         let end = options.frames.min(pair.counts.frames() + FRAMES_A_ROUND);
         while pair.counts.frames() < end {
             one_run(pair, &opened, &strange, random)?;

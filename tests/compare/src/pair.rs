@@ -37,7 +37,9 @@ impl Pair {
 
     pub fn read_book(&mut self, book: &mut Lent, line: &mut Lent) -> Compared<Reply> {
         line.keep();
-        let proved = self.proved.read_book(book.of_proved(), line.lend_to_proved());
+        let proved = self
+            .proved
+            .read_book(book.of_proved(), line.lend_to_proved());
         let model = self.model.read_book(book.bytes(), line.lend_to_model());
         let buffers = [("book", &*book), ("line", &*line)];
         self.settle(Entry::ReadBook, &[], [proved, model], &buffers, &[])
@@ -126,8 +128,12 @@ impl Pair {
     pub fn make_unit(&mut self, numbers: [u8; 3], unit: &mut Lent) -> Compared<Reply> {
         let [train, start, end] = numbers;
         unit.keep();
-        let proved = self.proved.make_unit(train, start, end, unit.lend_to_proved());
-        let model = self.model.make_unit(train, start, end, unit.lend_to_model());
+        let proved = self
+            .proved
+            .make_unit(train, start, end, unit.lend_to_proved());
+        let model = self
+            .model
+            .make_unit(train, start, end, unit.lend_to_model());
         let buffers = [("unit", &*unit)];
         let reply = self.settle(Entry::MakeUnit, &numbers, [proved, model], &buffers, &[])?;
         self.count_phase(reply, unit);

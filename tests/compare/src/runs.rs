@@ -16,23 +16,25 @@ pub type Strange = (&'static str, Lent);
 /// Frames of one whole run: enough for six trains to get home, with refused frames among them.
 const LONGEST_RUN: usize = 400;
 
-/// A run from the opening, by frames alone, until all trains are home or somebody jams.
+/// A run from the opening, by frames alone, until all trains are home or all that are not wait.
 pub fn whole(
     pair: &mut Pair,
     opened: &Opened,
     strange: &Strange,
     random: &mut Random,
 ) -> Compared<()> {
-    let table = choose_table(pair, opened, strange, random);
+    let table = choose_table(pair, opened, strange, 8, random);
     let mut desk = Desk::new(&opened.state, stores::journal(random), random);
     pair.counts.input("run: from an opened book");
     for _ in 0..LONGEST_RUN {
         put_any(pair, &mut desk, table, random)?;
-        if all_home(desk.state()) {
-            pair.counts.input("run: from an opened book, ended with all at home");
-            put_any(pair, &mut desk, table, random)?;
+        // A few frames more, which have to be refused.
+        if none_goes_on(desk.state()) && random.one_in(3) {
             break;
         }
+    }
+    if all_home(desk.state()) {
+        pair.counts.input("run: from an opened book, all home");
     }
     pair.unchanged(table)
 }
@@ -44,7 +46,7 @@ pub fn handed_in(
     strange: &Strange,
     random: &mut Random,
 ) -> Compared<()> {
-    let table = choose_table(pair, opened, strange, random);
+    let table = choose_table(pair, opened, strange, 2, random);
     let journal = if random.one_in(32) {
         pair.counts.input("journal: short");
         stores::short_journal(random)
@@ -56,6 +58,9 @@ pub fn handed_in(
     let mut desk = Desk::new(&state, journal, random);
     for _ in 0..1 + random.below(12) {
         put_any(pair, &mut desk, table, random)?;
+        if none_goes_on(desk.state()) && random.one_in(3) {
+            break;
+        }
     }
     pair.unchanged(table)
 }
@@ -67,28 +72,31 @@ pub fn with_units(
     strange: &Strange,
     random: &mut Random,
 ) -> Compared<()> {
-    let table = choose_table(pair, opened, strange, random);
+    let table = choose_table(pair, opened, strange, 8, random);
     let mut desk = Desk::new(&opened.state, stores::journal(random), random);
     let mut units = make_units(pair, &opened.state, random)?;
     pair.counts.input("run: with units");
     for _ in 0..LONGEST_RUN {
         step_with_units(pair, &mut desk, &mut units, table, random)?;
-        if all_home(desk.state()) {
-            pair.counts.input("run: with units, ended with all at home");
+        if none_goes_on(desk.state()) && random.one_in(3) {
             break;
         }
+    }
+    if all_home(desk.state()) {
+        pair.counts.input("run: with units, all home");
     }
     pair.unchanged(table)
 }
 
-/// Mostly the book's own table; an altered one every third time.
+/// The book's own table so many times for each altered one.
 fn choose_table<'a>(
     pair: &mut Pair,
     opened: &'a Opened,
     strange: &'a Strange,
+    own: usize,
     random: &mut Random,
 ) -> &'a Lent {
-    let (kind, table) = match random.below(6) {
+    let (kind, table) = match random.below(2 + own) {
         0 => ("table: of the book, bits flipped", &opened.flipped),
         1 => (strange.0, &strange.1),
         _ => ("table: of the book", &opened.table),
@@ -104,16 +112,25 @@ fn put_any(pair: &mut Pair, desk: &mut Desk, table: &Lent, random: &mut Random) 
     Ok(())
 }
 
-/// All trains of a state that both sides gave stand at their ends.
+/// The trains of a state, five bytes each; of other bytes, none.
+fn trains_of(state: &[u8]) -> impl Iterator<Item = &[u8]> {
+    let trains = state.get(TRAINS_AT - 1).copied().unwrap_or(0);
+    let places = state.get(TRAINS_AT..).unwrap_or(&[]);
+    places.chunks_exact(TRAIN_BYTES).take(usize::from(trains))
+}
+
 fn all_home(state: &[u8]) -> bool {
-    let places = state[TRAINS_AT..].chunks_exact(TRAIN_BYTES);
-    places.take(usize::from(state[TRAINS_AT - 1])).all(|place| place[1] == place[2])
+    trains_of(state).all(|place| place[1] == place[2])
+}
+
+/// Every train is home or Asked: no frame can be accepted any more.
+fn none_goes_on(state: &[u8]) -> bool {
+    trains_of(state).all(|place| place[1] == place[2] || place[3] == 1)
 }
 
 fn make_units(pair: &mut Pair, state: &[u8], random: &mut Random) -> Compared<Vec<Lent>> {
     let mut units = Vec::new();
-    let places = state[TRAINS_AT..].chunks_exact(TRAIN_BYTES);
-    for (t, place) in places.take(usize::from(state[TRAINS_AT - 1])).enumerate() {
+    for (t, place) in trains_of(state).enumerate() {
         let mut unit = Lent::random(UNIT_BYTES, random);
         pair.make_unit([t as u8, place[0], place[1]], &mut unit)?;
         units.push(unit);
@@ -140,7 +157,9 @@ fn step_with_units(
     if pair.press(unit, button, &mut given)?.sent == 0 {
         return Ok(());
     }
-    let sent = desk.put(pair, table, &given.bytes()[..FRAME_BYTES], random)?.sent;
+    let sent = desk
+        .put(pair, table, &given.bytes()[..FRAME_BYTES], random)?
+        .sent;
     for answer in desk.answers(sent) {
         let heard = Lent::new(&answer, random);
         for unit in units.iter_mut() {

@@ -6,7 +6,8 @@ use model::{Standing, State, Train, JOURNAL_RECORDS};
 
 /// A state of some kind. `opened` is the first state of a book, for states of its line.
 pub fn any(opened: &[u8], random: &mut Random) -> (&'static str, Vec<u8>) {
-    let mut bytes = state_bytes(&valid(opened, random)).to_vec();
+    let state = valid(opened, random);
+    let mut bytes = state_bytes(&state).to_vec();
     match random.below(16) {
         0 | 1 => {
             let at = random.below(STATE_BYTES);
@@ -19,6 +20,13 @@ pub fn any(opened: &[u8], random: &mut Random) -> (&'static str, Vec<u8>) {
             1 => ("state: small random bytes", small(random)),
             _ => ("state: wrong length", wrong_length(bytes, random)),
         },
+        4 | 5 => {
+            let broken = with_a_rule_broken(state, random);
+            (
+                "state: one rule perhaps broken",
+                state_bytes(&broken).to_vec(),
+            )
+        }
         _ => ("state: valid", bytes),
     }
 }
@@ -30,7 +38,10 @@ pub fn valid(opened: &[u8], random: &mut Random) -> State {
     } else {
         None
     };
-    let mut state = of_line.unwrap_or_else(|| made_up(random));
+    let mut state = of_line.unwrap_or_else(|| match random.below(6) {
+        0 => crowd(random),
+        _ => made_up(random),
+    });
     let numbers = give_standings(&mut state, random);
     give_count(&mut state, numbers, random);
     if random.one_in(2) {
@@ -64,7 +75,9 @@ fn made_up(random: &mut Random) -> State {
         *tracks = random.from_to(1, most);
     }
     for _ in 0..random.from_to(1, 6) {
-        let free: Vec<u8> = (0..state.posts).filter(|post| room(&state, *post) > 0).collect();
+        let free: Vec<u8> = (0..state.posts)
+            .filter(|post| room(&state, *post) > 0)
+            .collect();
         if free.is_empty() {
             break;
         }
@@ -72,6 +85,30 @@ fn made_up(random: &mut Random) -> State {
         state.train[usize::from(state.trains)] = train_at(at, state.posts, random);
         state.trains += 1;
     }
+    state
+}
+
+/// Six trains before six sections and room for all: many can be granted at once.
+fn crowd(random: &mut Random) -> State {
+    let mut state = State {
+        posts: 8,
+        tracks: [4; 8],
+        trains: 6,
+        ..State::EMPTY
+    };
+    let unused = random.from_to(0, 6);
+    let sections = (0..7).filter(|section| *section != unused);
+    for (train, section) in state.train.iter_mut().zip(sections) {
+        let (low, high) = (random.from_to(0, section), random.from_to(section + 1, 7));
+        let up = random.one_in(2);
+        *train = Train {
+            start: if up { low } else { high },
+            end: if up { high } else { low },
+            at: if up { section } else { section + 1 },
+            standing: Standing::Free,
+        };
+    }
+    state.train.rotate_left(random.below(6));
     state
 }
 
@@ -94,8 +131,12 @@ fn train_at(at: u8, posts: u8, random: &mut Random) -> Train {
 
 /// Lets some trains run where section and post allow it and others ask. Answers how many asked.
 fn give_standings(state: &mut State, random: &mut Random) -> usize {
-    // One state has mostly askers, another mostly runners.
-    let (run, ask) = (random.below(9), random.below(9));
+    // One state has mostly askers, of whom one frame may let many go; others have any mixture.
+    let (run, ask) = if random.one_in(3) {
+        (1, 7)
+    } else {
+        (random.below(9), random.below(9))
+    };
     let mut asked = 0;
     let first = random.below(6);
     for turn in 0..usize::from(state.trains) {
@@ -122,6 +163,8 @@ fn give_count(state: &mut State, asked: usize, random: &mut Random) {
     state.journal = match random.below(8) {
         0 | 1 => random.from_to(full - 14, full),
         2 => least,
+        // The highest count at which a frame is taken.
+        3 => full - 7,
         _ => random.from_to(least, full),
     };
     let mut taken = Vec::new();
@@ -174,6 +217,27 @@ fn section_free(state: &State, section: u8) -> bool {
         to.map(|to| to.min(train.at)) == Some(section)
     };
     !state.train[..usize::from(state.trains)].iter().any(holds)
+}
+
+/// One train, track count or number changed without a look at the rules. It may still be valid.
+fn with_a_rule_broken(mut state: State, random: &mut Random) -> State {
+    let count = state.journal;
+    let post = random.below(usize::from(state.posts));
+    let other = random.pick(trains_of(&mut state));
+    let t = random.below(usize::from(state.trains));
+    let train = &mut state.train[t];
+    match random.below(5) {
+        0 => train.standing = Standing::Running,
+        1 => train.at = random.from_to(train.start.min(train.end), train.start.max(train.end)),
+        2 => train.standing = Standing::Asked(count),
+        3 => {
+            if let Standing::Asked(_) = other.standing {
+                train.standing = other.standing;
+            }
+        }
+        _ => state.tracks[post] -= 1,
+    }
+    state
 }
 
 /// A status above 2, or a number where the status is not Asked.

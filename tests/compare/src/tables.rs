@@ -11,7 +11,10 @@ pub fn strange(random: &mut Random) -> (&'static str, Lent) {
         1 => ("table: all zero", vec![0; TABLE_BYTES]),
         2 => ("table: random bits", random.bytes(TABLE_BYTES)),
         3 => ("table: few bits", thinned(random)),
-        4 => ("table: most bits", thinned(random).iter().map(|b| !b).collect()),
+        4 => (
+            "table: most bits",
+            thinned(random).iter().map(|b| !b).collect(),
+        ),
         _ => return ("table: short", short(random)),
     };
     add_tail(&mut bytes, random);

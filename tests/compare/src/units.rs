@@ -49,7 +49,11 @@ pub fn press_and_hear_all(pair: &mut Pair, random: &mut Random) -> Compared<()> 
             pair.press(&mut unit, button, &mut given)?;
         }
         let [train, _, end, at, _] = bytes;
-        let ahead = if at < end { at + 1 } else { at.saturating_sub(1) };
+        let ahead = if at < end {
+            at + 1
+        } else {
+            at.saturating_sub(1)
+        };
         for kind in 0..6 {
             for posts in [[at, ahead], [ahead, at]] {
                 unit.set(&bytes);
