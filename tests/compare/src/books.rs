@@ -43,14 +43,14 @@ pub fn any(random: &mut Random) -> (&'static str, Vec<u8>) {
 }
 
 fn parts(random: &mut Random) -> Parts {
-    let posts = random.from_to(2, 8);
-    let trains = random.from_to(1, 6);
+    let posts = random.between(2, 8);
+    let trains = random.between(1, 6);
     // Few tracks make trains wait, many let them all go.
-    let most = random.from_to(1, 4);
-    let post = |random: &mut Random| random.from_to(0, posts - 1);
+    let most = random.between(1, 4);
+    let post = |random: &mut Random| random.between(0, posts - 1);
     Parts {
         posts,
-        tracks: (0..posts).map(|_| random.from_to(1, most)).collect(),
+        tracks: (0..posts).map(|_| random.between(1, most)).collect(),
         trains,
         routes: (0..trains).map(|_| [post(random), post(random)]).collect(),
     }
@@ -136,7 +136,7 @@ fn total_differs(mut parts: Parts, random: &mut Random) -> Vec<u8> {
     }
     let mut bytes = bytes_of(&parts);
     if random.one_in(2) {
-        bytes.push(random.from_to(0, 7));
+        bytes.push(random.between(0, 7));
     }
     with_length(bytes)
 }
@@ -151,8 +151,8 @@ fn off_the_line(mut parts: Parts, random: &mut Random) -> Vec<u8> {
 
 /// All trains start at one post.
 fn overfull(mut parts: Parts, random: &mut Random) -> Vec<u8> {
-    let start = random.from_to(0, parts.posts - 1);
-    parts.tracks[usize::from(start)] = random.from_to(1, 2);
+    let start = random.between(0, parts.posts - 1);
+    parts.tracks[usize::from(start)] = random.between(1, 2);
     for route in &mut parts.routes {
         route[0] = start;
     }
@@ -161,7 +161,7 @@ fn overfull(mut parts: Parts, random: &mut Random) -> Vec<u8> {
 
 /// Two trains that must pass each other where no post has two tracks.
 fn head_on(random: &mut Random) -> Vec<u8> {
-    let posts = random.from_to(2, 8);
+    let posts = random.between(2, 8);
     let last = posts - 1;
     bytes_of(&Parts {
         posts,
@@ -177,7 +177,7 @@ fn noise(random: &mut Random) -> Vec<u8> {
     let mut bytes = random.bytes(len);
     if len >= 4 && !random.one_in(4) {
         bytes[2] = 1;
-        bytes[3] = random.from_to(0, 10);
+        bytes[3] = random.between(0, 10);
         for byte in &mut bytes[4..] {
             *byte %= 10;
         }

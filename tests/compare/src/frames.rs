@@ -19,7 +19,7 @@ pub fn to_box(state: &[u8], random: &mut Random) -> (&'static str, Vec<u8>) {
 /// The next move of some train, as a request or, where the train is Running, an arrival.
 pub fn of_crew(state: &[u8], random: &mut Random) -> [u8; FRAME_BYTES] {
     if state.len() != STATE_BYTES {
-        let small = |random: &mut Random| random.from_to(0, 7);
+        let small = |random: &mut Random| random.between(0, 7);
         return [0, 5, 1, FA, small(random), small(random), small(random)];
     }
     let train = of_whom(state, random);

@@ -21,7 +21,7 @@ impl Random {
     }
 
     /// A number from `low` to `high`, both counted.
-    pub fn from_to(&mut self, low: u8, high: u8) -> u8 {
+    pub fn between(&mut self, low: u8, high: u8) -> u8 {
         low + self.below(usize::from(high - low) + 1) as u8
     }
 
@@ -57,7 +57,7 @@ impl Random {
             let other = match self.below(4) {
                 0 => byte.wrapping_add(1),
                 1 => byte.wrapping_sub(1),
-                2 => self.from_to(0, 9),
+                2 => self.between(0, 9),
                 _ => self.byte(),
             };
             if other != byte {

@@ -149,7 +149,7 @@ fn step_with_units(
     let crew = random.below(units.len());
     let unit = &mut units[crew];
     let button = if random.one_in(8) {
-        random.from_to(0, 4)
+        random.between(0, 4)
     } else {
         button_due(unit.bytes()[4])
     };

@@ -55,7 +55,7 @@ fn moved(first: State, random: &mut Random) -> State {
     for _ in 0..20 {
         let mut state = first;
         for train in trains_of(&mut state) {
-            train.at = random.from_to(train.start.min(train.end), train.start.max(train.end));
+            train.at = random.between(train.start.min(train.end), train.start.max(train.end));
         }
         if (0..state.posts).all(|post| room(&state, post) >= 0) {
             return state;
@@ -67,14 +67,14 @@ fn moved(first: State, random: &mut Random) -> State {
 /// A line of any size with trains that stand where there is room.
 fn made_up(random: &mut Random) -> State {
     let mut state = State {
-        posts: random.from_to(2, 8),
+        posts: random.between(2, 8),
         ..State::EMPTY
     };
-    let most = random.from_to(1, 4);
+    let most = random.between(1, 4);
     for tracks in &mut state.tracks[..usize::from(state.posts)] {
-        *tracks = random.from_to(1, most);
+        *tracks = random.between(1, most);
     }
-    for _ in 0..random.from_to(1, 6) {
+    for _ in 0..random.between(1, 6) {
         let free: Vec<u8> = (0..state.posts)
             .filter(|post| room(&state, *post) > 0)
             .collect();
@@ -96,10 +96,10 @@ fn crowd(random: &mut Random) -> State {
         trains: 6,
         ..State::EMPTY
     };
-    let unused = random.from_to(0, 6);
+    let unused = random.between(0, 6);
     let sections = (0..7).filter(|section| *section != unused);
     for (train, section) in state.train.iter_mut().zip(sections) {
-        let (low, high) = (random.from_to(0, section), random.from_to(section + 1, 7));
+        let (low, high) = (random.between(0, section), random.between(section + 1, 7));
         let up = random.one_in(2);
         *train = Train {
             start: if up { low } else { high },
@@ -114,8 +114,8 @@ fn crowd(random: &mut Random) -> State {
 
 /// A train whose way leads over the post.
 fn train_at(at: u8, posts: u8, random: &mut Random) -> Train {
-    let low = random.from_to(0, at);
-    let high = random.from_to(at, posts - 1);
+    let low = random.between(0, at);
+    let high = random.between(at, posts - 1);
     let (start, end) = if random.one_in(2) {
         (low, high)
     } else {
@@ -161,17 +161,17 @@ fn give_count(state: &mut State, asked: usize, random: &mut Random) {
     let full = JOURNAL_RECORDS as u8;
     let least = asked as u8;
     state.journal = match random.below(8) {
-        0 | 1 => random.from_to(full - 14, full),
+        0 | 1 => random.between(full - 14, full),
         2 => least,
         // The highest count at which a frame is taken.
         3 => full - 7,
-        _ => random.from_to(least, full),
+        _ => random.between(least, full),
     };
     let mut taken = Vec::new();
     let count = state.journal;
     for train in trains_of(state) {
         if let Standing::Asked(number) = &mut train.standing {
-            *number = random.from_to(0, count - 1);
+            *number = random.between(0, count - 1);
             while taken.contains(number) {
                 *number = (*number + 1) % count;
             }
@@ -187,7 +187,7 @@ fn fill_unread(state: &mut State, random: &mut Random) {
         *train = Train {
             start: random.byte(),
             end: random.byte(),
-            at: random.from_to(0, 9),
+            at: random.between(0, 9),
             standing: match random.below(3) {
                 0 => Standing::Free,
                 1 => Standing::Asked(random.byte()),
@@ -228,7 +228,7 @@ fn with_a_rule_broken(mut state: State, random: &mut Random) -> State {
     let train = &mut state.train[t];
     match random.below(5) {
         0 => train.standing = Standing::Running,
-        1 => train.at = random.from_to(train.start.min(train.end), train.start.max(train.end)),
+        1 => train.at = random.between(train.start.min(train.end), train.start.max(train.end)),
         2 => train.standing = Standing::Asked(count),
         3 => {
             if let Standing::Asked(_) = other.standing {
@@ -244,17 +244,17 @@ fn with_a_rule_broken(mut state: State, random: &mut Random) -> State {
 fn encoding_none(mut bytes: Vec<u8>, random: &mut Random) -> Vec<u8> {
     let place = &mut bytes[TRAINS_AT + TRAIN_BYTES * random.below(6)..][..TRAIN_BYTES];
     if place[3] == 1 || random.one_in(2) {
-        let any = random.from_to(3, 255);
+        let any = random.between(3, 255);
         place[3] = random.pick(&[3, 255, any]);
     } else {
-        place[4] = random.from_to(1, 255);
+        place[4] = random.between(1, 255);
     }
     bytes
 }
 
 /// Bytes in which every number is small, so that some of them are states.
 fn small(random: &mut Random) -> Vec<u8> {
-    (0..STATE_BYTES).map(|_| random.from_to(0, 8)).collect()
+    (0..STATE_BYTES).map(|_| random.between(0, 8)).collect()
 }
 
 fn wrong_length(mut bytes: Vec<u8>, random: &mut Random) -> Vec<u8> {

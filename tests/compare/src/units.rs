@@ -109,16 +109,16 @@ fn any(random: &mut Random) -> (&'static str, Vec<u8>) {
 }
 
 fn valid(random: &mut Random) -> Vec<u8> {
-    let (start, end) = (random.from_to(0, 7), random.from_to(0, 7));
-    let at = random.from_to(start.min(end), start.max(end));
-    let phase = if at == end { 0 } else { random.from_to(0, 5) };
-    vec![random.from_to(0, 5), start, end, at, phase]
+    let (start, end) = (random.between(0, 7), random.between(0, 7));
+    let at = random.between(start.min(end), start.max(end));
+    let phase = if at == end { 0 } else { random.between(0, 5) };
+    vec![random.between(0, 5), start, end, at, phase]
 }
 
 fn press(pair: &mut Pair, unit: &mut Lent, random: &mut Random) -> Compared<()> {
     let button = match random.below(8) {
         0 => random.byte(),
-        _ => random.from_to(0, 4),
+        _ => random.between(0, 4),
     };
     let room = match random.below(8) {
         0 => random.below(FRAME_BYTES),
