@@ -79,17 +79,18 @@ impl Lent {
         if !self.agrees() {
             text += &format!("{name}, proved: {}\n", inner(&self.proved));
             text += &format!("{name}, model:  {}\n", inner(&self.model));
-            text += &self.report_guards(name);
+            text += &self.report_place(name);
         }
         text
     }
 
-    fn report_guards(&self, name: &str) -> String {
-        let back = self.model.len() - BACK_GUARD.len();
-        let same = self.proved[..self.front] == self.model[..self.front]
-            && self.proved[back..] == self.model[back..];
-        if same {
-            String::new()
+    /// Where the first difference is, counted from the buffer's first byte.
+    fn report_place(&self, name: &str) -> String {
+        let same = |at: &usize| self.proved[*at] == self.model[*at];
+        let first = (0..self.model.len()).find(|at| !same(at)).unwrap_or(0);
+        let end = self.model.len() - BACK_GUARD.len();
+        if (self.front..end).contains(&first) {
+            format!("{name}: first at byte {}\n", first - self.front)
         } else {
             format!("{name}: a byte outside the buffer was written\n")
         }
@@ -116,12 +117,12 @@ mod tests {
     #[test]
     fn bytes_outside_the_buffer_are_seen() {
         let random = &mut Random::new(1);
-        for outside in [7, 8 + 24 + 5] {
+        for behind in [false, true] {
             let mut lent = Lent::new(&[1, 2, 3, 4, 5], random);
-            let at = if outside == 7 {
-                lent.front - 1
-            } else {
+            let at = if behind {
                 lent.front + 5
+            } else {
+                lent.front - 1
             };
             assert!(lent.agrees());
             lent.proved[at] ^= 1;

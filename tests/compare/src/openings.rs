@@ -19,10 +19,10 @@ pub struct Opened {
 pub fn read_books(pair: &mut Pair, random: &mut Random, count: usize) -> Compared<()> {
     for _ in 0..count {
         let (kind, bytes) = books::any(random);
-        let mut book = Lent::new(&bytes, random);
+        let book = Lent::new(&bytes, random);
         let mut line = Lent::random(stores::mostly(LINE_BYTES, random), random);
         pair.counts.input(kind);
-        pair.read_book(&mut book, &mut line)?;
+        pair.read_book(&book, &mut line)?;
     }
     Ok(())
 }

@@ -35,13 +35,13 @@ impl Pair {
         }
     }
 
-    pub fn read_book(&mut self, book: &mut Lent, line: &mut Lent) -> Compared<Reply> {
+    pub fn read_book(&mut self, book: &Lent, line: &mut Lent) -> Compared<Reply> {
         line.keep();
         let proved = self
             .proved
             .read_book(book.of_proved(), line.lend_to_proved());
         let model = self.model.read_book(book.bytes(), line.lend_to_model());
-        let buffers = [("book", &*book), ("line", &*line)];
+        let buffers = [("book", book), ("line", &*line)];
         self.settle(Entry::ReadBook, &[], [proved, model], &buffers, &[])
     }
 
