@@ -54,7 +54,7 @@ fn main() -> ExitCode {
 fn options() -> Option<Options> {
     let mut options = Options {
         seed: 1,
-        frames: 5_000_000,
+        frames: 10_000_000,
     };
     let words: Vec<String> = std::env::args().skip(1).collect();
     for two in words.chunks(2) {
