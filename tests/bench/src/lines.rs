@@ -1,0 +1,56 @@
+//! The lines that are measured, from the smallest to the largest.
+
+pub struct Line {
+    pub name: &'static str,
+    tracks: &'static [u8],
+    routes: &'static [[u8; 2]],
+}
+
+const fn line(name: &'static str, tracks: &'static [u8], routes: &'static [[u8; 2]]) -> Line {
+    Line {
+        name,
+        tracks,
+        routes,
+    }
+}
+
+pub const LINES: [Line; 7] = [
+    line("1-train-2-posts", &[1, 1], &[[0, 1]]),
+    line("2-trains-3-posts-X", &[1, 2, 1], &[[0, 2], [2, 0]]),
+    line("3-trains-3-posts-Y", &[2, 1, 2], &[[0, 2], [0, 2], [2, 0]]),
+    line(
+        "4-trains-5-posts",
+        &[2, 2, 1, 2, 2],
+        &[[0, 4], [4, 0], [0, 3], [4, 1]],
+    ),
+    line(
+        "5-trains-6-posts",
+        &[3, 2, 1, 2, 2, 3],
+        &[[0, 5], [5, 0], [0, 4], [5, 1], [1, 5]],
+    ),
+    line(
+        "6-trains-8-posts-few-tracks",
+        &[3, 2, 2, 1, 1, 2, 2, 3],
+        &[[0, 7], [7, 0], [0, 7], [7, 0], [1, 7], [6, 0]],
+    ),
+    line(
+        "6-trains-8-posts-4-tracks",
+        &[4; 8],
+        &[[0, 7], [7, 0], [0, 7], [7, 0], [0, 7], [7, 0]],
+    ),
+];
+
+impl Line {
+    pub fn book(&self) -> Vec<u8> {
+        let mut bytes = vec![0, 0, 1, self.tracks.len() as u8];
+        bytes.extend(self.tracks);
+        bytes.push(self.routes.len() as u8);
+        bytes.extend(self.routes.iter().flatten());
+        bytes[1] = (bytes.len() - 2) as u8;
+        bytes
+    }
+}
+
+pub fn named(name: &str) -> Option<&'static Line> {
+    LINES.iter().find(|line| line.name == name)
+}

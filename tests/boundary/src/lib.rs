@@ -1,0 +1,131 @@
+//! The C interface of the proved ends, one safe function for each of its six.
+//!
+//! Nothing checks these declarations against the Rattle source: this is the only place that has
+//! them. The C side asks two things of a caller, that each buffer has the length it names and that
+//! no two buffers overlap, and slices give both.
+
+mod c {
+    extern "C" {
+        pub fn quangevit_read_book(
+            book: *const u8,
+            book_len: usize,
+            line: *mut u8,
+            line_len: usize,
+        ) -> u32;
+
+        pub fn quangevit_open(
+            book: *const u8,
+            book_len: usize,
+            state: *mut u8,
+            state_len: usize,
+            table: *mut u8,
+            table_len: usize,
+            journal: *const u8,
+            journal_len: usize,
+        ) -> u32;
+
+        pub fn quangevit_answer(
+            state: *mut u8,
+            state_len: usize,
+            table: *const u8,
+            table_len: usize,
+            journal: *mut u8,
+            journal_len: usize,
+            frame: *const u8,
+            frame_len: usize,
+            out: *mut u8,
+            out_len: usize,
+        ) -> u32;
+
+        pub fn quangevit_make_unit(
+            train: u8,
+            start: u8,
+            end: u8,
+            unit: *mut u8,
+            unit_len: usize,
+        ) -> u32;
+
+        pub fn quangevit_press(
+            unit: *mut u8,
+            unit_len: usize,
+            button: u8,
+            frame: *mut u8,
+            frame_len: usize,
+        ) -> u32;
+
+        pub fn quangevit_hear(
+            unit: *mut u8,
+            unit_len: usize,
+            frame: *const u8,
+            frame_len: usize,
+        ) -> u32;
+    }
+}
+
+/// Reads a book alone; the line it gives goes to `line`.
+pub fn read_book(book: &[u8], line: &mut [u8]) -> u32 {
+    unsafe { c::quangevit_read_book(book.as_ptr(), book.len(), line.as_mut_ptr(), line.len()) }
+}
+
+/// Opens a book: fills the table and gives the first state.
+pub fn open(book: &[u8], state: &mut [u8], table: &mut [u8], journal: &[u8]) -> u32 {
+    unsafe {
+        c::quangevit_open(
+            book.as_ptr(),
+            book.len(),
+            state.as_mut_ptr(),
+            state.len(),
+            table.as_mut_ptr(),
+            table.len(),
+            journal.as_ptr(),
+            journal.len(),
+        )
+    }
+}
+
+/// The box's answer to a frame.
+pub fn answer(
+    state: &mut [u8],
+    table: &[u8],
+    journal: &mut [u8],
+    frame: &[u8],
+    out: &mut [u8],
+) -> u32 {
+    unsafe {
+        c::quangevit_answer(
+            state.as_mut_ptr(),
+            state.len(),
+            table.as_ptr(),
+            table.len(),
+            journal.as_mut_ptr(),
+            journal.len(),
+            frame.as_ptr(),
+            frame.len(),
+            out.as_mut_ptr(),
+            out.len(),
+        )
+    }
+}
+
+/// Makes the unit of a train.
+pub fn make_unit(train: u8, start: u8, end: u8, unit: &mut [u8]) -> u32 {
+    unsafe { c::quangevit_make_unit(train, start, end, unit.as_mut_ptr(), unit.len()) }
+}
+
+/// A button is pressed; the frame it gives goes to `frame`.
+pub fn press(unit: &mut [u8], button: u8, frame: &mut [u8]) -> u32 {
+    unsafe {
+        c::quangevit_press(
+            unit.as_mut_ptr(),
+            unit.len(),
+            button,
+            frame.as_mut_ptr(),
+            frame.len(),
+        )
+    }
+}
+
+/// A frame is heard.
+pub fn hear(unit: &mut [u8], frame: &[u8]) -> u32 {
+    unsafe { c::quangevit_hear(unit.as_mut_ptr(), unit.len(), frame.as_ptr(), frame.len()) }
+}

@@ -1,0 +1,198 @@
+//! Books: well formed ones of all sizes, and damaged ones for each refusal number of a book.
+
+use crate::random::Random;
+
+/// A book's parts. The numbers of posts and trains are kept apart from what follows them, so
+/// that they can be wrong.
+#[derive(Clone)]
+struct Parts {
+    posts: u8,
+    tracks: Vec<u8>,
+    trains: u8,
+    routes: Vec<[u8; 2]>,
+}
+
+/// A well formed book. It may still be overfull or have no way through.
+pub fn well_formed(random: &mut Random) -> Vec<u8> {
+    bytes_of(&parts(random))
+}
+
+/// A book of some kind, damaged or not.
+pub fn any(random: &mut Random) -> (&'static str, Vec<u8>) {
+    let parts = parts(random);
+    match random.below(16) {
+        0 | 1 => ("book: well formed", bytes_of(&parts)),
+        2 => ("book: cut short", cut(parts, random)),
+        3 => ("book: longer than it says", lengthened(parts, random)),
+        4 => ("book: wrong length", byte_altered(parts, 0..2, random)),
+        5 => ("book: other edition", byte_altered(parts, 2..3, random)),
+        6 => ("book: posts out of range", posts_out(parts, random)),
+        7 => (
+            "book: ends before its trains",
+            without_trains(parts, random),
+        ),
+        8 => ("book: tracks out of range", tracks_out(parts, random)),
+        9 => ("book: trains out of range", trains_out(parts, random)),
+        10 => ("book: total differs", total_differs(parts, random)),
+        11 => ("book: off the line", off_the_line(parts, random)),
+        12 => ("book: overfull", overfull(parts, random)),
+        13 => ("book: head on, single tracks", head_on(random)),
+        14 => ("book: any byte altered", byte_altered(parts, 0..25, random)),
+        _ => ("book: random bytes", noise(random)),
+    }
+}
+
+fn parts(random: &mut Random) -> Parts {
+    let posts = random.between(2, 8);
+    let trains = random.between(1, 6);
+    // Few tracks make trains wait, many let them all go.
+    let most = random.between(1, 4);
+    let post = |random: &mut Random| random.between(0, posts - 1);
+    Parts {
+        posts,
+        tracks: (0..posts).map(|_| random.between(1, most)).collect(),
+        trains,
+        routes: (0..trains).map(|_| [post(random), post(random)]).collect(),
+    }
+}
+
+/// The book of these parts, with the length that they have.
+fn bytes_of(parts: &Parts) -> Vec<u8> {
+    let mut bytes = vec![0, 0, 1, parts.posts];
+    bytes.extend(&parts.tracks);
+    bytes.push(parts.trains);
+    bytes.extend(parts.routes.iter().flatten());
+    with_length(bytes)
+}
+
+fn with_length(mut bytes: Vec<u8>) -> Vec<u8> {
+    let named = (bytes.len() - 2) as u16;
+    bytes[..2].copy_from_slice(&named.to_be_bytes());
+    bytes
+}
+
+/// Cut, sometimes with a length that says so.
+fn cut(parts: Parts, random: &mut Random) -> Vec<u8> {
+    let mut bytes = bytes_of(&parts);
+    bytes.truncate(random.below(bytes.len()));
+    if bytes.len() > 2 && random.one_in(2) {
+        with_length(bytes)
+    } else {
+        bytes
+    }
+}
+
+fn lengthened(parts: Parts, random: &mut Random) -> Vec<u8> {
+    let mut bytes = bytes_of(&parts);
+    let more = 1 + random.below(300);
+    bytes.extend(random.bytes(more));
+    bytes
+}
+
+fn byte_altered(parts: Parts, places: std::ops::Range<usize>, random: &mut Random) -> Vec<u8> {
+    let mut bytes = bytes_of(&parts);
+    let end = places.end.min(bytes.len());
+    let at = places.start + random.below(end - places.start);
+    bytes[at] = random.altered(bytes[at]);
+    bytes
+}
+
+fn posts_out(mut parts: Parts, random: &mut Random) -> Vec<u8> {
+    parts.posts = out_of(2, 8, random);
+    if random.one_in(2) {
+        // As many track counts as the wrong number says.
+        parts.tracks = vec![1; usize::from(parts.posts)];
+    }
+    bytes_of(&parts)
+}
+
+/// The length is right, yet the bytes end among the track counts.
+fn without_trains(parts: Parts, random: &mut Random) -> Vec<u8> {
+    let mut bytes = bytes_of(&parts);
+    bytes.truncate(4 + random.below(parts.tracks.len() + 1));
+    with_length(bytes)
+}
+
+fn tracks_out(mut parts: Parts, random: &mut Random) -> Vec<u8> {
+    let at = random.below(parts.tracks.len());
+    parts.tracks[at] = out_of(1, 4, random);
+    bytes_of(&parts)
+}
+
+fn trains_out(mut parts: Parts, random: &mut Random) -> Vec<u8> {
+    parts.trains = out_of(1, 6, random);
+    if random.one_in(2) {
+        parts.routes = vec![[0, 1]; usize::from(parts.trains)];
+    }
+    bytes_of(&parts)
+}
+
+/// More or fewer routes than trains, and a length that fits the bytes.
+fn total_differs(mut parts: Parts, random: &mut Random) -> Vec<u8> {
+    if random.one_in(2) {
+        parts.routes.pop();
+    } else {
+        parts.routes.push([0, 1]);
+    }
+    let mut bytes = bytes_of(&parts);
+    if random.one_in(2) {
+        bytes.push(random.between(0, 7));
+    }
+    with_length(bytes)
+}
+
+fn off_the_line(mut parts: Parts, random: &mut Random) -> Vec<u8> {
+    let at = random.below(parts.routes.len());
+    let which = random.below(2);
+    let far = random.byte();
+    parts.routes[at][which] = random.pick(&[parts.posts, parts.posts + 1, 255, far]);
+    bytes_of(&parts)
+}
+
+/// All trains start at one post.
+fn overfull(mut parts: Parts, random: &mut Random) -> Vec<u8> {
+    let start = random.between(0, parts.posts - 1);
+    parts.tracks[usize::from(start)] = random.between(1, 2);
+    for route in &mut parts.routes {
+        route[0] = start;
+    }
+    bytes_of(&parts)
+}
+
+/// Two trains that must pass each other where no post has two tracks.
+fn head_on(random: &mut Random) -> Vec<u8> {
+    let posts = random.between(2, 8);
+    let last = posts - 1;
+    bytes_of(&Parts {
+        posts,
+        tracks: vec![1; usize::from(posts)],
+        trains: 2,
+        routes: vec![[0, last], [last, 0]],
+    })
+}
+
+/// Random bytes, often with a right head, so that they are read further.
+fn noise(random: &mut Random) -> Vec<u8> {
+    let len = random.below(40);
+    let mut bytes = random.bytes(len);
+    if len >= 4 && !random.one_in(4) {
+        bytes[2] = 1;
+        bytes[3] = random.between(0, 10);
+        for byte in &mut bytes[4..] {
+            *byte %= 10;
+        }
+        bytes = with_length(bytes);
+    }
+    bytes
+}
+
+/// A byte outside of a range, most often right beside it.
+fn out_of(low: u8, high: u8, random: &mut Random) -> u8 {
+    let far = random.byte();
+    let other = random.pick(&[low - 1, high + 1, 0, 255, far]);
+    if (low..=high).contains(&other) {
+        high + 1
+    } else {
+        other
+    }
+}

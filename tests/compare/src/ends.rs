@@ -1,0 +1,163 @@
+//! The two implementations behind one interface: the proved code, and the model dressed in the
+//! byte layouts of the C interface. What is expected comes from the model alone.
+
+use crate::layout::{
+    line_bytes, put_records, records_of, state_bytes, state_of, unit_bytes, unit_of, FRAME_BYTES,
+    LINE_BYTES, STATE_BYTES, UNIT_BYTES,
+};
+use model::{unit, Button, Verdict};
+
+/// The six functions of the C interface. Each answers the refusal's number in its low byte and
+/// the number of frames written in the next.
+pub trait Ends {
+    fn read_book(&self, book: &[u8], line: &mut [u8]) -> u32;
+    fn open(&self, book: &[u8], state: &mut [u8], table: &mut [u8], journal: &[u8]) -> u32;
+    fn answer(
+        &self,
+        state: &mut [u8],
+        table: &[u8],
+        journal: &mut [u8],
+        frame: &[u8],
+        out: &mut [u8],
+    ) -> u32;
+    fn make_unit(&self, train: u8, start: u8, end: u8, unit: &mut [u8]) -> u32;
+    fn press(&self, unit: &mut [u8], button: u8, frame: &mut [u8]) -> u32;
+    fn hear(&self, unit: &mut [u8], frame: &[u8]) -> u32;
+}
+
+/// The proved code, through the linked library.
+pub struct Proved;
+
+impl Ends for Proved {
+    fn read_book(&self, book: &[u8], line: &mut [u8]) -> u32 {
+        boundary::read_book(book, line)
+    }
+
+    fn open(&self, book: &[u8], state: &mut [u8], table: &mut [u8], journal: &[u8]) -> u32 {
+        boundary::open(book, state, table, journal)
+    }
+
+    fn answer(
+        &self,
+        state: &mut [u8],
+        table: &[u8],
+        journal: &mut [u8],
+        frame: &[u8],
+        out: &mut [u8],
+    ) -> u32 {
+        boundary::answer(state, table, journal, frame, out)
+    }
+
+    fn make_unit(&self, train: u8, start: u8, end: u8, unit: &mut [u8]) -> u32 {
+        boundary::make_unit(train, start, end, unit)
+    }
+
+    fn press(&self, unit: &mut [u8], button: u8, frame: &mut [u8]) -> u32 {
+        boundary::press(unit, button, frame)
+    }
+
+    fn hear(&self, unit: &mut [u8], frame: &[u8]) -> u32 {
+        boundary::hear(unit, frame)
+    }
+}
+
+/// The model, with what the C interface adds to it: the lengths of the buffers for a line, a
+/// state and a unit, bytes that encode nothing, numbers that are no button.
+pub struct Model;
+
+impl Ends for Model {
+    fn read_book(&self, book: &[u8], line: &mut [u8]) -> u32 {
+        if line.len() != LINE_BYTES {
+            return 1;
+        }
+        match model::read_book(book) {
+            Ok(read) => {
+                line.copy_from_slice(&line_bytes(&read));
+                0
+            }
+            Err(number) => {
+                line.fill(0);
+                number.into()
+            }
+        }
+    }
+
+    fn open(&self, book: &[u8], state: &mut [u8], table: &mut [u8], journal: &[u8]) -> u32 {
+        if state.len() != STATE_BYTES {
+            return 1;
+        }
+        let (opened, number) = model::open(book, table, &records_of(journal));
+        state.copy_from_slice(&state_bytes(&opened));
+        number.into()
+    }
+
+    fn answer(
+        &self,
+        state: &mut [u8],
+        table: &[u8],
+        journal: &mut [u8],
+        frame: &[u8],
+        out: &mut [u8],
+    ) -> u32 {
+        let Some(before) = state_of(state) else {
+            return 1;
+        };
+        let mut records = records_of(journal);
+        let (after, verdict) = model::answer(&before, table, &mut records, frame, out);
+        state.copy_from_slice(&state_bytes(&after));
+        put_records(&records, journal);
+        match verdict {
+            Verdict::Refused(number) => number.into(),
+            Verdict::Sent(frames) => (frames as u32) << 8,
+        }
+    }
+
+    fn make_unit(&self, train: u8, start: u8, end: u8, unit: &mut [u8]) -> u32 {
+        if unit.len() != UNIT_BYTES {
+            return 1;
+        }
+        let (made, number) = unit::make(train, start, end);
+        unit.copy_from_slice(&unit_bytes(&made));
+        number.into()
+    }
+
+    fn press(&self, unit: &mut [u8], button: u8, frame: &mut [u8]) -> u32 {
+        let Some(before) = unit_of(unit).filter(unit::sound) else {
+            return 1;
+        };
+        if frame.len() < FRAME_BYTES {
+            return 2;
+        }
+        let Some(button) = button_of(button) else {
+            return 21;
+        };
+        let (after, number, given) = unit::press(&before, button);
+        unit.copy_from_slice(&unit_bytes(&after));
+        match given {
+            Some(bytes) => {
+                frame[..FRAME_BYTES].copy_from_slice(&bytes);
+                u32::from(number) | 1 << 8
+            }
+            None => number.into(),
+        }
+    }
+
+    fn hear(&self, unit: &mut [u8], frame: &[u8]) -> u32 {
+        let Some(before) = unit_of(unit) else {
+            return 1;
+        };
+        let (after, number) = unit::hear(&before, frame);
+        unit.copy_from_slice(&unit_bytes(&after));
+        number.into()
+    }
+}
+
+fn button_of(number: u8) -> Option<Button> {
+    match number {
+        0 => Some(Button::Ask),
+        1 => Some(Button::Depart),
+        2 => Some(Button::Reached),
+        3 => Some(Button::Report),
+        _ => None,
+    }
+}

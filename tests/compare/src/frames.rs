@@ -1,0 +1,109 @@
+//! Frames: what a crew would send in a state, and everything else.
+
+use crate::layout::{FRAME_BYTES, STATE_BYTES, TRAINS_AT, TRAIN_BYTES};
+use crate::random::Random;
+
+const FA: u8 = 1;
+const AM: u8 = 4;
+
+/// A frame put to the box in a state, which may be any bytes: mostly of a kind that gets far.
+pub fn to_box(state: &[u8], random: &mut Random) -> (&'static str, Vec<u8>) {
+    let suitable = of_crew(state, random);
+    match random.below(8) {
+        0 => damaged(suitable, random),
+        1 => ("frame: FA or AM, whatever the status", other_kind(suitable)),
+        _ => ("frame: as a crew sends it", suitable.to_vec()),
+    }
+}
+
+/// The next move of some train, as a request or, where the train is Running, an arrival.
+pub fn of_crew(state: &[u8], random: &mut Random) -> [u8; FRAME_BYTES] {
+    if state.len() != STATE_BYTES {
+        let small = |random: &mut Random| random.between(0, 7);
+        return [0, 5, 1, FA, small(random), small(random), small(random)];
+    }
+    let train = of_whom(state, random);
+    let place = &state[TRAINS_AT + TRAIN_BYTES * train..][..TRAIN_BYTES];
+    let (end, at, running) = (place[1], place[2], place[3] == 2);
+    let kind = if running { AM } else { FA };
+    [0, 5, 1, kind, train as u8, at, towards(at, end)]
+}
+
+/// Some train; mostly one that has to go on and does not wait for an answer.
+fn of_whom(state: &[u8], random: &mut Random) -> usize {
+    let trains = usize::from(state[TRAINS_AT - 1].clamp(1, 6));
+    let mut train = random.below(trains);
+    for _ in 0..3 {
+        let place = &state[TRAINS_AT + TRAIN_BYTES * train..][..TRAIN_BYTES];
+        if place[1] != place[2] && place[3] != 1 {
+            break;
+        }
+        train = random.below(trains);
+    }
+    train
+}
+
+/// One post nearer to the end. At the end, some other post: no frame is right there.
+fn towards(at: u8, end: u8) -> u8 {
+    if at <= end {
+        at.wrapping_add(1)
+    } else {
+        at - 1
+    }
+}
+
+fn other_kind(mut frame: [u8; FRAME_BYTES]) -> Vec<u8> {
+    frame[3] = if frame[3] == FA { AM } else { FA };
+    frame.to_vec()
+}
+
+/// A right frame with something wrong in it, or no frame at all.
+pub fn damaged(frame: [u8; FRAME_BYTES], random: &mut Random) -> (&'static str, Vec<u8>) {
+    match random.below(10) {
+        0 => (
+            "frame: cut short",
+            frame[..random.below(FRAME_BYTES)].to_vec(),
+        ),
+        1 => ("frame: longer", longer(frame, random)),
+        2 => ("frame: wrong length", altered(frame, 0..2, random)),
+        3 => ("frame: other version", altered(frame, 2..3, random)),
+        4 => ("frame: other kind", altered(frame, 3..4, random)),
+        5 => ("frame: other train", altered(frame, 4..5, random)),
+        6 => ("frame: other post", altered(frame, 5..7, random)),
+        7 => ("frame: two bytes altered", twice_altered(frame, random)),
+        8 => ("frame: seven random bytes", random.bytes(FRAME_BYTES)),
+        _ => {
+            let len = random.below(30);
+            ("frame: random bytes", random.bytes(len))
+        }
+    }
+}
+
+/// A right frame with more behind it; sometimes its length says so.
+fn longer(frame: [u8; FRAME_BYTES], random: &mut Random) -> Vec<u8> {
+    let more = 1 + random.below(20);
+    let mut bytes = frame.to_vec();
+    bytes.extend(random.bytes(more));
+    if random.one_in(2) {
+        bytes[1] = (bytes.len() - 2) as u8;
+    }
+    bytes
+}
+
+fn altered(
+    mut frame: [u8; FRAME_BYTES],
+    places: std::ops::Range<usize>,
+    random: &mut Random,
+) -> Vec<u8> {
+    let at = places.start + random.below(places.len());
+    frame[at] = random.altered(frame[at]);
+    frame.to_vec()
+}
+
+fn twice_altered(mut frame: [u8; FRAME_BYTES], random: &mut Random) -> Vec<u8> {
+    for _ in 0..2 {
+        let at = random.below(FRAME_BYTES);
+        frame[at] = random.altered(frame[at]);
+    }
+    frame.to_vec()
+}

@@ -1,0 +1,133 @@
+//! A lent buffer, kept three times: as both sides get it, as the proved code leaves it, and as
+//! the model leaves it. Guard bytes stand before and behind, so that a byte written outside the
+//! buffer is seen as well.
+
+use crate::random::Random;
+
+const BACK_GUARD: [u8; 16] = *b"behind the store";
+
+pub struct Lent {
+    /// Guard bytes before the buffer; their number varies, and with it the buffer's alignment.
+    front: usize,
+    before: Vec<u8>,
+    proved: Vec<u8>,
+    model: Vec<u8>,
+}
+
+impl Lent {
+    pub fn new(bytes: &[u8], random: &mut Random) -> Lent {
+        let front = 8 + random.below(16);
+        let guard = random.bytes(front);
+        let mut lent = Lent {
+            front,
+            before: guard.clone(),
+            proved: guard.clone(),
+            model: guard,
+        };
+        lent.set(bytes);
+        lent
+    }
+
+    /// A buffer of random bytes.
+    pub fn random(len: usize, random: &mut Random) -> Lent {
+        let bytes = random.bytes(len);
+        Lent::new(&bytes, random)
+    }
+
+    /// Lends these bytes next.
+    pub fn set(&mut self, bytes: &[u8]) {
+        for copy in [&mut self.before, &mut self.proved, &mut self.model] {
+            copy.truncate(self.front);
+            copy.extend_from_slice(bytes);
+            copy.extend_from_slice(&BACK_GUARD);
+        }
+    }
+
+    /// Keeps the bytes as they are, to be printed if the next call shows a difference.
+    pub fn keep(&mut self) {
+        self.before.copy_from_slice(&self.proved);
+    }
+
+    /// The bytes, which both sides have alike after every call that was compared.
+    pub fn bytes(&self) -> &[u8] {
+        &self.model[self.front..self.model.len() - BACK_GUARD.len()]
+    }
+
+    pub fn of_proved(&self) -> &[u8] {
+        &self.proved[self.front..self.proved.len() - BACK_GUARD.len()]
+    }
+
+    pub fn lend_to_proved(&mut self) -> &mut [u8] {
+        let end = self.proved.len() - BACK_GUARD.len();
+        &mut self.proved[self.front..end]
+    }
+
+    pub fn lend_to_model(&mut self) -> &mut [u8] {
+        let end = self.model.len() - BACK_GUARD.len();
+        &mut self.model[self.front..end]
+    }
+
+    /// Both sides left the same bytes, guards included.
+    pub fn agrees(&self) -> bool {
+        self.proved == self.model
+    }
+
+    /// The bytes before and after, in hex.
+    pub fn report(&self, name: &str) -> String {
+        let inner = |copy: &[u8]| hex(&copy[self.front..copy.len() - BACK_GUARD.len()]);
+        let mut text = format!("{name}, lent:   {}\n", inner(&self.before));
+        if !self.agrees() {
+            text += &format!("{name}, proved: {}\n", inner(&self.proved));
+            text += &format!("{name}, model:  {}\n", inner(&self.model));
+            text += &self.report_place(name);
+        }
+        text
+    }
+
+    /// Where the first difference is, counted from the buffer's first byte.
+    fn report_place(&self, name: &str) -> String {
+        let same = |at: &usize| self.proved[*at] == self.model[*at];
+        let first = (0..self.model.len()).find(|at| !same(at)).unwrap_or(0);
+        let end = self.model.len() - BACK_GUARD.len();
+        if (self.front..end).contains(&first) {
+            format!("{name}: first at byte {}\n", first - self.front)
+        } else {
+            format!("{name}: a byte outside the buffer was written\n")
+        }
+    }
+}
+
+/// Bytes in hex; more than eight equal ones in a row as `00*512`.
+pub fn hex(bytes: &[u8]) -> String {
+    let mut words = vec![format!("({} bytes)", bytes.len())];
+    for run in bytes.chunk_by(|a, b| a == b) {
+        if run.len() > 8 {
+            words.push(format!("{:02x}*{}", run[0], run.len()));
+        } else {
+            words.extend(run.iter().map(|byte| format!("{byte:02x}")));
+        }
+    }
+    words.join(" ")
+}
+
+#[cfg(test)]
+mod tests {
+    use super::*;
+
+    #[test]
+    fn bytes_outside_the_buffer_are_seen() {
+        let random = &mut Random::new(1);
+        for behind in [false, true] {
+            let mut lent = Lent::new(&[1, 2, 3, 4, 5], random);
+            let at = if behind {
+                lent.front + 5
+            } else {
+                lent.front - 1
+            };
+            assert!(lent.agrees());
+            lent.proved[at] ^= 1;
+            assert!(!lent.agrees());
+            assert!(lent.report("store").contains("outside"));
+        }
+    }
+}

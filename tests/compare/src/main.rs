@@ -1,0 +1,128 @@
+//! The proved ends beside the independent model, on the same inputs.
+//!
+//!     compare [--seed S] [--frames N]
+//!
+//! Ends with `0 differences` and status 0. On the first difference it prints the input and both
+//! outputs, with status 1; so it does if anything that a run is to reach was never reached.
+
+mod books;
+mod counts;
+mod desk;
+mod ends;
+mod frames;
+mod layout;
+mod lent;
+mod openings;
+mod pair;
+mod random;
+mod runs;
+mod states;
+mod stores;
+mod tables;
+#[cfg(test)]
+mod tests;
+mod units;
+
+use openings::Opened;
+use pair::{Compared, Pair};
+use random::Random;
+use std::process::ExitCode;
+
+/// Frames put to the box between two openings that are kept.
+const FRAMES_A_ROUND: u64 = 5_000;
+
+/// Opened books, and altered tables, that are kept for runs.
+const KEPT: usize = 24;
+
+struct Options {
+    seed: u64,
+    frames: u64,
+}
+
+fn main() -> ExitCode {
+    let Some(options) = options() else {
+        eprintln!("usage: compare [--seed S] [--frames N]");
+        return ExitCode::from(2);
+    };
+    let mut pair = Pair::new(Box::new(ends::Proved), Box::new(ends::Model));
+    println!("seed {}, {} frames", options.seed, options.frames);
+    let compared = all(&mut pair, &options);
+    pair.counts.print();
+    verdict(compared, &pair.counts.failings())
+}
+
+fn options() -> Option<Options> {
+    let mut options = Options {
+        seed: 1,
+        frames: 10_000_000,
+    };
+    let words: Vec<String> = std::env::args().skip(1).collect();
+    for two in words.chunks(2) {
+        match two {
+            [name, value] if name == "--seed" => options.seed = value.parse().ok()?,
+            [name, value] if name == "--frames" => options.frames = value.parse().ok()?,
+            _ => return None,
+        }
+    }
+    Some(options)
+}
+
+fn verdict(compared: Compared<()>, failings: &[String]) -> ExitCode {
+    if let Err(difference) = compared {
+        println!("{}1 difference", difference.0);
+        return ExitCode::FAILURE;
+    }
+    for failing in failings {
+        println!("{failing}");
+    }
+    println!("0 differences");
+    if failings.is_empty() {
+        ExitCode::SUCCESS
+    } else {
+        ExitCode::FAILURE
+    }
+}
+
+fn all(pair: &mut Pair, options: &Options) -> Compared<()> {
+    let random = &mut Random::new(options.seed);
+    units::make_all(pair, random)?;
+    units::press_and_hear_all(pair, random)?;
+    let mut opened = Vec::new();
+    let mut strange: Vec<_> = (0..KEPT).map(|_| tables::strange(random)).collect();
+    while pair.counts.frames() < options.frames {
+        keep(&mut opened, openings::open_one(pair, random)?, random);
+        keep(&mut strange, tables::strange(random), random);
+        openings::open_odd(pair, random, 4)?;
+        openings::read_books(pair, random, 100)?;
+        units::histories(pair, random, 100)?;
+        let end = options.frames.min(pair.counts.frames() + FRAMES_A_ROUND);
+        while pair.counts.frames() < end {
+            one_run(pair, &opened, &strange, random)?;
+        }
+    }
+    Ok(())
+}
+
+/// Adds to what is kept, in the place of an older one once there are enough.
+fn keep<T>(kept: &mut Vec<T>, new: T, random: &mut Random) {
+    if kept.len() < KEPT {
+        kept.push(new);
+    } else {
+        kept[random.below(KEPT)] = new;
+    }
+}
+
+fn one_run(
+    pair: &mut Pair,
+    opened: &[Opened],
+    strange: &[runs::Strange],
+    random: &mut Random,
+) -> Compared<()> {
+    let opened = &opened[random.below(opened.len())];
+    let strange = &strange[random.below(strange.len())];
+    match random.below(16) {
+        0 => runs::whole(pair, opened, strange, random),
+        1 => runs::with_units(pair, opened, strange, random),
+        _ => runs::handed_in(pair, opened, strange, random),
+    }
+}

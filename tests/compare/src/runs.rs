@@ -1,0 +1,180 @@
+//! Frames put to the box: whole runs of an opened book, with and without driver units, and short
+//! runs from states handed in.
+
+use crate::desk::Desk;
+use crate::frames;
+use crate::layout::{FRAME_BYTES, TRAINS_AT, TRAIN_BYTES, UNIT_BYTES};
+use crate::lent::Lent;
+use crate::openings::Opened;
+use crate::pair::{Compared, Pair};
+use crate::random::Random;
+use crate::{states, stores};
+
+/// A table that no book gave, and what it is.
+pub type Strange = (&'static str, Lent);
+
+/// Frames of one whole run: enough for six trains to get home, with refused frames among them.
+const LONGEST_RUN: usize = 400;
+
+/// A run from the opening, by frames alone, until all trains are home or all that are not wait.
+pub fn whole(
+    pair: &mut Pair,
+    opened: &Opened,
+    strange: &Strange,
+    random: &mut Random,
+) -> Compared<()> {
+    let table = choose_table(pair, opened, strange, 8, random);
+    let mut desk = Desk::new(&opened.state, stores::journal(random), random);
+    pair.counts.input("run: from an opened book");
+    for _ in 0..LONGEST_RUN {
+        put_any(pair, &mut desk, table, random)?;
+        // A few frames more, which have to be refused.
+        if none_goes_on(desk.state()) && random.one_in(3) {
+            break;
+        }
+    }
+    if all_home(desk.state()) {
+        pair.counts.input("run: from an opened book, all home");
+    }
+    pair.unchanged(table)
+}
+
+/// A short run from a state handed in, valid or not.
+pub fn handed_in(
+    pair: &mut Pair,
+    opened: &Opened,
+    strange: &Strange,
+    random: &mut Random,
+) -> Compared<()> {
+    let table = choose_table(pair, opened, strange, 2, random);
+    let journal = if random.one_in(32) {
+        pair.counts.input("journal: short");
+        stores::short_journal(random)
+    } else {
+        stores::journal(random)
+    };
+    let (kind, state) = states::any(&opened.state, random);
+    pair.counts.input(kind);
+    let mut desk = Desk::new(&state, journal, random);
+    for _ in 0..1 + random.below(12) {
+        put_any(pair, &mut desk, table, random)?;
+        if none_goes_on(desk.state()) && random.one_in(3) {
+            break;
+        }
+    }
+    pair.unchanged(table)
+}
+
+/// A run in which every frame of a crew comes from its unit, and every unit hears every answer.
+pub fn with_units(
+    pair: &mut Pair,
+    opened: &Opened,
+    strange: &Strange,
+    random: &mut Random,
+) -> Compared<()> {
+    let table = choose_table(pair, opened, strange, 8, random);
+    let mut desk = Desk::new(&opened.state, stores::journal(random), random);
+    let mut units = make_units(pair, &opened.state, random)?;
+    pair.counts.input("run: with units");
+    for _ in 0..LONGEST_RUN {
+        step_with_units(pair, &mut desk, &mut units, table, random)?;
+        if none_goes_on(desk.state()) && random.one_in(3) {
+            break;
+        }
+    }
+    if all_home(desk.state()) {
+        pair.counts.input("run: with units, all home");
+    }
+    pair.unchanged(table)
+}
+
+/// The book's own table so many times for each altered one.
+fn choose_table<'a>(
+    pair: &mut Pair,
+    opened: &'a Opened,
+    strange: &'a Strange,
+    own: usize,
+    random: &mut Random,
+) -> &'a Lent {
+    let (kind, table) = match random.below(2 + own) {
+        0 => ("table: of the book, bits flipped", &opened.flipped),
+        1 => (strange.0, &strange.1),
+        _ => ("table: of the book", &opened.table),
+    };
+    pair.counts.input(kind);
+    table
+}
+
+fn put_any(pair: &mut Pair, desk: &mut Desk, table: &Lent, random: &mut Random) -> Compared<()> {
+    let (kind, frame) = frames::to_box(desk.state(), random);
+    pair.counts.input(kind);
+    desk.put(pair, table, &frame, random)?;
+    Ok(())
+}
+
+/// The trains of a state, five bytes each; of other bytes, none.
+fn trains_of(state: &[u8]) -> impl Iterator<Item = &[u8]> {
+    let trains = state.get(TRAINS_AT - 1).copied().unwrap_or(0);
+    let places = state.get(TRAINS_AT..).unwrap_or(&[]);
+    places.chunks_exact(TRAIN_BYTES).take(usize::from(trains))
+}
+
+fn all_home(state: &[u8]) -> bool {
+    trains_of(state).all(|place| place[1] == place[2])
+}
+
+/// Every train is home or Asked: no frame can be accepted any more.
+fn none_goes_on(state: &[u8]) -> bool {
+    trains_of(state).all(|place| place[1] == place[2] || place[3] == 1)
+}
+
+fn make_units(pair: &mut Pair, state: &[u8], random: &mut Random) -> Compared<Vec<Lent>> {
+    let mut units = Vec::new();
+    for (t, place) in trains_of(state).enumerate() {
+        let mut unit = Lent::random(UNIT_BYTES, random);
+        pair.make_unit([t as u8, place[0], place[1]], &mut unit)?;
+        units.push(unit);
+    }
+    Ok(units)
+}
+
+/// One crew presses a button, mostly the one that is due; the box answers what comes of it.
+fn step_with_units(
+    pair: &mut Pair,
+    desk: &mut Desk,
+    units: &mut [Lent],
+    table: &Lent,
+    random: &mut Random,
+) -> Compared<()> {
+    let crew = random.below(units.len());
+    let unit = &mut units[crew];
+    let button = if random.one_in(8) {
+        random.between(0, 4)
+    } else {
+        button_due(unit.bytes()[4])
+    };
+    let mut given = Lent::random(FRAME_BYTES + random.below(4), random);
+    if pair.press(unit, button, &mut given)?.sent == 0 {
+        return Ok(());
+    }
+    let sent = desk
+        .put(pair, table, &given.bytes()[..FRAME_BYTES], random)?
+        .sent;
+    for answer in desk.answers(sent) {
+        let heard = Lent::new(&answer, random);
+        for unit in units.iter_mut() {
+            pair.hear(unit, &heard)?;
+        }
+    }
+    Ok(())
+}
+
+/// The button for each phase; a crew that waits presses Ask in vain.
+fn button_due(phase: u8) -> u8 {
+    match phase {
+        3 => 1,
+        4 => 2,
+        5 => 3,
+        _ => 0,
+    }
+}

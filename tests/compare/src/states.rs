@@ -1,0 +1,266 @@
+//! States handed in: valid by construction, nearly valid, and such that no box ever had.
+
+use crate::layout::{state_bytes, state_of, STATE_BYTES, TRAINS_AT, TRAIN_BYTES};
+use crate::random::Random;
+use model::{Standing, State, Train, JOURNAL_RECORDS};
+
+/// A state of some kind. `opened` is the first state of a book, for states of its line.
+pub fn any(opened: &[u8], random: &mut Random) -> (&'static str, Vec<u8>) {
+    let state = valid(opened, random);
+    let mut bytes = state_bytes(&state).to_vec();
+    match random.below(16) {
+        0 | 1 => {
+            let at = random.below(STATE_BYTES);
+            bytes[at] = random.altered(bytes[at]);
+            ("state: one field altered", bytes)
+        }
+        2 => ("state: encodes none", encoding_none(bytes, random)),
+        3 => match random.below(3) {
+            0 => ("state: random bytes", random.bytes(STATE_BYTES)),
+            1 => ("state: small random bytes", small(random)),
+            _ => ("state: wrong length", wrong_length(bytes, random)),
+        },
+        4 | 5 => {
+            let broken = with_a_rule_broken(state, random);
+            (
+                "state: one rule perhaps broken",
+                state_bytes(&broken).to_vec(),
+            )
+        }
+        _ => ("state: valid", bytes),
+    }
+}
+
+/// A valid state: of the opened book's line, or of a line made up with it.
+pub fn valid(opened: &[u8], random: &mut Random) -> State {
+    let of_line = if random.one_in(2) {
+        state_of(opened).map(|state| moved(state, random))
+    } else {
+        None
+    };
+    let mut state = of_line.unwrap_or_else(|| match random.below(6) {
+        0 => crowd(random),
+        _ => made_up(random),
+    });
+    let numbers = give_standings(&mut state, random);
+    give_count(&mut state, numbers, random);
+    if random.one_in(2) {
+        fill_unread(&mut state, random);
+    }
+    state
+}
+
+/// The line's trains at random posts of their ways, if there is room; else at their starts.
+fn moved(first: State, random: &mut Random) -> State {
+    for _ in 0..20 {
+        let mut state = first;
+        for train in trains_of(&mut state) {
+            train.at = random.between(train.start.min(train.end), train.start.max(train.end));
+        }
+        if (0..state.posts).all(|post| room(&state, post) >= 0) {
+            return state;
+        }
+    }
+    first
+}
+
+/// A line of any size with trains that stand where there is room.
+fn made_up(random: &mut Random) -> State {
+    let mut state = State {
+        posts: random.between(2, 8),
+        ..State::EMPTY
+    };
+    let most = random.between(1, 4);
+    for tracks in &mut state.tracks[..usize::from(state.posts)] {
+        *tracks = random.between(1, most);
+    }
+    for _ in 0..random.between(1, 6) {
+        let free: Vec<u8> = (0..state.posts)
+            .filter(|post| room(&state, *post) > 0)
+            .collect();
+        if free.is_empty() {
+            break;
+        }
+        let at = random.pick(&free);
+        state.train[usize::from(state.trains)] = train_at(at, state.posts, random);
+        state.trains += 1;
+    }
+    state
+}
+
+/// Six trains before six sections and room for all: many can be granted at once.
+fn crowd(random: &mut Random) -> State {
+    let mut state = State {
+        posts: 8,
+        tracks: [4; 8],
+        trains: 6,
+        ..State::EMPTY
+    };
+    let unused = random.between(0, 6);
+    let sections = (0..7).filter(|section| *section != unused);
+    for (train, section) in state.train.iter_mut().zip(sections) {
+        let (low, high) = (random.between(0, section), random.between(section + 1, 7));
+        let up = random.one_in(2);
+        *train = Train {
+            start: if up { low } else { high },
+            end: if up { high } else { low },
+            at: if up { section } else { section + 1 },
+            standing: Standing::Free,
+        };
+    }
+    state.train.rotate_left(random.below(6));
+    state
+}
+
+/// A train whose way leads over the post.
+fn train_at(at: u8, posts: u8, random: &mut Random) -> Train {
+    let low = random.between(0, at);
+    let high = random.between(at, posts - 1);
+    let (start, end) = if random.one_in(2) {
+        (low, high)
+    } else {
+        (high, low)
+    };
+    Train {
+        start,
+        end,
+        at,
+        standing: Standing::Free,
+    }
+}
+
+/// Lets some trains run where section and post allow it and others ask. Answers how many asked.
+fn give_standings(state: &mut State, random: &mut Random) -> usize {
+    // One state has mostly askers, of whom one frame may let many go; others have any mixture.
+    let (run, ask) = if random.one_in(3) {
+        (1, 7)
+    } else {
+        (random.below(9), random.below(9))
+    };
+    let mut asked = 0;
+    let first = random.below(6);
+    for turn in 0..usize::from(state.trains) {
+        let t = (first + turn) % usize::from(state.trains);
+        let train = state.train[t];
+        let Some(to) = train.next() else {
+            continue;
+        };
+        let may_run = random.below(8) < run;
+        if may_run && room(state, to) > 0 && section_free(state, train.at.min(to)) {
+            state.train[t].standing = Standing::Running;
+        } else if random.below(8) < ask {
+            state.train[t].standing = Standing::Asked(0);
+            asked += 1;
+        }
+    }
+    asked
+}
+
+/// A journal count, often near the full journal, and distinct FA numbers below it.
+fn give_count(state: &mut State, asked: usize, random: &mut Random) {
+    let full = JOURNAL_RECORDS as u8;
+    let least = asked as u8;
+    state.journal = match random.below(8) {
+        0 | 1 => random.between(full - 14, full),
+        2 => least,
+        // The highest count at which a frame is taken.
+        3 => full - 7,
+        _ => random.between(least, full),
+    };
+    let mut taken = Vec::new();
+    let count = state.journal;
+    for train in trains_of(state) {
+        if let Standing::Asked(number) = &mut train.standing {
+            *number = random.between(0, count - 1);
+            while taken.contains(number) {
+                *number = (*number + 1) % count;
+            }
+            taken.push(*number);
+        }
+    }
+}
+
+/// Anything in the places that are not read.
+fn fill_unread(state: &mut State, random: &mut Random) {
+    random.fill(&mut state.tracks[usize::from(state.posts)..]);
+    for train in &mut state.train[usize::from(state.trains)..] {
+        *train = Train {
+            start: random.byte(),
+            end: random.byte(),
+            at: random.between(0, 9),
+            standing: match random.below(3) {
+                0 => Standing::Free,
+                1 => Standing::Asked(random.byte()),
+                _ => Standing::Running,
+            },
+        };
+    }
+}
+
+fn trains_of(state: &mut State) -> &mut [Train] {
+    &mut state.train[..usize::from(state.trains)]
+}
+
+/// Tracks of the post less the trains that hold one there.
+fn room(state: &State, post: u8) -> i32 {
+    let holds = |train: &&Train| {
+        let runs_to = train.next().filter(|_| train.standing == Standing::Running);
+        train.at == post || runs_to == Some(post)
+    };
+    let present = &state.train[..usize::from(state.trains)];
+    i32::from(state.tracks[usize::from(post)]) - present.iter().filter(holds).count() as i32
+}
+
+fn section_free(state: &State, section: u8) -> bool {
+    let holds = |train: &Train| {
+        let to = train.next().filter(|_| train.standing == Standing::Running);
+        to.map(|to| to.min(train.at)) == Some(section)
+    };
+    !state.train[..usize::from(state.trains)].iter().any(holds)
+}
+
+/// One train, track count or number changed without a look at the rules. It may still be valid.
+fn with_a_rule_broken(mut state: State, random: &mut Random) -> State {
+    let count = state.journal;
+    let post = random.below(usize::from(state.posts));
+    let other = random.pick(trains_of(&mut state));
+    let t = random.below(usize::from(state.trains));
+    let train = &mut state.train[t];
+    match random.below(5) {
+        0 => train.standing = Standing::Running,
+        1 => train.at = random.between(train.start.min(train.end), train.start.max(train.end)),
+        2 => train.standing = Standing::Asked(count),
+        3 => {
+            if let Standing::Asked(_) = other.standing {
+                train.standing = other.standing;
+            }
+        }
+        _ => state.tracks[post] -= 1,
+    }
+    state
+}
+
+/// A status above 2, or a number where the status is not Asked.
+fn encoding_none(mut bytes: Vec<u8>, random: &mut Random) -> Vec<u8> {
+    let place = &mut bytes[TRAINS_AT + TRAIN_BYTES * random.below(6)..][..TRAIN_BYTES];
+    if place[3] == 1 || random.one_in(2) {
+        let any = random.between(3, 255);
+        place[3] = random.pick(&[3, 255, any]);
+    } else {
+        place[4] = random.between(1, 255);
+    }
+    bytes
+}
+
+/// Bytes in which every number is small, so that some of them are states.
+fn small(random: &mut Random) -> Vec<u8> {
+    (0..STATE_BYTES).map(|_| random.between(0, 8)).collect()
+}
+
+fn wrong_length(mut bytes: Vec<u8>, random: &mut Random) -> Vec<u8> {
+    let longer = STATE_BYTES + 1 + random.below(60);
+    let shorter = random.below(STATE_BYTES);
+    let len = random.pick(&[STATE_BYTES - 1, STATE_BYTES + 1, 0, shorter, longer]);
+    bytes.resize(len, 0);
+    bytes
+}

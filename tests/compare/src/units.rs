@@ -1,0 +1,154 @@
+//! Driver units: every one near the ranges, and random ones with random histories.
+
+use crate::frames;
+use crate::layout::{FRAME_BYTES, UNIT_BYTES};
+use crate::lent::Lent;
+use crate::pair::{Compared, Pair};
+use crate::random::Random;
+use crate::stores;
+
+const FE: u8 = 2;
+const AFE: u8 = 3;
+
+/// Units made of every number: all three near the ranges, and each from 0 to 255 alone.
+pub fn make_all(pair: &mut Pair, random: &mut Random) -> Compared<()> {
+    let near = [0, 1, 2, 3, 4, 5, 6, 7, 8, 9, 127, 128, 254, 255];
+    for train in near {
+        for start in near {
+            for end in near {
+                make_one(pair, [train, start, end], random)?;
+            }
+        }
+    }
+    for number in 0..=255 {
+        make_one(pair, [number, 0, 7], random)?;
+        make_one(pair, [5, number, 0], random)?;
+        make_one(pair, [0, 7, number], random)?;
+    }
+    Ok(())
+}
+
+fn make_one(pair: &mut Pair, numbers: [u8; 3], random: &mut Random) -> Compared<()> {
+    pair.counts.input("unit: made of numbers near the ranges");
+    let mut unit = Lent::random(stores::mostly(UNIT_BYTES, random), random);
+    pair.make_unit(numbers, &mut unit)?;
+    Ok(())
+}
+
+/// Every unit whose numbers are in the ranges or one above: each button, and each kind of frame
+/// for its own move and for the move back.
+pub fn press_and_hear_all(pair: &mut Pair, random: &mut Random) -> Compared<()> {
+    let mut unit = Lent::new(&[], random);
+    let mut given = Lent::random(FRAME_BYTES, random);
+    let mut heard = Lent::new(&[], random);
+    for number in 0..7 * 9 * 9 * 9 * 7 {
+        let bytes = digits(number);
+        pair.counts.input("unit: each one near the ranges");
+        for button in 0..5 {
+            unit.set(&bytes);
+            pair.press(&mut unit, button, &mut given)?;
+        }
+        let [train, _, end, at, _] = bytes;
+        let ahead = if at < end {
+            at + 1
+        } else {
+            at.saturating_sub(1)
+        };
+        for kind in 0..6 {
+            for posts in [[at, ahead], [ahead, at]] {
+                unit.set(&bytes);
+                heard.set(&[0, 5, 1, kind, train, posts[0], posts[1]]);
+                pair.hear(&mut unit, &heard)?;
+            }
+        }
+    }
+    Ok(())
+}
+
+/// Train 0 to 6, start, end and present post 0 to 8, phase 0 to 6.
+fn digits(mut number: usize) -> [u8; UNIT_BYTES] {
+    [7, 9, 9, 9, 7].map(|base| {
+        let digit = number % base;
+        number /= base;
+        digit as u8
+    })
+}
+
+/// Histories of presses and frames, each from a random unit.
+pub fn histories(pair: &mut Pair, random: &mut Random, count: usize) -> Compared<()> {
+    for _ in 0..count {
+        let (kind, bytes) = any(random);
+        pair.counts.input(kind);
+        let mut unit = Lent::new(&bytes, random);
+        for _ in 0..1 + random.below(20) {
+            if random.one_in(2) {
+                press(pair, &mut unit, random)?;
+            } else {
+                hear(pair, &mut unit, random)?;
+            }
+        }
+    }
+    Ok(())
+}
+
+fn any(random: &mut Random) -> (&'static str, Vec<u8>) {
+    let mut bytes = valid(random);
+    match random.below(8) {
+        0 => {
+            let at = random.below(UNIT_BYTES);
+            bytes[at] = random.altered(bytes[at]);
+            ("unit: one field altered", bytes)
+        }
+        1 => {
+            bytes.resize(stores::mostly(UNIT_BYTES, random), 0);
+            ("unit: perhaps of a wrong length", bytes)
+        }
+        2 => ("unit: random bytes", random.bytes(UNIT_BYTES)),
+        _ => ("unit: valid", bytes),
+    }
+}
+
+fn valid(random: &mut Random) -> Vec<u8> {
+    let (start, end) = (random.between(0, 7), random.between(0, 7));
+    let at = random.between(start.min(end), start.max(end));
+    let phase = if at == end { 0 } else { random.between(0, 5) };
+    vec![random.between(0, 5), start, end, at, phase]
+}
+
+fn press(pair: &mut Pair, unit: &mut Lent, random: &mut Random) -> Compared<()> {
+    let button = match random.below(8) {
+        0 => random.byte(),
+        _ => random.between(0, 4),
+    };
+    let room = match random.below(8) {
+        0 => random.below(FRAME_BYTES),
+        1 => FRAME_BYTES,
+        _ => FRAME_BYTES + random.below(20),
+    };
+    let mut given = Lent::random(room, random);
+    pair.counts.input("unit: press");
+    pair.press(unit, button, &mut given)?;
+    Ok(())
+}
+
+/// Mostly an answer for the unit's own move, sometimes damaged, so that histories go on.
+fn hear(pair: &mut Pair, unit: &mut Lent, random: &mut Random) -> Compared<()> {
+    let own = own_frame(unit.bytes(), random);
+    let (kind, bytes) = if random.one_in(3) {
+        frames::damaged(own, random)
+    } else {
+        ("frame: answer for a unit's own move", own.to_vec())
+    };
+    let heard = Lent::new(&bytes, random);
+    pair.counts.input(kind);
+    pair.hear(unit, &heard)?;
+    Ok(())
+}
+
+fn own_frame(unit: &[u8], random: &mut Random) -> [u8; FRAME_BYTES] {
+    let [train, _, end, at, _] = *unit else {
+        return [0, 5, 1, FE, 0, 0, 1];
+    };
+    let ahead = if at < end { at + 1 } else { at.wrapping_sub(1) };
+    [0, 5, 1, random.pick(&[FE, AFE]), train, at, ahead]
+}
