@@ -1,0 +1,4 @@
+-- The laws that the functions' proofs cite.
+pub mod Copying
+pub mod Units
+pub mod UnitSteps

@@ -1,0 +1,11 @@
+// The two ends for C and Rust: the entry points over byte buffers that the caller lends. The header
+// quangevit.h has the layouts. Each of them reads its bytes, calls the entry point of the crate
+// below and writes the bytes of what comes back.
+mod cab;
+mod placing;
+mod unit_bytes;
+mod word;
+
+pub use cab::quangevit_hear;
+pub use cab::quangevit_make_unit;
+pub use cab::quangevit_press;
