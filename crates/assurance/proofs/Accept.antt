@@ -12,14 +12,14 @@ use lib.Seq.{getD-set-same, getD-set-other, drop-append-le}
 use Rattle.common.proofs.Tests.{by-cases}
 use Rattle.common.proofs.Below.{count-le, count-some}
 use Rattle.journal.specs.Journal.{journalLength, blank, recordOf}
-use Rattle.dispatcher.specs.declared.state.Status.the-variants.{Asked}
-use Rattle.dispatcher.specs.State.{isAsked, askedAs, trainOf, nextMove, withStatus, oneLogged}
-use Rattle.dispatcher.specs.Granting.{Work, granted, settled}
-use Rattle.dispatcher.specs.Answer.{mostLogged, taken, declined, accepted, sent}
-use Rattle.dispatcher.proofs.Changes.{grantable-facts}
-use Rattle.dispatcher.proofs.Grants.{askedCount, Turn, grants-keep, granted-fewer}
-use Rattle.dispatcher.proofs.Settling.{settled-settles}
-use Rattle.dispatcher.proofs.Acceptance.{Taken, request, arrival}
+use Rattle.rules.specs.declared.state.Status.the-variants.{Asked}
+use Rattle.rules.specs.State.{isAsked, askedAs, trainOf, nextMove, withStatus, oneLogged}
+use Rattle.rules.specs.Granting.{Work, granted, settled}
+use Rattle.rules.specs.Answer.{mostLogged, taken, declined, accepted, sent}
+use Rattle.rules.proofs.Changes.{grantable-facts}
+use Rattle.rules.proofs.Grants.{askedCount, Turn, grants-keep, granted-fewer}
+use Rattle.rules.proofs.Settling.{settled-settles}
+use Rattle.rules.proofs.Acceptance.{Taken, request, arrival}
 use Rattle.assurance.specs.Types.{Line, Move, Message, Fa, Fe, Afe, Am, Record, State}
 use Rattle.assurance.specs.Observer.{Observer, hearFrame, hearAnswer, hearAnswers}
 use Rattle.assurance.specs.WholeList.{Requested}

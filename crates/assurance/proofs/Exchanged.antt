@@ -14,11 +14,11 @@ use Rattle.frame.specs.Frame.{readFrame, bytesOf}
 use Rattle.frame.specs.RoundTrip.{IsMessage}
 use Rattle.frame.proofs.RoundTrip.{round-trip}
 use Rattle.journal.specs.Journal.{blank, recordOf}
-use Rattle.dispatcher.specs.State.{lineOf}
-use Rattle.dispatcher.specs.Answer.{accepted, framesOf, sent, Answer, answered, refused, answer}
-use Rattle.dispatcher.proofs.Oldest.{Nobody}
-use Rattle.dispatcher.proofs.Frames.{bytes-length}
-use Rattle.dispatcher.proofs.Acceptance.{Passed, by-verdict, accepted-facts}
+use Rattle.rules.specs.State.{lineOf}
+use Rattle.rules.specs.Answer.{accepted, framesOf, sent, Answer, answered, refused, answer}
+use Rattle.rules.proofs.Oldest.{Nobody}
+use Rattle.rules.proofs.Frames.{bytes-length}
+use Rattle.rules.proofs.Acceptance.{Passed, by-verdict, accepted-facts}
 use Rattle.assurance.specs.Types.{Move, Message, Fe, Record, State}
 use Rattle.assurance.specs.Observer.{Observer, readFrames, answersOf, hearBy}
 use Rattle.assurance.specs.WholeList.{Requested}

@@ -20,12 +20,12 @@ use Rattle.frame.specs.RoundTrip.{IsMessage}
 use Rattle.frame.proofs.RoundTrip.{round-trip}
 use Rattle.completion.specs.Table.{tableLength, filled}
 use Rattle.completion.proofs.Rule.{length-table}
-use Rattle.dispatcher.specs.State.{isAsked, isRunning, atEnd, trainOf, lineOf, nextMove}
-use Rattle.dispatcher.specs.Answer.{outLength, accepted, answered, refused, answer}
-use Rattle.dispatcher.specs.Opening.{openedState}
-use Rattle.dispatcher.proofs.Trains.{route-of}
-use Rattle.dispatcher.proofs.Acceptance.{NextMove, Taken, request, arrival}
-use Rattle.dispatcher.proofs.Taking.{taken-accepted}
+use Rattle.rules.specs.State.{isAsked, isRunning, atEnd, trainOf, lineOf, nextMove}
+use Rattle.rules.specs.Answer.{outLength, accepted, answered, refused, answer}
+use Rattle.rules.specs.Opening.{openedState}
+use Rattle.rules.proofs.Trains.{route-of}
+use Rattle.rules.proofs.Acceptance.{NextMove, Taken, request, arrival}
+use Rattle.rules.proofs.Taking.{taken-accepted}
 use Rattle.assurance.specs.Types.{Line, Message, Fa, Am, Record, State}
 use Rattle.assurance.specs.Run.{Input, run}
 use Rattle.assurance.specs.Observer.{Observer, atOpening, observe}

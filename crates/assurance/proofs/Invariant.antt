@@ -21,13 +21,13 @@ use Rattle.journal.specs.Journal.{journalLength, blank, recordOf, recordAt}
 use Rattle.completion.specs.Configuration.{Configuration, Within, Completable, code}
 use Rattle.completion.specs.Table.{bitOf}
 use Rattle.completion.proofs.Agreement.{completable-cong}
-use Rattle.dispatcher.specs.declared.state.Status.{Status}
-use Rattle.dispatcher.specs.declared.state.Status.the-variants.{Free, Asked, Running}
-use Rattle.dispatcher.specs.declared.state.Train.{Train}
-use Rattle.dispatcher.specs.State.{isAsked, askedAs, nextOf, reachedBy, trainOf, lineOf, reached}
-use Rattle.dispatcher.specs.Answer.{moveIn}
-use Rattle.dispatcher.proofs.Trains.{changed, changed-own, changed-other, changed-each, changed-line}
-use Rattle.dispatcher.proofs.Validity.{Valid}
+use Rattle.rules.specs.declared.state.Status.{Status}
+use Rattle.rules.specs.declared.state.Status.the-variants.{Free, Asked, Running}
+use Rattle.rules.specs.declared.state.Train.{Train}
+use Rattle.rules.specs.State.{isAsked, askedAs, nextOf, reachedBy, trainOf, lineOf, reached}
+use Rattle.rules.specs.Answer.{moveIn}
+use Rattle.rules.proofs.Trains.{changed, changed-own, changed-other, changed-each, changed-line}
+use Rattle.rules.proofs.Validity.{Valid}
 use Rattle.assurance.specs.Types.{Line, Message, Fa, Fe, Afe, Am, Refused, Record, State}
 use Rattle.assurance.specs.Observer.{Claim, nothing, asked, authority, Seen, Observer}
 use Rattle.assurance.specs.WholeList.{isFeOf}

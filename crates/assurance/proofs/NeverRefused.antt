@@ -15,10 +15,10 @@ use Rattle.frame.specs.Frame.{readFrame}
 use Rattle.line.specs.Refusal.{strangeState, journalFull}
 use Rattle.line.specs.Book.{lineOf as lineIn}
 use Rattle.journal.specs.Journal.{journalLength}
-use Rattle.dispatcher.specs.Answer.{mostLogged, frameChecks, answer}
-use Rattle.dispatcher.specs.Opening.{opening}
-use Rattle.dispatcher.proofs.Validity.{Valid, is-valid}
-use Rattle.dispatcher.proofs.Acceptance.{by-verdict, accepted-facts}
+use Rattle.rules.specs.Answer.{mostLogged, frameChecks, answer}
+use Rattle.rules.specs.Opening.{opening}
+use Rattle.rules.proofs.Validity.{Valid, is-valid}
+use Rattle.rules.proofs.Acceptance.{by-verdict, accepted-facts}
 use Rattle.assurance.specs.Types.{Record, State, Verdict, RefusedBy}
 use Rattle.assurance.specs.Run.{Input, Exchange, exchange, run}
 use Rattle.assurance.specs.Homecoming.{NeverRefused}

@@ -8,18 +8,18 @@ use Prim.Native.Nat.{ℕ, zero, suc, _+_, _≤_}
 use native.Mathlib.Omega.{arith}
 use Rattle.common.proofs.Tests.{by-equality}
 use Rattle.frame.specs.Frame.{readFrame}
-use Rattle.dispatcher.specs.declared.state.Status.the-variants.{Running}
-use Rattle.dispatcher.specs.State.{trainOf, nextMove, withStatus}
-use Rattle.dispatcher.specs.Valid.{valid}
-use Rattle.dispatcher.specs.Granting.{oldest, Work, granted, proceed, grants}
-use Rattle.dispatcher.specs.Answer.{answer}
-use Rattle.dispatcher.proofs.Validity.{Distinct, valid-facts, is-valid}
-use Rattle.dispatcher.proofs.Changes.{distinct-change}
-use Rattle.dispatcher.proofs.Oldest.{Oldest, oldest-none, oldest-some, earlier}
-use Rattle.dispatcher.proofs.Grants.{askedCount, Turn, granted-fewer, granted-place, none-asked, few-asked}
-use Rattle.dispatcher.proofs.Grants.{settled-next}
-use Rattle.dispatcher.proofs.Settling.{settled-settles}
-use Rattle.dispatcher.proofs.Acceptance.{by-verdict, accepted-facts}
+use Rattle.rules.specs.declared.state.Status.the-variants.{Running}
+use Rattle.rules.specs.State.{trainOf, nextMove, withStatus}
+use Rattle.rules.specs.Valid.{valid}
+use Rattle.rules.specs.Granting.{oldest, Work, granted, proceed, grants}
+use Rattle.rules.specs.Answer.{answer}
+use Rattle.rules.proofs.Validity.{Distinct, valid-facts, is-valid}
+use Rattle.rules.proofs.Changes.{distinct-change}
+use Rattle.rules.proofs.Oldest.{Oldest, oldest-none, oldest-some, earlier}
+use Rattle.rules.proofs.Grants.{askedCount, Turn, granted-fewer, granted-place, none-asked, few-asked}
+use Rattle.rules.proofs.Grants.{settled-next}
+use Rattle.rules.proofs.Settling.{settled-settles}
+use Rattle.rules.proofs.Acceptance.{by-verdict, accepted-facts}
 use Rattle.assurance.specs.Types.{Fe, Record, State, Sent}
 use Rattle.assurance.specs.OneFrame.{ValidKept, NoneLeft, First, Granting, done, next, ExactGrant, OldestFirst}
 

@@ -27,11 +27,11 @@ use Rattle.completion.specs.Table.{tableLength, bitOf, filled}
 use Rattle.completion.proofs.Feasibility.{feasible-of}
 use Rattle.completion.proofs.Agreement.{completable-cong}
 use Rattle.completion.proofs.Rule.{bit-completable, completable-bit}
-use Rattle.dispatcher.specs.State.{noTrain, trainOf, lineOf, located, reached}
-use Rattle.dispatcher.specs.Granting.{grantable}
-use Rattle.dispatcher.specs.Opening.{openingChecks, fresh, openedState, opened, refusedBook, opening, openingWith}
-use Rattle.dispatcher.proofs.Validity.{Valid}
-use Rattle.dispatcher.proofs.Changes.{grantable-facts}
+use Rattle.rules.specs.State.{noTrain, trainOf, lineOf, located, reached}
+use Rattle.rules.specs.Granting.{grantable}
+use Rattle.rules.specs.Opening.{openingChecks, fresh, openedState, opened, refusedBook, opening, openingWith}
+use Rattle.rules.proofs.Validity.{Valid}
+use Rattle.rules.proofs.Changes.{grantable-facts}
 use Rattle.assurance.specs.Types.{Line, Record}
 use Rattle.assurance.specs.Observer.{atOpening}
 use Rattle.assurance.proofs.Invariant.{Right, Invariant}

@@ -4,8 +4,8 @@ use mathlib.Core.Path.{_≡_, refl, _∙_}
 use mathlib.Core.Logic.{⊎-elim}
 use mathlib.Core.List.{List, [], _∷_, List·Memᴰ, List·Memᴰ·not-nil, List·Memᴰ·cases-cons}
 use Prim.Native.Nat.{ℕ}
-use Rattle.dispatcher.specs.State.{lineOf}
-use Rattle.dispatcher.specs.Answer.{answer}
+use Rattle.rules.specs.State.{lineOf}
+use Rattle.rules.specs.Answer.{answer}
 use Rattle.assurance.specs.Types.{Move, Fe, Record, State}
 use Rattle.assurance.specs.Run.{Input, Exchange, Ran, run}
 use Rattle.assurance.specs.Observer.{Observer, answersOf, observe}

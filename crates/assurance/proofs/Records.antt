@@ -14,17 +14,17 @@ use Rattle.common.proofs.Sums.{sumBelow, sum-change, sum-le}
 use Rattle.line.specs.Route.{distance}
 use Rattle.line.proofs.Travel.{travelled-within, next-within, next-travelled}
 use Rattle.line.proofs.WellFormed.{short-route}
-use Rattle.dispatcher.specs.declared.state.Status.{Status}
-use Rattle.dispatcher.specs.declared.state.Status.the-variants.{Free, Asked, Running}
-use Rattle.dispatcher.specs.declared.state.Train.{Train}
-use Rattle.dispatcher.specs.State.{isFree, isAsked, isRunning, trainOf, lineOf, withStatus, arrivedNext}
-use Rattle.dispatcher.specs.Granting.{Work, granted, settled}
-use Rattle.dispatcher.specs.Answer.{taken, declined, accepted}
-use Rattle.dispatcher.proofs.Trains.{running-is, route-of, changed, changed-own, changed-other}
-use Rattle.dispatcher.proofs.Validity.{Valid}
-use Rattle.dispatcher.proofs.Changes.{grantable-facts, short-place}
-use Rattle.dispatcher.proofs.Grants.{Turn, grants-keep, granted-place}
-use Rattle.dispatcher.proofs.Acceptance.{Taken, request, arrival}
+use Rattle.rules.specs.declared.state.Status.{Status}
+use Rattle.rules.specs.declared.state.Status.the-variants.{Free, Asked, Running}
+use Rattle.rules.specs.declared.state.Train.{Train}
+use Rattle.rules.specs.State.{isFree, isAsked, isRunning, trainOf, lineOf, withStatus, arrivedNext}
+use Rattle.rules.specs.Granting.{Work, granted, settled}
+use Rattle.rules.specs.Answer.{taken, declined, accepted}
+use Rattle.rules.proofs.Trains.{running-is, route-of, changed, changed-own, changed-other}
+use Rattle.rules.proofs.Validity.{Valid}
+use Rattle.rules.proofs.Changes.{grantable-facts, short-place}
+use Rattle.rules.proofs.Grants.{Turn, grants-keep, granted-place}
+use Rattle.rules.proofs.Acceptance.{Taken, request, arrival}
 use Rattle.assurance.specs.Types.{Move, Message, Fa, Am, State}
 
 -- ---- one train

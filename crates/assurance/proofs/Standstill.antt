@@ -19,14 +19,14 @@ use Rattle.line.proofs.Travel.{post-travelled, post-next, next-other, next-with
 use Rattle.completion.specs.Configuration.{Arrived, Completable, whereabouts, moved}
 use Rattle.completion.specs.Table.{Onward}
 use Rattle.completion.proofs.Agreement.{first-move}
-use Rattle.dispatcher.specs.declared.state.Train.{Train}
-use Rattle.dispatcher.specs.State.{isAsked, isRunning, atEnd, nextOf, trainOf, lineOf, located, reached}
-use Rattle.dispatcher.specs.Granting.{grantable}
-use Rattle.dispatcher.proofs.Trains.{asked-idle, running-busy, idle-located, route-of}
-use Rattle.dispatcher.proofs.Validity.{Valid, next-post-below}
-use Rattle.dispatcher.proofs.Changes.{is-grantable}
-use Rattle.dispatcher.proofs.Oldest.{Nobody}
-use Rattle.dispatcher.proofs.Reached.{reached-idle}
+use Rattle.rules.specs.declared.state.Train.{Train}
+use Rattle.rules.specs.State.{isAsked, isRunning, atEnd, nextOf, trainOf, lineOf, located, reached}
+use Rattle.rules.specs.Granting.{grantable}
+use Rattle.rules.proofs.Trains.{asked-idle, running-busy, idle-located, route-of}
+use Rattle.rules.proofs.Validity.{Valid, next-post-below}
+use Rattle.rules.proofs.Changes.{is-grantable}
+use Rattle.rules.proofs.Oldest.{Nobody}
+use Rattle.rules.proofs.Reached.{reached-idle}
 use Rattle.assurance.specs.Types.{State}
 use Rattle.assurance.proofs.Invariant.{Right}
 

@@ -16,17 +16,17 @@ use Rattle.journal.specs.Journal.{journalLength, blank, recordOf}
 use Rattle.line.proofs.Travel.{next-travelled}
 use Rattle.completion.specs.Configuration.{Completable, moved}
 use Rattle.completion.proofs.Agreement.{completable-cong}
-use Rattle.dispatcher.specs.declared.state.Status.the-variants.{Asked, Running}
-use Rattle.dispatcher.specs.declared.state.Train.{Train}
-use Rattle.dispatcher.specs.State.{isAsked, isRunning, askedAs, nextOf, reachedBy, noTrain, trainOf, lineOf, reached}
-use Rattle.dispatcher.specs.State.{nextMove, withStatus, arrivedNext, withTrain, oneLogged}
-use Rattle.dispatcher.specs.Granting.{grantable}
-use Rattle.dispatcher.proofs.Trains.{asked-idle, running-is, in-fleet, changed}
-use Rattle.dispatcher.proofs.Validity.{Valid}
-use Rattle.dispatcher.proofs.Changes.{grantable-facts, short-place, valid-logged, valid-request, valid-arrival}
-use Rattle.dispatcher.proofs.Changes.{valid-grant}
-use Rattle.dispatcher.proofs.Acceptance.{NextMove}
-use Rattle.dispatcher.proofs.Reached.{moved-within}
+use Rattle.rules.specs.declared.state.Status.the-variants.{Asked, Running}
+use Rattle.rules.specs.declared.state.Train.{Train}
+use Rattle.rules.specs.State.{isAsked, isRunning, askedAs, nextOf, reachedBy, noTrain, trainOf, lineOf, reached}
+use Rattle.rules.specs.State.{nextMove, withStatus, arrivedNext, withTrain, oneLogged}
+use Rattle.rules.specs.Granting.{grantable}
+use Rattle.rules.proofs.Trains.{asked-idle, running-is, in-fleet, changed}
+use Rattle.rules.proofs.Validity.{Valid}
+use Rattle.rules.proofs.Changes.{grantable-facts, short-place, valid-logged, valid-request, valid-arrival}
+use Rattle.rules.proofs.Changes.{valid-grant}
+use Rattle.rules.proofs.Acceptance.{NextMove}
+use Rattle.rules.proofs.Reached.{moved-within}
 use Rattle.assurance.specs.Types.{Move, Message, Fa, Fe, Afe, Am, Record, State}
 use Rattle.assurance.specs.Observer.{Claim, nothing, asked, authority, Seen, Observer, isFor, hearFrame}
 use Rattle.assurance.specs.Observer.{hearAnswer}

@@ -5,12 +5,12 @@ use mathlib.Core.List.{List, List·Memᴰ}
 use Prim.Native.Nat.{ℕ, _<_}
 use Rattle.common.proofs.Below.{count-cong}
 use Rattle.line.specs.Holding.{Whereabouts, holdsPost}
-use Rattle.dispatcher.specs.declared.state.Status.{Status}
-use Rattle.dispatcher.specs.declared.state.Status.the-variants.{Free, Asked, Running}
-use Rattle.dispatcher.specs.State.{isAsked, isRunning, nextOf, trainOf, lineOf, locatedBy as recordedBy}
-use Rattle.dispatcher.specs.State.{located as recorded}
-use Rattle.dispatcher.proofs.Trains.{route-of}
-use Rattle.dispatcher.proofs.Validity.{one-holder, is-valid}
+use Rattle.rules.specs.declared.state.Status.{Status}
+use Rattle.rules.specs.declared.state.Status.the-variants.{Free, Asked, Running}
+use Rattle.rules.specs.State.{isAsked, isRunning, nextOf, trainOf, lineOf, locatedBy as recordedBy}
+use Rattle.rules.specs.State.{located as recorded}
+use Rattle.rules.proofs.Trains.{route-of}
+use Rattle.rules.proofs.Validity.{one-holder, is-valid}
 use Rattle.assurance.specs.Types.{Move, Fe}
 use Rattle.assurance.specs.Run.{Exchange, Ran}
 use Rattle.assurance.specs.Observer.{Seen, Observer, answersOf, locatedBy, located, hasAuthority, hasAsked}

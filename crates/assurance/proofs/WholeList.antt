@@ -6,7 +6,7 @@ use mathlib.Core.List.{List}
 use Prim.Native.Nat.{ℕ}
 use Rattle.line.specs.Book.{lineOf as lineIn}
 use Rattle.completion.specs.Table.{filled}
-use Rattle.dispatcher.specs.Opening.{Opening, openedState, opening}
+use Rattle.rules.specs.Opening.{Opening, openedState, opening}
 use Rattle.assurance.specs.Types.{Line, Record}
 use Rattle.assurance.specs.Run.{Input, run}
 use Rattle.assurance.specs.Observer.{atOpening, observe}

@@ -6,7 +6,7 @@ use Prim.Native.Nat.{ℕ, _<_}
 use Rattle.line.specs.Refusal.{strangeState, journalFull}
 use Rattle.line.specs.Line.{routeOf}
 use Rattle.line.specs.Book.{lineOf}
-use Rattle.dispatcher.specs.Opening.{opening}
+use Rattle.rules.specs.Opening.{opening}
 use Rattle.assurance.specs.Types.{Record, RefusedBy}
 use Rattle.assurance.specs.Run.{Input, Exchange, run}
 use Rattle.assurance.specs.Observer.{atOpening, observe}

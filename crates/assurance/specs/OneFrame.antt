@@ -5,10 +5,10 @@ use mathlib.Core.Logic.{_≢_}
 use mathlib.Core.Bool.{true, false}
 use mathlib.Core.List.{List, _∷_, _++_}
 use Prim.Native.Nat.{ℕ, _≤_, _<_}
-use Rattle.dispatcher.specs.State.{askedAs, trainOf, nextMove}
-use Rattle.dispatcher.specs.Valid.{valid}
-use Rattle.dispatcher.specs.Granting.{grantable, Work, granted, settled}
-use Rattle.dispatcher.specs.Answer.{answer}
+use Rattle.rules.specs.State.{askedAs, trainOf, nextMove}
+use Rattle.rules.specs.Valid.{valid}
+use Rattle.rules.specs.Granting.{grantable, Work, granted, settled}
+use Rattle.rules.specs.Answer.{answer}
 use Rattle.assurance.specs.Types.{Message, Fe, Record, State, Sent}
 
 -- a valid state stays valid

@@ -3,7 +3,7 @@
 -- as the frame before it, accepted or refused, left them".
 use mathlib.Core.List.{List, [], _∷_}
 use Prim.Native.Nat.{ℕ}
-use Rattle.dispatcher.specs.Answer.{Answer, answer}
+use Rattle.rules.specs.Answer.{Answer, answer}
 use Rattle.assurance.specs.Types.{Record, State, Verdict}
 
 -- a frame that is put to the box, with the out buffer that is lent for it

@@ -4,6 +4,6 @@ pub use Rattle.frame.specs.declared.message.Move.{Move}
 pub use Rattle.frame.specs.declared.message.Message.{Message}
 pub use Rattle.frame.specs.declared.message.Message.the-variants.{Fa, Fe, Afe, Am, Refused}
 pub use Rattle.journal.specs.declared.record.Record.{Record}
-pub use Rattle.dispatcher.specs.declared.state.State.{State}
-pub use Rattle.dispatcher.specs.declared.state.Verdict.{Verdict}
-pub use Rattle.dispatcher.specs.declared.state.Verdict.the-variants.{Sent, Refused as RefusedBy}
+pub use Rattle.rules.specs.declared.state.State.{State}
+pub use Rattle.rules.specs.declared.result.Verdict.{Verdict}
+pub use Rattle.rules.specs.declared.result.Verdict.the-variants.{Sent, Refused as RefusedBy}

@@ -13,9 +13,9 @@ use Rattle.line.specs.Line.{routeOf, tracksAt}
 use Rattle.line.specs.Holding.{holdsSection, postHolders}
 use Rattle.line.specs.Book.{lineOf}
 use Rattle.journal.specs.Journal.{recordAt, recordOf}
-use Rattle.dispatcher.specs.State.{reached}
-use Rattle.dispatcher.specs.Valid.{valid}
-use Rattle.dispatcher.specs.Opening.{opening}
+use Rattle.rules.specs.State.{reached}
+use Rattle.rules.specs.Valid.{valid}
+use Rattle.rules.specs.Opening.{opening}
 use Rattle.assurance.specs.Types.{Line, Move, Fa, Fe, Record}
 use Rattle.assurance.specs.Run.{Input, Exchange, Ran, run}
 use Rattle.assurance.specs.Observer.{Observer, atOpening, answersOf, observe, located, hasAuthority, hasAsked}

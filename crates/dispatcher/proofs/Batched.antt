@@ -13,8 +13,9 @@ use Rattle.journal.proofs.Records.{logged-as-sent}
 use Rattle.journal.proofs.Batches.{with-room, records-with}
 use Rattle.journal.proofs.Appended.{appended-fits}
 use Rattle.dispatcher.specs.Types.{Message, Record, Batch}
-use Rattle.dispatcher.specs.Answer.{framesOf}
-use Rattle.dispatcher.specs.Step.{addRecords, batchOf, framesIn, answersIn}
+use Rattle.rules.specs.Answer.{framesOf}
+use Rattle.authority.specs.Progress.{addRecords, batchOf}
+use Rattle.dispatcher.specs.Step.{framesIn, answersIn}
 
 -- the batch b has the records rs, and only these
 pub record Batched (b : Batch) (rs : List Record) : Type 0 where

@@ -1,21 +1,7 @@
--- The laws of the dispatcher's definitions, for any state and any table, right or altered.
-pub mod Trains
-pub mod Located
-pub mod Validity
-pub mod Tested
-pub mod Changes
-pub mod Reached
-pub mod GrantTest
-pub mod Oldest
-pub mod Grants
-pub mod Settling
-pub mod Askers
-pub mod Working
-pub mod Acceptance
-pub mod Frames
+-- The definitions in the order in which the code goes through them.
+pub mod Declining
 pub mod Refusals
 pub mod Sent
 pub mod Batched
-pub mod Stepping
-pub mod Taking
+pub mod Outcomes
 pub mod OpeningCases

@@ -13,8 +13,8 @@ use borrow.Author.Tests.{le-leb, lt-leb, ne-eqb}
 use Rattle.common.specs.Check.{Check, check, refusal}
 use Rattle.common.specs.Tabulate.{valuesFrom, padded}
 use Rattle.common.proofs.Tests.{by-equality}
-use Rattle.common.proofs.Check.{none, stop, pass, refusal-is, first-part, second-part, not-given, passed-at}
-use Rattle.common.proofs.Check.{accepts, refuses}
+use Rattle.common.proofs.Check.{none, stop, pass, refusal-is, first-part, second-part, not-given, passed-at, accepts}
+use Rattle.common.proofs.Check.{refuses}
 use Rattle.common.proofs.Tabulate.{padded-none, past-padded}
 use Rattle.line.specs.Refusal.{shortStore, overfull, noWayThrough}
 use Rattle.line.specs.Book.{lineOf as lineIn, bookChecks, accepted, refusedBy, readBook, outcomeNumber}
@@ -29,9 +29,9 @@ use Rattle.completion.specs.Configuration.{start, code, codeBelow, feasible}
 use Rattle.completion.specs.Table.{tableLength, bitOf, filled, Filling}
 use Rattle.completion.proofs.Codes.{code-cong}
 use Rattle.dispatcher.specs.Types.{Line, Opened}
-use Rattle.dispatcher.specs.State.{noTrain}
-use Rattle.dispatcher.specs.Opening.{openingChecks, fresh, openedState, emptyState}
-use Rattle.dispatcher.specs.Opening.{Opening, opened, openingOf, refusedBook, openingWith}
+use Rattle.rules.specs.State.{noTrain}
+use Rattle.rules.specs.Opening.{openingChecks, fresh, openedState, emptyState, Opening, opened, openingOf, refusedBook}
+use Rattle.rules.specs.Opening.{openingWith}
 
 -- ---- parts of the opening
 

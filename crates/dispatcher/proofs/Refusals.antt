@@ -9,17 +9,19 @@ use native.Mathlib.Omega.{arith}
 use lib.Dec.{leb, eqb}
 use borrow.Author.Tests.{lt-ltb, le-ltb, le-leb, lt-leb, eq-eqb, ne-eqb}
 use Rattle.common.specs.Check.{Check, check, refusal}
-use Rattle.common.proofs.Check.{Refuses, none, stop, pass, refusal-is, check-passes, check-fails, first-part, second-part, stop-within, pass-all}
-use Rattle.line.specs.Refusal.{strangeState, shortStore, wrongEnd, unknownTrain, atEnd as trainAtEnd, wrongPost, journalFull}
+use Rattle.common.proofs.Check.{Refuses, none, stop, pass, refusal-is, check-passes, check-fails, first-part}
+use Rattle.common.proofs.Check.{second-part, stop-within, pass-all}
+use Rattle.line.specs.Refusal.{strangeState, shortStore, wrongEnd, unknownTrain, atEnd as trainAtEnd, wrongPost}
+use Rattle.line.specs.Refusal.{journalFull}
 use Rattle.frame.specs.Frame.{readChecks, readFrame}
 use Rattle.frame.specs.RoundTrip.{IsMessage}
 use Rattle.frame.proofs.Outcome.{read-passed, read-refused}
 use Rattle.journal.specs.Journal.{journalLength}
 use Rattle.completion.specs.Table.{tableLength}
 use Rattle.dispatcher.specs.Types.{Move, Message, Fa, Fe, Afe, Am, Refused, Train, State}
-use Rattle.dispatcher.specs.State.{atEnd, nextOf, trainOf}
-use Rattle.dispatcher.specs.Valid.{valid}
-use Rattle.dispatcher.specs.Answer.{outLength, mostLogged, isFa, isAm, moveIn, statusChecks, moveChecks, frameChecks}
+use Rattle.rules.specs.State.{atEnd, nextOf, trainOf}
+use Rattle.rules.specs.Valid.{valid}
+use Rattle.rules.specs.Answer.{outLength, mostLogged, isFa, isAm, moveIn, statusChecks, moveChecks, frameChecks}
 use Rattle.dispatcher.specs.Step.{messageRefusal}
 
 -- ---- the checks of a move

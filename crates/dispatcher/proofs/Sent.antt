@@ -12,7 +12,7 @@ use Rattle.common.specs.Part.{replaced, replacedIfRoom}
 use Rattle.common.proofs.Part.{length-replaced, replaced-if, replaced-none}
 use Rattle.journal.specs.Journal.{blank, frameOf}
 use Rattle.dispatcher.specs.Types.{Record}
-use Rattle.dispatcher.specs.Answer.{outLength}
+use Rattle.rules.specs.Answer.{outLength}
 use Rattle.dispatcher.specs.Step.{framesIn}
 
 frames-size : (l : List Record) → length (framesIn l) ≡ 7 * length l

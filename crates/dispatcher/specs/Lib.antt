@@ -1,9 +1,4 @@
--- What the dispatcher is. Read in this order.
+-- Words of the entry points' code. What they are to do is in `rules`.
 pub mod Types
-pub mod State
-pub mod Valid
-pub mod Granting
-pub mod Answer
-pub mod Opening
-pub mod Log
 pub mod Step
+pub mod Log

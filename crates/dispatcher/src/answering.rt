@@ -1,13 +1,13 @@
 // The answer to a frame: the step, and then its records are written to the journal.
 ghost use mathlib.Core.Path.{_≡_};
-ghost use Rattle.dispatcher.specs.Answer.{answerOf, answer};
+ghost use Rattle.rules.specs.Answer.{answerOf, answer};
 use crate::log::Log;
 use crate::log::appended;
 use crate::log::log_length;
-use crate::state::State;
-use crate::step::Reply;
-use crate::step::step;
+use crate::stepping::step;
 use journal::Record;
+use rules::Reply;
+use rules::State;
 
 // Answers a frame. The answers' frames are at the beginning of `out`.
 pub fn answer(

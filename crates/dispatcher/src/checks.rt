@@ -7,20 +7,20 @@ ghost use lib.Dec.{leb};
 ghost use Rattle.common.specs.Check.{refusal};
 ghost use Rattle.journal.specs.Journal.{journalLength};
 ghost use Rattle.completion.specs.Table.{tableLength};
-ghost use Rattle.dispatcher.specs.Answer.{outLength, statusChecks, moveChecks, frameChecks};
+ghost use Rattle.rules.specs.Answer.{outLength, statusChecks, moveChecks, frameChecks};
 ghost use Rattle.dispatcher.specs.Step.{messageRefusal};
-use crate::state::State;
-use crate::state::Status;
-use crate::state::train_of;
-use crate::train::at_end;
-use crate::train::next_post;
-use crate::valid::valid;
+use authority::at_end;
+use authority::next_post;
+use authority::train_of;
+use authority::valid;
 use completion::TABLE_LENGTH;
 use frame::Message;
 use frame::Move;
 use journal::BATCH_LENGTH;
 use journal::JOURNAL_LENGTH;
 use line::refusal;
+use rules::State;
+use rules::Status;
 
 // At most six frames go out.
 pub const OUT_LENGTH: usize = 42;

@@ -1,13 +1,10 @@
 // The opening of a book: the table is filled, and every train stands at its start.
 ghost use mathlib.Core.Path.{_≡_};
 ghost use Rattle.line.specs.Book.{outcomeNumber};
-ghost use Rattle.dispatcher.specs.State.{noTrain};
-ghost use Rattle.dispatcher.specs.Opening.{fresh, openedState, emptyState, openingOf, openingWith, opening};
+ghost use Rattle.rules.specs.State.{noTrain};
+ghost use Rattle.rules.specs.Opening.{fresh, openedState, emptyState, openingOf, openingWith, opening};
 use crate::log::Log;
 use crate::log::log_length;
-use crate::state::State;
-use crate::state::Status;
-use crate::state::Train;
 use completion::TABLE_LENGTH;
 use journal::JOURNAL_LENGTH;
 use journal::Record;
@@ -18,12 +15,10 @@ use line::Route;
 use line::refusal::NO_WAY_THROUGH;
 use line::refusal::OVERFULL;
 use line::refusal::SHORT_STORE;
-
-// The state that a book opens with, and the number of the refusal, or 0.
-pub struct Opened {
-    pub state: State,
-    pub refusal: u8,
-}
+use rules::Opened;
+use rules::State;
+use rules::Status;
+use rules::Train;
 
 // Opens a book. Of the journal only its length is looked at.
 pub fn open(book: &[u8], table: &mut [u8], journal: &[Record]) -> Opened

@@ -5,7 +5,7 @@ ghost use Prim.Native.Nat.{_-_, _≤_};
 ghost use lib.ListN.{length};
 ghost use Rattle.common.specs.Part.{replaced};
 ghost use Rattle.journal.specs.Journal.{batchLength, frameOf};
-ghost use Rattle.dispatcher.specs.Answer.{outLength};
+ghost use Rattle.rules.specs.Answer.{outLength};
 ghost use Rattle.dispatcher.specs.Step.{framesIn, answersIn};
 use journal::BATCH_LENGTH;
 use journal::Record;

@@ -7,8 +7,8 @@ use Rattle.common.specs.Tabulate.{valuesFrom}
 use Rattle.line.specs.Line.{wellFormed}
 use Rattle.line.specs.Route.{between, nextPost}
 use Rattle.frame.specs.Frame.{readFrame, bytesOf}
-use Rattle.dispatcher.specs.Valid.{valid}
-use Rattle.dispatcher.specs.Answer.{answer}
+use Rattle.rules.specs.Valid.{valid}
+use Rattle.rules.specs.Answer.{answer}
 use Rattle.examples.specs.Reading.{opened, ranFrom, answersIn, seenIn}
 use Rattle.examples.specs.Further.{OlderThen, FullPost, Parked, SixTrains, BothHome, Precedence}
 

@@ -5,7 +5,7 @@ use Prim.Native.Nat.{ℕ}
 use Rattle.line.specs.Holding.{postHolders, sectionHolders}
 use Rattle.frame.specs.Frame.{bytesOf}
 use Rattle.journal.specs.Journal.{recordOf}
-use Rattle.dispatcher.specs.State.{located}
+use Rattle.rules.specs.State.{located}
 use Rattle.assurance.specs.Types.{Message, Sent, RefusedBy}
 use Rattle.examples.specs.Reading.{fa, fe, afe, am, opened, refusalOf, ran, verdictsOf, answersIn, recordsIn}
 

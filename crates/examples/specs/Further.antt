@@ -6,8 +6,8 @@ use lib.ListN.{replicate}
 use Rattle.frame.specs.Frame.{bytesOf}
 use Rattle.journal.specs.Journal.{journalLength, blank}
 use Rattle.completion.specs.Table.{tableLength}
-use Rattle.dispatcher.specs.Answer.{outLength, answer}
-use Rattle.dispatcher.specs.Opening.{emptyState}
+use Rattle.rules.specs.Answer.{outLength, answer}
+use Rattle.rules.specs.Opening.{emptyState}
 use Rattle.assurance.specs.Types.{State, Verdict, Sent, RefusedBy}
 use Rattle.assurance.specs.Run.{Ran}
 use Rattle.assurance.specs.Observer.{Seen, nothing}

@@ -16,10 +16,10 @@ use Rattle.frame.specs.Frame.{moveOf, messageOf, readFrame, bytesOf}
 use Rattle.journal.specs.Journal.{journalLength, blank, recordOf}
 use Rattle.completion.specs.Configuration.{codeBelow, within, fits, arrived, feasible}
 use Rattle.completion.specs.Table.{tableLength, movesOn, completableBy, completableIn, tableOf}
-use Rattle.dispatcher.specs.Valid.{valid}
-use Rattle.dispatcher.specs.Granting.{grantable, oldest, grants}
-use Rattle.dispatcher.specs.Answer.{outLength, accepted, framesOf, answer}
-use Rattle.dispatcher.specs.Opening.{Opening, openingWith, opening}
+use Rattle.rules.specs.Valid.{valid}
+use Rattle.rules.specs.Granting.{grantable, oldest, grants}
+use Rattle.rules.specs.Answer.{outLength, accepted, framesOf, answer}
+use Rattle.rules.specs.Opening.{Opening, openingWith, opening}
 use Rattle.assurance.specs.Types.{Message, Fa, Fe, Afe, Am, Record, State, Verdict}
 use Rattle.assurance.specs.Run.{Input, Exchange, Ran, run}
 use Rattle.assurance.specs.Observer.{Seen, readFrames, answersOf, atOpening, hearAnswers, observe}

@@ -5,9 +5,9 @@ use crate::printing::print_run;
 use crate::reading::read_book;
 use completion::TABLE_LENGTH;
 use dispatcher::Log;
-use dispatcher::Opened;
-use dispatcher::State;
-use dispatcher::Verdict;
+use rules::Opened;
+use rules::State;
+use rules::Verdict;
 
 // As many bytes as six frames have.
 const OUT_LENGTH: usize = 42;

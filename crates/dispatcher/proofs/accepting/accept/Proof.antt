@@ -4,8 +4,9 @@ use mathlib.Core.Path.{_≡_, sym, ap, subst, _∙_}
 use denote.Ref.{now}
 use borrow.Author.Needs.{needs}
 use Rattle.dispatcher.specs.Types.{Message}
-use Rattle.dispatcher.specs.Answer.{accepted}
-use Rattle.dispatcher.specs.Step.{progressOf, Acceptable}
+use Rattle.rules.specs.Answer.{accepted}
+use Rattle.authority.specs.Progress.{progressOf}
+use Rattle.dispatcher.specs.Step.{Acceptable}
 use Rattle.dispatcher.proofs.accepting.accept.Statement.{statement}
 use Rattle.dispatcher.proofs.accepting.accept.Tie as tie
 

@@ -8,12 +8,12 @@ use denote.Ref.{now}
 use borrow.Author.Needs.{needs}
 use Rattle.journal.specs.Journal.{journalLength}
 use Rattle.dispatcher.specs.Types.{Move, Am, Train, State}
-use Rattle.dispatcher.specs.State.{trainOf, arrivedNext, withTrain, oneLogged}
-use Rattle.dispatcher.specs.Valid.{valid}
-use Rattle.dispatcher.specs.Granting.{log, settled}
-use Rattle.dispatcher.specs.Answer.{mostLogged, taken, accepted}
-use Rattle.dispatcher.specs.Step.{progressOf}
-use Rattle.dispatcher.proofs.Working.{ready-train}
+use Rattle.rules.specs.State.{trainOf, arrivedNext, withTrain, oneLogged}
+use Rattle.rules.specs.Valid.{valid}
+use Rattle.rules.specs.Granting.{log, settled}
+use Rattle.rules.specs.Answer.{mostLogged, taken, accepted}
+use Rattle.authority.specs.Progress.{progressOf}
+use Rattle.dispatcher.proofs.Declining.{ready-train}
 use Rattle.dispatcher.proofs.accepting.arrival.Statement.{statement}
 use Rattle.dispatcher.proofs.accepting.arrival.Tie as tie
 

@@ -3,8 +3,8 @@
 use mathlib.Core.Path.{_≡_, sym, ap, _∙_}
 use borrow.Author.Needs.{needs}
 use Rattle.dispatcher.specs.Types.{Status}
-use Rattle.dispatcher.specs.State.{isAsked, trainOf}
-use Rattle.dispatcher.proofs.Working.{declined-asker, granted-asker}
+use Rattle.rules.specs.State.{isAsked, trainOf}
+use Rattle.dispatcher.proofs.Declining.{declined-asker, granted-asker}
 use Rattle.dispatcher.proofs.accepting.decline.Statement.{statement}
 use Rattle.dispatcher.proofs.accepting.decline.Tie as tie
 

@@ -1,7 +1,7 @@
 -- `untouched` meets its contract.
 -- Assumes nothing.
 use borrow.Author.Needs.{needs}
-use Rattle.dispatcher.specs.Step.{addRecords}
+use Rattle.authority.specs.Progress.{addRecords}
 use Rattle.dispatcher.proofs.accepting.untouched.Statement.{statement}
 use Rattle.dispatcher.proofs.accepting.untouched.Tie as tie
 

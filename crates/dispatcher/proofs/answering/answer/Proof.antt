@@ -24,8 +24,8 @@ use contract.Monad.{Fun, fact}
 use contract.Running.{givenOf, tables, tablesOf}
 use types.Kit.{Given, Item, ‵, raw, mean, _⊛_, ⋆, some, later, _$_, _∵_, !, qed, by, move, keep, drop, use1, use2}
 use types.Kit.{split, join, pick, await, rewrite, fsplit, fjoin, feqL, suffices, frame, done}
-use types.Run.{look, init, forget, stop, hop, fld, from, load, addr, of-opd, and-then, no-more, assigns, land}
-use types.Run.{returns, enter, alloc1, alloc0, params1, pass1, pass0, free1, free0}
+use types.Run.{look, init, forget, stop, hop, fld, from, load, addr, of-opd, and-then, no-more, assigns, land, returns}
+use types.Run.{enter, alloc1, alloc0, params1, pass1, pass0, free1, free0}
 use types.Part.{agg, whole, sub, look-in}
 use sound.WpLaws.{fmOf, WpFn-mono}
 use denote.RattleType.{owns}
@@ -55,18 +55,18 @@ use Rattle.journal.proofs.append.Symbol as append-def
 use Rattle.journal.proofs.append.Symbol.{name as #append}
 use Rattle.journal.proofs.append.Met as append-thm
 use Rattle.dispatcher.specs.Types.{Record, State, Outcome}
-use Rattle.dispatcher.specs.Answer.{answerOf}
+use Rattle.rules.specs.Answer.{answerOf}
 use Rattle.dispatcher.specs.Step.{Stepped}
-use Rattle.dispatcher.proofs.state.State as S
-use Rattle.dispatcher.proofs.state.State.Laws as S′
-use Rattle.dispatcher.proofs.step.Reply as Y
-use Rattle.dispatcher.proofs.step.Reply.Laws as Y′
-use Rattle.dispatcher.proofs.step.Outcome as O
-use Rattle.dispatcher.proofs.step.Outcome.Laws as O′
-use Rattle.dispatcher.proofs.step.step as step′
-use Rattle.dispatcher.proofs.step.step.Symbol as step-def
-use Rattle.dispatcher.proofs.step.step.Symbol.{name as #step}
-use Rattle.dispatcher.proofs.step.step.Met as step-thm
+use Rattle.rules.proofs.state.State as S
+use Rattle.rules.proofs.state.State.Laws as S′
+use Rattle.rules.proofs.result.Reply as Y
+use Rattle.rules.proofs.result.Reply.Laws as Y′
+use Rattle.dispatcher.proofs.stepping.Outcome as O
+use Rattle.dispatcher.proofs.stepping.Outcome.Laws as O′
+use Rattle.dispatcher.proofs.stepping.step as step′
+use Rattle.dispatcher.proofs.stepping.step.Symbol as step-def
+use Rattle.dispatcher.proofs.stepping.step.Symbol.{name as #step}
+use Rattle.dispatcher.proofs.stepping.step.Met as step-thm
 use Rattle.dispatcher.proofs.answering.answer as answer′
 use Rattle.dispatcher.proofs.answering.answer.Key.{name as #answer}
 use Rattle.dispatcher.proofs.answering.answer.Statement as stated
@@ -387,6 +387,6 @@ answer-spec 𝓤 H 𝓜 𝓖 𝓡 =
     (tables 𝓤 H 𝓜 𝓡 code.env .C) (tables 𝓤 H 𝓜 𝓡 code.env .Λ) #answer code.function (code.unfolded 𝓤 H 𝓜 𝓡)
     (answer-meets 𝓤 H (𝓖 .A) (givenOf 𝓤 H 𝓜 𝓖) (𝓜 .mem) (𝓡 .run) (tablesOf 𝓤 H 𝓜 (tables 𝓤 H 𝓜 𝓡 code.env))
     (cited 𝓤 H (Step 𝓤 H (𝓖 .A) (𝓜 .mem) (𝓡 .run)) 𝓜 𝓡 code.env #step step-def.routine
-    code.calls-dispatcher·step·step (step-thm.met 𝓤 H 𝓜 𝓖 𝓡))
+    code.calls-dispatcher·stepping·step (step-thm.met 𝓤 H 𝓜 𝓖 𝓡))
     (cited 𝓤 H (Append 𝓤 H (𝓖 .A) (𝓜 .mem) (𝓡 .run)) 𝓜 𝓡 code.env #append append-def.routine
     code.calls-journal·append (append-thm.met 𝓤 H 𝓜 𝓖 𝓡)))

@@ -4,7 +4,7 @@ use mathlib.Core.Path.{sym, ap, _∙_}
 use mathlib.Core.List.{List}
 use borrow.Author.Needs.{needs}
 use Rattle.dispatcher.specs.Types.{Record}
-use Rattle.dispatcher.specs.Answer.{answerOf}
+use Rattle.rules.specs.Answer.{answerOf}
 use Rattle.dispatcher.proofs.answering.answer_log.Statement.{statement}
 use Rattle.dispatcher.proofs.answering.answer_log.Tie as tie
 

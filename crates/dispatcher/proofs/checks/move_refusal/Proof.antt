@@ -5,8 +5,9 @@ use mathlib.Core.Bool.{Bool, false}
 use Prim.Native.Nat.{_<_}
 use borrow.Author.Needs.{needs}
 use Rattle.dispatcher.specs.Types.{Move, Train, State}
-use Rattle.dispatcher.specs.State.{atEnd, trainOf}
-use Rattle.dispatcher.proofs.Refusals.{no-train, train-ended, other-from, other-to, status-refuses, journal-full, move-passes}
+use Rattle.rules.specs.State.{atEnd, trainOf}
+use Rattle.dispatcher.proofs.Refusals.{no-train, train-ended, other-from, other-to, status-refuses, journal-full}
+use Rattle.dispatcher.proofs.Refusals.{move-passes}
 use Rattle.dispatcher.proofs.checks.move_refusal.Statement.{statement}
 use Rattle.dispatcher.proofs.checks.move_refusal.Tie as tie
 

@@ -6,7 +6,7 @@ use borrow.Author.Needs.{needs}
 use borrow.Author.Tests.{not-true, not-false}
 use Rattle.dispatcher.specs.Types.{Message}
 use Rattle.dispatcher.specs.Step.{messageRefusal}
-use Rattle.dispatcher.proofs.GrantTest.{few-trains}
+use Rattle.authority.proofs.GrantTest.{few-trains}
 use Rattle.dispatcher.proofs.Refusals.{strange, short-stores, message-decides}
 use Rattle.dispatcher.proofs.checks.refusal_of.Statement.{statement}
 use Rattle.dispatcher.proofs.checks.refusal_of.Tie as tie

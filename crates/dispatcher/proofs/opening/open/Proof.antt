@@ -21,8 +21,8 @@ use contract.Monad.{Fun, fact}
 use contract.Running.{givenOf, tables, tablesOf}
 use types.Kit.{Given, Item, ‵, raw, mean, _⊛_, ⋆, some, later, _$_, _∵_, !, qed, by, move, keep, drop, use1, use2}
 use types.Kit.{split, join, pick, await, fsplit, fjoin, feqL, suffices, frame, done}
-use types.Run.{look, init, forget, stop, hop, fld, from, load, addr, of-opd, and-then, no-more, assigns, land}
-use types.Run.{returns, enter, alloc1, alloc0, params1, pass1, pass0, free1, free0}
+use types.Run.{look, init, forget, stop, hop, fld, from, load, addr, of-opd, and-then, no-more, assigns, land, returns}
+use types.Run.{enter, alloc1, alloc0, params1, pass1, pass0, free1, free0}
 use types.Part.{agg, whole, sub, look-in}
 use sound.WpLaws.{fmOf, WpFn-mono}
 use denote.RattleType.{owns}
@@ -45,9 +45,9 @@ use denote.Triple.Walked.{ends-at, walked, walk-meets}
 use denote.Exit.{yes}
 use Rattle.journal.proofs.record.Record as R
 use Rattle.dispatcher.specs.Types.{Record, Opened}
-use Rattle.dispatcher.specs.Opening.{openingOf, opening}
-use Rattle.dispatcher.proofs.opening.Opened as O
-use Rattle.dispatcher.proofs.opening.Opened.Laws as O′
+use Rattle.rules.specs.Opening.{openingOf, opening}
+use Rattle.rules.proofs.result.Opened as O
+use Rattle.rules.proofs.result.Opened.Laws as O′
 use Rattle.dispatcher.proofs.opening.open_with as with′
 use Rattle.dispatcher.proofs.opening.open_with.Symbol as with-def
 use Rattle.dispatcher.proofs.opening.open_with.Symbol.{name as #open-with}

@@ -1,7 +1,7 @@
 -- `open_log` meets its contract: the opening is that of a journal as long as the log.
 -- Assumes nothing.
 use mathlib.Core.Path.{ap, _∙_}
-use Rattle.dispatcher.specs.Opening.{openingWith}
+use Rattle.rules.specs.Opening.{openingWith}
 use borrow.Author.Needs.{needs}
 use Rattle.dispatcher.proofs.opening.open_log.Statement.{statement}
 use Rattle.dispatcher.proofs.opening.open_log.Tie as tie

@@ -7,8 +7,8 @@ use borrow.Author.Needs.{needs}
 use Rattle.common.specs.Tabulate.{padded}
 use Rattle.common.proofs.Tabulate.{padded-none, padded-more}
 use Rattle.line.specs.Line.{routeOf}
-use Rattle.dispatcher.specs.State.{noTrain}
-use Rattle.dispatcher.specs.Opening.{fresh}
+use Rattle.rules.specs.State.{noTrain}
+use Rattle.rules.specs.Opening.{fresh}
 use Rattle.dispatcher.proofs.OpeningCases.{opened-fleet}
 use Rattle.dispatcher.proofs.opening.opened_state.Statement.{statement}
 use Rattle.dispatcher.proofs.opening.opened_state.Tie as tie

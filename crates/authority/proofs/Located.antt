@@ -1,0 +1,26 @@
+-- What one train's record says, in the words of the functions that read it.
+-- Assumes nothing.
+use mathlib.Core.Path.{_≡_, ap, _∙_}
+use Prim.Native.Nat.{ℕ}
+use lib.Dec.{eqb}
+use Rattle.line.specs.Route.{sectionOf}
+use Rattle.line.specs.Holding.{holdsSection}
+use Rattle.authority.specs.Types.{TrainNo, PostNo, Move, Free, Running, Train, State}
+use Rattle.rules.specs.State.{nextOf, locatedAt, trainOf, nextMove, arrivedNext}
+
+module _ (x : Train) where
+  pub running-section : (i n q : ℕ) → x .status ≡ Running → q ≡ nextOf x → n ≡ sectionOf (x .at .0) q → eqb n i ≡ holdsSection (locatedAt x) i
+  running-section i n q e f g = rw (e, g, f)
+
+  pub arrived-at : (q : PostNo) → q .0 ≡ nextOf x → record { route = x .route; at = q; status = Free } ≡ arrivedNext x
+  arrived-at q e = ap (λ (n : ℕ). arrivedTo n) e
+    where
+      arrivedTo : ℕ → Train
+      arrivedTo n = record { route = x .route; at = record { 0 = n }; status = Free }
+
+pub move-next : (s : State) (t : TrainNo) (x : Train) (q : PostNo) → x ≡ trainOf s (t .0) → q .0 ≡ nextOf x
+    → record { train = t; from = x .at; to = q } ≡ nextMove s (t .0)
+move-next s t x q e f = ap (λ (n : ℕ). to n x) f ∙ ap (λ (y : Train). to (nextOf y) y) e
+  where
+    to : ℕ → Train → Move
+    to n y = record { train = t; from = y .at; to = record { 0 = n } }

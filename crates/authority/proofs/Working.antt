@@ -1,0 +1,85 @@
+-- The work on a frame as the code holds it: the state, and the batch of what was logged. The granting turn by turn.
+-- Assumes nothing.
+use mathlib.Core.Path.{_≡_, refl, sym, ap, subst, _∙_}
+use mathlib.Core.Bool.{true}
+use mathlib.Core.List.{List, [], _∷_, _++_}
+use Prim.Native.Nat.{ℕ, _+_, _≤_, _<_}
+use native.Mathlib.Omega.{arith}
+use Rattle.common.proofs.Below.{count-le}
+use Rattle.journal.specs.Journal.{journalLength, recordOf, emptyBatch, withRecord}
+use Rattle.authority.specs.Types.{Message, Fe, Running, Batch, State, Progress}
+use Rattle.rules.specs.State.{isAsked, trainOf, nextMove, withStatus, withTrain, oneLogged}
+use Rattle.rules.specs.Valid.{valid}
+use Rattle.rules.specs.Granting.{Work, log, granted, settled}
+use Rattle.rules.specs.Answer.{mostLogged}
+use Rattle.authority.specs.Progress.{addRecords, batchOf, progressOf, progressWith}
+use Rattle.rules.proofs.Validity.{valid-facts, is-valid}
+use Rattle.rules.proofs.Oldest.{Nobody, Oldest}
+use Rattle.rules.proofs.Grants.{askedCount, granted-fewer, settled-stop, settled-next}
+use Rattle.rules.proofs.Settling.{Roomy, roomy-next}
+
+-- a message more
+records-more : (b : Batch) (l : List Message) (a : Message) → withRecord (addRecords b l) (recordOf a) ≡ addRecords b (l ++ a ∷ [])
+unfolding addRecords
+records-more b [] a = refl
+records-more b (c ∷ l) a = records-more (withRecord b (recordOf c)) l a
+
+pub logged-more : (s : State) (l : List Message) (a : Message) → progressWith s (batchOf l) a ≡ progressOf (log s l a)
+logged-more s l a = rw (records-more emptyBatch l a)
+
+-- ---- the granting that began with the work w, when the code holds p
+
+pub record Working (table : List ℕ) (w : Work) (p : Progress) : Type 0 where
+  pub work : Work
+  pub held : p ≡ progressOf work
+  pub roomy : Roomy work
+  pub ends : settled table work ≡ settled table w
+
+-- a frame is logged, and its own change made, which leaves a valid state with room for the answers
+pub begun-roomy : (s : State) (a : Message) → valid (oneLogged s) ≡ true → s .logged + mostLogged ≤ journalLength → Roomy (log s [] a)
+begun-roomy s a v room =
+    let d = valid-facts (oneLogged s) v in
+    record {
+      valid-state = d;
+      room = omega (arith, count-le (s .trains) (λ t. isAsked (trainOf s t .status)), d .line .few-trains);
+    }
+
+pub working-start : (table : List ℕ) (s : State) (a : Message) (p : Progress) → valid (oneLogged s) ≡ true → s .logged + mostLogged ≤ journalLength
+    → p ≡ progressWith s emptyBatch a → Working table (log s [] a) p
+unfolding addRecords
+working-start table s a p v room e = record { work = log s [] a; held = e; roomy = begun-roomy s a v room; ends = refl }
+
+module _ (table : List ℕ) (w : Work) (p : Progress) (g : Working table w p) where
+  state : g .work .state ≡ p .state
+  state = ap (λ (q : Progress). q .state) (sym (g .held))
+
+  pub working-valid : valid (p .state) ≡ true
+  working-valid = subst (λ (s : State). valid s ≡ true) state (is-valid (g .work .state) (g .roomy .valid-state))
+
+  pub working-end : Nobody table (p .state) (p .state .trains) → p ≡ progressOf (settled table w)
+  working-end h =
+      let none : Nobody table (g .work .state) (g .work .state .trains) = subst (λ (s : State). Nobody table s (s .trains)) (sym state) h in
+      g .held ∙ ap progressOf (sym (settled-stop table (g .work) none) ∙ g .ends)
+
+  module _ (t : ℕ) (f : Oldest table (p .state) (p .state .trains) t) where
+    turn : Oldest table (g .work .state) (g .work .state .trains) t
+    turn = subst (λ (s : State). Oldest table s (s .trains) t) (sym state) f
+
+    module _ (q : Progress)
+        (e : q ≡ progressWith (withTrain (p .state) t (withStatus (trainOf (p .state) t) Running)) (p .batch) (Fe (nextMove (p .state) t))) where
+      after : q ≡ progressOf (granted (g .work) t)
+      after =
+          e
+          ∙ ap (λ (r : Progress). progressWith (withTrain (r .state) t (withStatus (trainOf (r .state) t) Running)) (r .batch) (Fe (nextMove (r .state) t))) (g .held)
+          ∙ logged-more _ (g .work .logged) _
+
+      pub working-next : Working table w q
+      working-next = record {
+        work = granted (g .work) t;
+        held = after;
+        roomy = roomy-next table (g .work) t (g .roomy) turn;
+        ends = settled-next table (g .work) t (g .roomy .valid-state) turn ∙ g .ends;
+      }
+
+      pub working-less : askedCount (q .state) < askedCount (p .state)
+      working-less = rw (after, g .held) (omega (arith, granted-fewer table (g .work) t turn))

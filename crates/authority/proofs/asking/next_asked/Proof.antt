@@ -1,0 +1,56 @@
+-- `next_asked` meets its contract. The loop's invariant: the best so far is the next one among the trains passed.
+-- Assumes nothing.
+use mathlib.Core.Path.{_≡_, sym}
+use Prim.Native.Nat.{_≤_, _-_}
+use native.Mathlib.Numerals.{add-one}
+use native.Mathlib.Omega.{arith}
+use borrow.Author.Needs.{needs}
+use Rattle.authority.specs.Asking.{NextAsked}
+use Rattle.authority.proofs.Askers.{next-none, next-more}
+use Rattle.authority.proofs.asking.next_asked.Statement.{statement}
+use Rattle.authority.proofs.asking.next_asked.Tie as tie
+
+abbrev Inv-loop : tie.InvT-loop
+Inv-loop state from best₀ t₀ best t = (t ≤ state .trains) × NextAsked state from t best
+
+abbrev μ-loop : tie.MeasureT-loop
+μ-loop state from best₀ t₀ best t = state .trains - t
+
+loop-holds : tie.Need-loop-holds Inv-loop μ-loop
+loop-holds c = (omega arith, next-none _ _)
+
+status-of-requires : tie.Need-status-of-requires Inv-loop μ-loop
+status-of-requires c κs = omega arith
+
+elder-requires : tie.Need-elder-requires Inv-loop μ-loop
+elder-requires c κs = search needs
+
+add-t : tie.Need-add-t Inv-loop μ-loop
+add-t c = omega arith
+
+loop-less : tie.Need-loop-less Inv-loop μ-loop
+loop-less c = omega arith
+
+loop-again : tie.Need-loop-again Inv-loop μ-loop
+loop-again c =
+    let at = c .before .before .before .before in
+    (omega arith, rw (c .elder .ensures, add-one) (next-more (at .before .args .state) (at .before .args .from) (at .loop .t) _ _ (sym (c .before .status-of .ensures)) (at .loop .inv .1)))
+
+returns : tie.Need-returns Inv-loop μ-loop
+returns c =
+    let all : c .before .before .loop .t ≡ c .before .before .before .args .state .trains = omega arith in
+    rw all at (c .before .before .loop .inv .1)
+
+pub next-asked-spec : {M : Type 1} → statement M
+next-asked-spec =
+    tie.close
+    (tie.spec
+    Inv-loop
+    μ-loop
+    loop-holds
+    status-of-requires
+    elder-requires
+    add-t
+    loop-less
+    loop-again
+    returns)

@@ -1,0 +1,36 @@
+-- `tracks_at` meets its contract: there are eight places, so that past them 0 is read.
+-- Assumes nothing.
+use mathlib.Core.Path.{_≡_, sym}
+use native.Mathlib.Omega.{arith}
+use lib.ListN.{length, List·getD-eq-default}
+use borrow.Author.Needs.{needs}
+use Rattle.authority.proofs.fleet.tracks_at.Statement.{statement}
+use Rattle.authority.proofs.fleet.tracks_at.Tie as tie
+
+cast-i : tie.Need-cast-i
+cast-i c = search needs
+
+element-copy-out-result : tie.Need-element-copy-out-result
+element-copy-out-result c = search needs
+
+cast-result : tie.Need-cast-result
+cast-result c = search needs
+
+returns : tie.Need-returns
+returns c = search needs
+
+returns-2 : tie.Need-returns-2
+returns-2 c =
+    let s = c .before .before in
+    let eight : length (s .args .t1 .tracks) ≡ 8 = search needs in
+    sym (List·getD-eq-default (s .args .t1 .tracks) 0 {n = s .args .p .0} (omega arith))
+
+pub tracks-at-spec : {M : Type 1} → statement M
+tracks-at-spec =
+    tie.close
+    (tie.spec
+    cast-i
+    element-copy-out-result
+    cast-result
+    returns
+    returns-2)

@@ -1,0 +1,40 @@
+-- `granted` meets its contract.
+-- Assumes nothing.
+use borrow.Author.Needs.{needs}
+use Rattle.authority.proofs.granting.granted.Statement.{statement}
+use Rattle.authority.proofs.granting.granted.Tie as tie
+
+next-move-requires : tie.Need-next-move-requires
+next-move-requires c κs = search needs
+
+train-of-requires : tie.Need-train-of-requires
+train-of-requires c κs = search needs
+
+with-status-requires : tie.Need-with-status-requires
+with-status-requires c κs = search needs
+
+with-train-requires : tie.Need-with-train-requires
+with-train-requires c κs = search needs
+
+logged-requires : tie.Need-logged-requires
+logged-requires c κs = rw (c .with-train .ensures) (c .before .before .before .before .before .before .pre .1)
+
+returns : tie.Need-returns
+returns c = rw (
+  c .logged .ensures,
+  c .before .with-train .ensures,
+  c .before .before .with-status .ensures,
+  c .before .before .before .train-of .ensures,
+  c .before .before .before .before .next-move .ensures,
+)
+
+pub granted-spec : {M : Type 1} → statement M
+granted-spec =
+    tie.close
+    (tie.spec
+    next-move-requires
+    train-of-requires
+    with-status-requires
+    with-train-requires
+    logged-requires
+    returns)

@@ -1,0 +1,177 @@
+-- `settle` meets its contract. Outer loop: the work is one that ends as the work it began with, and each turn has one Asked train fewer. Inner
+-- loop: nothing is changed, and nobody whose request has a number below `from` can be granted.
+-- Assumes nothing.
+use mathlib.Core.Path.{_≡_, refl, sym, ap, subst, _∙_}
+use mathlib.Core.Bool.{true}
+use mathlib.Core.List.{List, []}
+use Prim.Native.Nat.{ℕ, _-_, _<_}
+use native.Mathlib.Omega.{arith}
+use denote.Ref.{now}
+use borrow.Author.Needs.{needs}
+use Rattle.authority.specs.Types.{TrainNo, Asker, Batch, State, Progress}
+use Rattle.rules.specs.Valid.{valid}
+use Rattle.rules.specs.Granting.{grantable, Work, log}
+use Rattle.authority.specs.Asking.{NextAsked}
+use Rattle.authority.specs.Progress.{progressWith}
+use Rattle.rules.proofs.Validity.{valid-facts}
+use Rattle.rules.proofs.Oldest.{Oldest}
+use Rattle.rules.proofs.Grants.{askedCount}
+use Rattle.authority.proofs.GrantTest.{few-trains}
+use Rattle.authority.proofs.Askers.{Next, Tried, next-found, next-small, tried-none, tried-all, first-oldest}
+use Rattle.authority.proofs.Askers.{tried-more}
+use Rattle.authority.proofs.Working.{Working, working-start, working-valid, working-end, working-next}
+use Rattle.authority.proofs.Working.{working-less}
+use Rattle.authority.proofs.granting.settle.Statement.{statement}
+use Rattle.authority.proofs.granting.settle.Tie as tie
+
+abbrev Inv-loop : tie.InvT-loop
+Inv-loop table work₀ from₀ work from = (work ≡ work₀) × Tried table (work .state) from
+
+abbrev μ-loop : tie.MeasureT-loop
+μ-loop table work₀ from₀ work from = 256 - from
+
+abbrev Inv-again : tie.InvT-again
+Inv-again table work₀ work = (w : Work) → Working table w work₀ → Working table w work
+
+abbrev μ-again : tie.MeasureT-again
+μ-again table work₀ work = askedCount (work .state)
+
+empty-requires : tie.Need-empty-requires Inv-loop μ-loop Inv-again μ-again
+empty-requires c κs = search needs
+
+logged-requires : tie.Need-logged-requires Inv-loop μ-loop Inv-again μ-again
+logged-requires c κs = omega (arith, c .before .before .pre .1)
+
+again-holds : tie.Need-again-holds Inv-loop μ-loop Inv-again μ-again
+again-holds c = λ w g. g
+
+loop-holds : tie.Need-loop-holds Inv-loop μ-loop Inv-again μ-again
+loop-holds c = (refl, tried-none _ _)
+
+-- a turn of the inner loop
+module _ (c : tie.At-loop Inv-loop μ-loop Inv-again μ-again) where
+  abbrev start : tie.Start Inv-loop μ-loop Inv-again μ-again
+  start = c .before .before .before .before .before
+
+  abbrev table : List ℕ
+  table = now (start .args .table)
+
+  abbrev state : State
+  state = c .loop .work .state
+
+  -- the work that the granting begins with
+  abbrev first : Work
+  first = log (start .args .state) [] (start .args .message)
+
+  begun : Working table first (c .before .before .logged .result)
+  begun =
+      working-start table (start .args .state) (start .args .message) _ (start .pre .0) (start .pre .1)
+      (c .before .before .logged .ensures
+      ∙ ap (λ (b : Batch). progressWith (start .args .state) b (start .args .message)) (c .before .before .before .empty .ensures))
+
+  -- the inner loop has changed nothing
+  kept : (w : Work) → Working table w (c .before .before .logged .result) → Working table w (c .loop .work)
+  kept w g = subst (λ (p : Progress). Working table w p) (sym (c .loop .inv .0)) (c .before .again .inv w g)
+
+  on : Working table first (c .loop .work)
+  on = kept first begun
+
+  valid-state : valid state ≡ true
+  valid-state = working-valid table first _ on
+
+next-asked-requires : tie.Need-next-asked-requires Inv-loop μ-loop Inv-again μ-again
+next-asked-requires c κs = few-trains _ (valid-state (c .before))
+
+enum-known-t : tie.Need-enum-known-t Inv-loop μ-loop Inv-again μ-again
+enum-known-t c = search needs
+
+enum-told : tie.Need-enum-told Inv-loop μ-loop Inv-again μ-again
+enum-told c = search needs
+
+returns : tie.Need-returns Inv-loop μ-loop Inv-again μ-again
+returns c =
+    let at = c .before .before .before .before in
+    let none = subst (λ (a : Asker). NextAsked (state at) (at .loop .from) (state at .trains) a) (c .enum-told .given .1) (c .before .before .next-asked .ensures) in
+    working-end (table at) (first at) _ (on at) (tried-all (table at) (state at) _ (at .loop .inv .1) none)
+
+-- the next Asked train, and the number of its request
+module _ (c : tie.After-known-told Inv-loop μ-loop Inv-again μ-again) where
+  abbrev at : tie.At-loop Inv-loop μ-loop Inv-again μ-again
+  at = c .before .before .before .before .before
+
+  abbrev t : TrainNo
+  t = c .before .t .given .0 .0
+
+  abbrev number : ℕ
+  number = c .before .t .given .0 .1 .0
+
+  next : Next (state at) (at .loop .from) t number
+  next = next-found (state at) (at .loop .from) t number
+      (subst (λ (a : Asker). NextAsked (state at) (at .loop .from) (state at .trains) a) (c .before .t .given .1) (c .before .before .before .next-asked .ensures))
+
+grantable-requires : tie.Need-grantable-requires Inv-loop μ-loop Inv-again μ-again
+grantable-requires c κs = (valid-state (at c), next c .known)
+
+-- it is granted
+module _ (c : tie.Then1 Inv-loop μ-loop Inv-again μ-again) where
+  abbrev asker : tie.After-known-told Inv-loop μ-loop Inv-again μ-again
+  asker = c .before .before
+
+  oldest : Oldest (table (at asker)) (state (at asker)) (state (at asker) .trains) (t asker .0)
+  oldest =
+      first-oldest (table (at asker)) (state (at asker)) _ (at asker .loop .inv .1) _ _ (next asker)
+      (sym (c .before .grantable .ensures) ∙ c .if1 .taken)
+
+granted-requires : tie.Need-granted-requires Inv-loop μ-loop Inv-again μ-again
+granted-requires c κs =
+    let n = asker c in
+    let d = valid-facts _ (valid-state (at n)) in
+    (omega (arith, next n .known, d .line .few-trains), d .few-logged)
+
+again-less : tie.Need-again-less Inv-loop μ-loop Inv-again μ-again
+again-less c =
+    let n = asker (c .before) in
+    subst (λ (p : Progress). askedCount (c .granted .result .state) < askedCount (p .state)) (at n .loop .inv .0)
+    (working-less (table (at n)) (first (at n)) _ (on (at n)) _ (oldest (c .before)) _ (c .granted .ensures))
+
+again-again : tie.Need-again-again Inv-loop μ-loop Inv-again μ-again
+again-again c =
+    let n = asker (c .before) in
+    λ w g. working-next (table (at n)) w _ (kept (at n) w g) _ (oldest (c .before)) _ (c .granted .ensures)
+
+add-from : tie.Need-add-from Inv-loop μ-loop Inv-again μ-again
+add-from c = let n = c .before .before in omega (arith, next-small (state (at n)) _ _ _ (valid-state (at n)) (next n))
+
+loop-less : tie.Need-loop-less Inv-loop μ-loop Inv-again μ-again
+loop-less c = let n = c .before .before in omega (arith, next-small (state (at n)) _ _ _ (valid-state (at n)) (next n), next n .low)
+
+loop-again : tie.Need-loop-again Inv-loop μ-loop Inv-again μ-again
+loop-again c =
+    let n = c .before .before in (
+      at n .loop .inv .0,
+      tried-more (table (at n)) (state (at n)) _ (at n .loop .inv .1) _ _ (next n) (valid-state (at n)) (sym (c .before .grantable .ensures) ∙ c .if1 .left),
+    )
+
+pub settle-spec : {M : Type 1} → statement M
+settle-spec =
+    tie.close
+    (tie.spec
+    Inv-loop
+    μ-loop
+    Inv-again
+    μ-again
+    empty-requires
+    logged-requires
+    again-holds
+    loop-holds
+    next-asked-requires
+    enum-known-t
+    enum-told
+    returns
+    grantable-requires
+    granted-requires
+    again-less
+    again-again
+    add-from
+    loop-less
+    loop-again)

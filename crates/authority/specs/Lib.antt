@@ -1,0 +1,4 @@
+-- Words of the code below the entry points.
+pub mod Types
+pub mod Asking
+pub mod Progress

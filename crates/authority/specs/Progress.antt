@@ -1,0 +1,21 @@
+-- The work on one frame as the code holds it: a batch where the definitions have a list of messages.
+use mathlib.Core.List.{List, [], _∷_}
+use Rattle.journal.specs.Journal.{recordOf, emptyBatch, withRecord}
+use Rattle.rules.specs.State.{oneLogged}
+use Rattle.rules.specs.Granting.{Work}
+use Rattle.authority.specs.Types.{Message, Batch, State, Progress}
+
+-- the records of some messages, added to a batch one by one
+unfoldable pub addRecords : Batch → List Message → Batch
+addRecords b [] = b
+addRecords b (a ∷ l) = addRecords (withRecord b (recordOf a)) l
+
+abbrev pub batchOf : List Message → Batch
+batchOf l = addRecords emptyBatch l
+
+abbrev pub progressOf : Work → Progress
+progressOf w = record { state = w .state; batch = batchOf (w .logged) }
+
+-- a message more is logged: `log` of the work
+abbrev pub progressWith : State → Batch → Message → Progress
+progressWith s b a = record { state = oneLogged s; batch = withRecord b (recordOf a) }

@@ -1,0 +1,76 @@
+// The granting: "the oldest Asked train (lowest FA number) that can be granted becomes Running and
+// an FE is written; again from the oldest, until none can be granted."
+ghost use mathlib.Core.Path.{_≡_};
+ghost use mathlib.Core.Bool.{true};
+ghost use mathlib.Core.List.{[]};
+ghost use Prim.Native.Nat.{_+_, _≤_, _<_};
+ghost use Rattle.journal.specs.Journal.{journalLength, recordOf, withRecord};
+ghost use Rattle.authority.specs.Types.{Fe, Running};
+ghost use Rattle.rules.specs.State.{trainOf, nextMove, withStatus, withTrain, oneLogged};
+ghost use Rattle.rules.specs.Valid.{valid};
+ghost use Rattle.rules.specs.Granting.{log, settled};
+ghost use Rattle.rules.specs.Answer.{mostLogged};
+ghost use Rattle.authority.specs.Progress.{progressOf, progressWith};
+use crate::asking::Asker;
+use crate::asking::next_asked;
+use crate::fleet::one_logged;
+use crate::fleet::train_of;
+use crate::fleet::with_train;
+use crate::grantable::grantable;
+use crate::train::next_move;
+use crate::train::with_status;
+use frame::Message;
+use journal::Batch;
+use line::TrainNo;
+use rules::State;
+use rules::Status;
+
+// How far the work on a frame is: the state, and the records of what was logged so far.
+pub struct Progress {
+    pub state: State,
+    pub batch: Batch,
+}
+
+// The granting, after `message` is logged.
+pub fn settle(state: State, table: &[u8], message: Message) -> Progress
+    requires { ⌜ (valid (oneLogged state) ≡ true) × (state .logged + mostLogged ≤ journalLength) ⌝ }
+    ensures { λ r. ⌜ r ≡ progressOf (settled (now (table .entry)) (log state [] message)) ⌝ }
+{
+    let mut work = logged(state, journal::empty(), message);
+    'again: loop {
+        let mut from: u8 = 0;
+        loop {
+            let state = work.state;
+            let Asker::Of(t, n) = next_asked(state, from) else {
+                return work;
+            };
+            if grantable(state, table, t) {
+                work = granted(work, t);
+                continue 'again;
+            }
+            from = n + 1;
+        }
+    }
+}
+
+// A message more is logged.
+pub fn logged(state: State, batch: Batch, message: Message) -> Progress
+    requires { ⌜ state .logged ≤ journalLength ⌝ }
+    ensures { λ r. ⌜ r ≡ progressWith state batch message ⌝ }
+{
+    let state = one_logged(state);
+    let batch = journal::with(batch, journal::record_of(message));
+    Progress { state, batch }
+}
+
+// Train `t` becomes Running, and its FE is logged.
+fn granted(work: Progress, t: TrainNo) -> Progress
+    requires { ⌜ (t .0 < 6) × (work .state .logged ≤ journalLength) ⌝ }
+    ensures { λ r. ⌜ r ≡ progressWith (withTrain (work .state) (t .0) (withStatus (trainOf (work .state) (t .0)) Running)) (work .batch) (Fe (nextMove (work .state) (t .0))) ⌝ }
+{
+    let state = work.state;
+    let batch = work.batch;
+    let message = Message::Fe(next_move(state, t));
+    let running = with_status(train_of(state, t), Status::Running);
+    logged(with_train(state, t, running), batch, message)
+}

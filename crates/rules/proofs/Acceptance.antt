@@ -1,0 +1,198 @@
+-- What the checks say of an accepted frame, and what an accepted frame leaves: a valid state of the same line, in which
+-- nobody can be granted, with at most seven messages logged and counted.
+-- Assumes nothing.
+use mathlib.Core.Path.{_≡_, refl, sym, ap, subst, _∙_}
+use mathlib.Core.Logic.{_≢_, ⊎-elim}
+use mathlib.Core.Bool.{true, false, not, _&&_, _||_, false≢true}
+use mathlib.Core.List.{List, [], _∷_, List·Memᴰ, List·Memᴰ·append-cases, List·Memᴰ·eq-of-singleton}
+use Prim.Native.Nat.{ℕ, _+_, _≤_, _<_}
+use native.Mathlib.Omega.{arith}
+use lib.Dec.{leb, eqb}
+use lib.ListN.{length, length-append, length-set}
+use borrow.Author.Tests.{ltb-true, leb-true, eqb-true, eqb-false, not-true}
+use Rattle.common.specs.Check.{refusal}
+use Rattle.common.proofs.Tests.{by-cases, by-equality, and-left, and-right}
+use Rattle.common.proofs.Below.{count-le, count-some}
+use Rattle.common.proofs.Check.{passed-at, accepts, refuses}
+use Rattle.frame.specs.Frame.{readFrame}
+use Rattle.frame.specs.RoundTrip.{IsMessage}
+use Rattle.journal.specs.Journal.{journalLength}
+use Rattle.completion.specs.Table.{tableLength}
+use Rattle.rules.specs.Types.{Line, Move, Message, Fa, Fe, Afe, Am, Refused, Record, Asked, Train, State}
+use Rattle.rules.specs.State.{isAsked, isRunning, nextOf, trainOf, lineOf, withStatus, arrivedNext, oneLogged}
+use Rattle.rules.specs.Granting.{grantable, Work, log, settled}
+use Rattle.rules.specs.Answer.{outLength, mostLogged, isFa, isAm, moveIn, frameChecks, taken, declined, accepted}
+use Rattle.rules.specs.Answer.{sent, Answer, answered, refused, answer}
+use Rattle.rules.proofs.Trains.{changed-line}
+use Rattle.rules.proofs.Validity.{Valid, valid-facts}
+use Rattle.rules.proofs.Changes.{valid-logged, valid-request, valid-arrival}
+use Rattle.rules.proofs.Oldest.{Nobody}
+use Rattle.rules.proofs.Grants.{askedCount, settled-end}
+use Rattle.rules.proofs.Settling.{Settles, Roomy, settled-settles, settled-roomy}
+
+-- ---- the checks
+
+-- the move is the next one of a train that is short of its end, and the journal has room
+pub record NextMove (s : State) (m : Move) : Type 0 where
+  pub known : m .train .0 < s .trains
+  pub short : trainOf s (m .train .0) .at .0 ≢ trainOf s (m .train .0) .route .end .0
+  pub from : m .from .0 ≡ trainOf s (m .train .0) .at .0
+  pub to : m .to .0 ≡ nextOf (trainOf s (m .train .0))
+  pub space : s .logged + mostLogged ≤ journalLength
+
+-- an FA or an AM that passes all checks of its content
+pub data Taken (s : State) : Message → Type 0 where
+  request : (m : Move) → NextMove s m → isAsked (trainOf s (m .train .0) .status) ≡ false
+      → isRunning (trainOf s (m .train .0) .status) ≡ false → Taken s (Fa m)
+  arrival : (m : Move) → NextMove s m → isRunning (trainOf s (m .train .0) .status) ≡ true → Taken s (Am m)
+
+pub record Passed (s : State) (table : List ℕ) (journal : List Record) (frame out : List ℕ) : Type 0 where
+  pub valid-state : Valid s
+  pub long-table : tableLength ≤ length table
+  pub long-journal : journalLength ≤ length journal
+  pub long-out : outLength ≤ length out
+  pub message : Taken s (readFrame frame)
+
+module _ (s : State) (table : List ℕ) (journal : List Record) (frame out : List ℕ) where
+  pub frame-passed : refusal (frameChecks s (length table) (length journal) frame (length out)) ≡ 0 → Passed s table journal frame out
+  frame-passed e =
+      let check = passed-at (frameChecks s (length table) (length journal) frame (length out)) refl e in
+      let stores = check 1 in
+      let rest = and-right (leb tableLength (length table)) _ stores in
+      let m = moveIn (readFrame frame) in
+      let x = trainOf s (m .train .0) in
+      record {
+        valid-state = valid-facts s (check 0);
+        long-table = leb-true _ _ (and-left (leb tableLength (length table)) _ stores);
+        long-journal = leb-true _ _ (and-left (leb journalLength (length journal)) _ rest);
+        long-out = leb-true _ _ (and-right (leb journalLength (length journal)) _ rest);
+        message = read (readFrame frame) (check 5)
+            (record {
+              known = ltb-true _ _ (check 6);
+              short = eqb-false _ _ (not-true _ (check 7));
+              from = eqb-true _ _ (and-left (eqb (m .from .0) (x .at .0)) _ (check 8));
+              to = eqb-true _ _ (and-right (eqb (m .from .0) (x .at .0)) _ (check 8));
+              space = leb-true _ _ (check 12);
+            })
+            (check 9) (check 10) (check 11);
+      }
+    where
+      read : (a : Message) → isFa a || isAm a ≡ true → NextMove s (moveIn a)
+          → not (isFa a && isAsked (trainOf s (moveIn a .train .0) .status)) ≡ true
+          → not (isFa a && isRunning (trainOf s (moveIn a .train .0) .status)) ≡ true
+          → not (isAm a) || isRunning (trainOf s (moveIn a .train .0) .status) ≡ true
+          → Taken s a
+      read (Fa m) kind next a b c = request m next (not-true _ a) (not-true _ b)
+      read (Am m) kind next a b c = arrival m next c
+      read (Fe m) kind next a b c = absurd (false≢true kind)
+      read (Afe m) kind next a b c = absurd (false≢true kind)
+      read (Refused n) kind next a b c = absurd (false≢true kind)
+
+-- ---- the answer, by cases
+
+-- what holds of the answer to a refused frame and of that to an accepted one holds of the answer
+pub by-verdict : (s : State) (table : List ℕ) (journal : List Record) (frame out : List ℕ) (P : Answer → Type 0)
+    → ((n : ℕ) → refusal (frameChecks s (length table) (length journal) frame (length out)) ≡ n → P (refused s journal out n))
+    → (Passed s table journal frame out → P (answered (s .logged) journal out (accepted table s (readFrame frame))))
+    → P (answer s table journal frame out)
+unfolding answer
+by-verdict s table journal frame out P declines takes =
+    let n = refusal (frameChecks s (length table) (length journal) frame (length out)) in
+    let a = answered (s .logged) journal out (accepted table s (readFrame frame)) in
+    by-equality n 0
+    (λ e. rw (accepts a (refused s journal out) e) (takes (frame-passed s table journal frame out e)))
+    (λ h. rw (refuses {n = n} a (refused s journal out) (omega arith)) (declines n refl))
+
+-- ---- what is left
+
+pub record Accepted (table : List ℕ) (s : State) (a : Message) (w : Work) : Type 0 where
+  pub valid-state : Valid (w .state)
+  pub line : lineOf (w .state) ≡ lineOf s
+  pub size : length (w .state .fleet) ≡ length (s .fleet)
+  pub nobody : Nobody table (w .state) (w .state .trains)
+  -- the frame, then the answers
+  pub first : w .logged ≡ a ∷ sent w
+  pub few : length (w .logged) ≤ mostLogged
+  pub counted : w .state .logged ≡ s .logged + length (w .logged)
+  pub messages : (b : Message) → List·Memᴰ b (sent w) → IsMessage b
+
+module _ (table : List ℕ) (s : State) (d : Valid s) (a : Message) where
+  -- the granting, after the frame's own change of its train's record
+  module _ (x : Train) (same : x .route ≡ trainOf s (moveIn a .train .0) .route) (v : Valid (taken s a x .state))
+      (space : s .logged + mostLogged ≤ journalLength) where
+    few-asked : askedCount (taken s a x .state) ≤ 6
+    few-asked =
+        omega (arith, count-le (s .trains) (λ t. isAsked (trainOf (taken s a x .state) t .status)), d .line .few-trains)
+
+    roomy : Roomy (settled table (taken s a x))
+    roomy = settled-roomy table (taken s a x) (record { valid-state = v; room = omega (arith, few-asked) })
+
+    settles : Settles (taken s a x) (settled table (taken s a x))
+    settles = settled-settles table (taken s a x)
+
+    paid : length (settled table (taken s a x) .logged) + askedCount (settled table (taken s a x) .state) ≤ mostLogged
+    paid = omega (arith, settles .spent, few-asked)
+
+    settled-accepted : Accepted table s a (settled table (taken s a x))
+    settled-accepted = record {
+      valid-state = roomy .valid-state;
+      line = settles .line ∙ changed-line s (moveIn a .train .0) x (s .logged + 1) same;
+      size = settles .size ∙ length-set (s .fleet) (moveIn a .train .0) x;
+      nobody = settled-end table (taken s a x);
+      first = rw (settles .added);
+      few = omega (arith, paid);
+      counted = omega (arith, settles .counted, settles .spent);
+      messages = rw (settles .added) (settles .messages);
+    }
+
+-- ---- the asker's AFE
+
+-- a record logged alone changes nobody's chance
+logged-grantable : (table : List ℕ) (s : State) (t : ℕ) → grantable table (oneLogged s) t ≡ grantable table s t
+unfolding grantable
+logged-grantable table s t = refl
+
+declining : (m : Move) → IsMessage (Afe m)
+unfolding IsMessage
+declining m = tt
+
+-- "If the asker was not granted, its AFE comes last."
+declined-accepted : (table : List ℕ) (s : State) (a : Message) (m : Move) (w : Work) → m .train .0 < s .trains → Roomy w
+    → length (w .logged) + askedCount (w .state) ≤ mostLogged → Accepted table s a w → Accepted table s a (declined m w)
+declined-accepted table s a m w known r paid k =
+    by-cases (isAsked (trainOf (w .state) (m .train .0) .status)) (λ e. rw e (more e)) (λ e. rw e k)
+  where
+    more : isAsked (trainOf (w .state) (m .train .0) .status) ≡ true
+        → Accepted table s a (log (w .state) (w .logged) (Afe m))
+    more e =
+        let here : m .train .0 < w .state .trains = rw (ap (λ (l : Line). l .trains) (k .line)) known in
+        let one = count-some (w .state .trains) (λ t. isAsked (trainOf (w .state) t .status)) (m .train .0) here e in
+        let long = length-append (w .logged) (Afe m ∷ []) in
+        record {
+          valid-state = valid-logged (w .state) (k .valid-state) (omega (arith, r .room));
+          line = k .line;
+          size = k .size;
+          nobody = record { barred = λ u ku. logged-grantable table (w .state) u ∙ k .nobody .barred u ku };
+          first = rw (k .first);
+          few = omega (arith, long);
+          counted = omega (arith, long, k .counted);
+          messages = rw (k .first) (λ b h.
+              ⊎-elim (k .messages b) (λ q. subst IsMessage (sym (List·Memᴰ·eq-of-singleton q)) (declining m))
+              (List·Memᴰ·append-cases (sent w) h));
+        }
+
+-- ---- both frames
+
+pub accepted-facts : (table : List ℕ) (s : State) → Valid s → (a : Message) → Taken s a
+    → Accepted table s a (accepted table s a)
+unfolding accepted
+accepted-facts table s d a (request m n free idle) =
+    let x = withStatus (trainOf s (m .train .0)) (Asked (s .logged)) in
+    let v = valid-request s d (m .train .0) (n .known) (omega (arith, n .space)) (n .short) idle in
+    declined-accepted table s (Fa m) m _ (n .known) (roomy table s d (Fa m) x refl v (n .space))
+    (paid table s d (Fa m) x refl v (n .space))
+    (settled-accepted table s d (Fa m) x refl v (n .space))
+accepted-facts table s d a (arrival m n runs) =
+    let x = arrivedNext (trainOf s (m .train .0)) in
+    settled-accepted table s d (Am m) x refl
+    (valid-arrival s d (m .train .0) (n .known) (omega (arith, n .space)) (n .short) runs) (n .space)

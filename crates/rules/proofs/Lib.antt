@@ -1,0 +1,11 @@
+-- The laws of the definitions, for any state and any table, right or altered.
+pub mod Trains
+pub mod Validity
+pub mod Changes
+pub mod Reached
+pub mod Oldest
+pub mod Grants
+pub mod Settling
+pub mod Acceptance
+pub mod Frames
+pub mod Taking

@@ -1,0 +1,99 @@
+-- What the granting leaves of the work that it begins with: lines, routes and posts are the same, and each answer is
+-- paid for by an Asked train. In a valid state with room in the journal for every Asked train it leaves a valid state.
+-- Assumes nothing.
+use mathlib.Core.Path.{_≡_, refl, sym, ap, subst, _∙_}
+use mathlib.Core.Logic.{⊎-elim}
+use mathlib.Core.List.{List, [], _∷_, _++_, append-assoc, append-nil, List·Memᴰ, List·Memᴰ·append-cases}
+use mathlib.Core.List.{List·Memᴰ·eq-of-singleton, List·Memᴰ·not-nil}
+use Prim.Native.Nat.{ℕ, _+_, _≤_}
+use native.Mathlib.Omega.{arith}
+use lib.ListN.{length, length-append, length-set}
+use Rattle.frame.specs.RoundTrip.{IsMessage}
+use Rattle.journal.specs.Journal.{journalLength}
+use Rattle.rules.specs.Types.{Message, Fe, Running, Train, State}
+use Rattle.rules.specs.State.{trainOf, lineOf, nextMove, withStatus}
+use Rattle.rules.specs.Granting.{Work, granted, settled}
+use Rattle.rules.proofs.Trains.{changed-each}
+use Rattle.rules.proofs.Validity.{Valid}
+use Rattle.rules.proofs.Changes.{valid-grant}
+use Rattle.rules.proofs.Grants.{askedCount, Turn, grants-keep, granted-place, granted-fewer, granted-line}
+
+pub record Settles (w v : Work) : Type 0 where
+  pub line : lineOf (v .state) ≡ lineOf (w .state)
+  pub size : length (v .state .fleet) ≡ length (w .state .fleet)
+  pub route : (t : ℕ) → trainOf (v .state) t .route ≡ trainOf (w .state) t .route
+  pub post : (t : ℕ) → trainOf (v .state) t .at ≡ trainOf (w .state) t .at
+  -- what is logged is added at the end, and each of it is a message
+  pub answers : List Message
+  pub added : v .logged ≡ w .logged ++ answers
+  pub messages : (a : Message) → List·Memᴰ a answers → IsMessage a
+  -- each takes an Asked train
+  pub spent : length (v .logged) + askedCount (v .state) ≡ length (w .logged) + askedCount (w .state)
+  pub counted : v .state .logged + askedCount (v .state) ≡ w .state .logged + askedCount (w .state)
+
+settles-begin : (w : Work) → Settles w w
+settles-begin w = record {
+  line = refl;
+  size = refl;
+  route = λ t. refl;
+  post = λ t. refl;
+  answers = [];
+  added = sym (append-nil (w .logged));
+  messages = λ a h. absurd (List·Memᴰ·not-nil h);
+  spent = refl;
+  counted = refl;
+}
+
+authority : (s : State) (t : ℕ) → IsMessage (Fe (nextMove s t))
+unfolding IsMessage
+authority s t = tt
+
+settles-next : (table : List ℕ) (w v : Work) (t : ℕ) → Settles w v → Turn table v t → Settles w (granted v t)
+settles-next table w v t k f = record {
+  line = granted-line table v t f ∙ k .line;
+  size = length-set (v .state .fleet) t _ ∙ k .size;
+  route = λ u.
+      changed-each (v .state) t x n (λ u (y : Train). y .route ≡ trainOf (w .state) u .route)
+      (granted-place table v t f) (k .route t) u (λ h. k .route u);
+  post = λ u.
+      changed-each (v .state) t x n (λ u (y : Train). y .at ≡ trainOf (w .state) u .at) (granted-place table v t f)
+      (k .post t) u (λ h. k .post u);
+  answers = k .answers ++ Fe (nextMove (v .state) t) ∷ [];
+  added =
+      ap (λ (l : List Message). l ++ Fe (nextMove (v .state) t) ∷ []) (k .added) ∙ append-assoc (w .logged) (k .answers) _;
+  messages = λ a h.
+      ⊎-elim (k .messages a) (λ m. subst IsMessage (sym (List·Memᴰ·eq-of-singleton m)) (authority (v .state) t))
+      (List·Memᴰ·append-cases (k .answers) h);
+  spent =
+      let one = length-append (v .logged) (Fe (nextMove (v .state) t) ∷ []) in
+      omega (arith, k .spent, granted-fewer table v t f);
+  counted = omega (arith, k .counted, granted-fewer table v t f);
+}
+  where
+    x : Train
+    x = withStatus (trainOf (v .state) t) Running
+
+    n : ℕ
+    n = v .state .logged + 1
+
+pub settled-settles : (table : List ℕ) (w : Work) → Settles w (settled table w)
+settled-settles table w = grants-keep table (Settles w) (settles-next table w) (w .state .trains) w (settles-begin w)
+
+-- ---- validity
+
+-- a valid state, and room for a record of each Asked train
+pub record Roomy (w : Work) : Type 0 where
+  pub valid-state : Valid (w .state)
+  pub room : w .state .logged + askedCount (w .state) ≤ journalLength
+
+pub roomy-next : (table : List ℕ) (w : Work) (t : ℕ) → Roomy w → Turn table w t → Roomy (granted w t)
+roomy-next table w t k f =
+    let less = granted-fewer table w t f in
+    let room = k .room in
+    record {
+      valid-state = valid-grant (w .state) (k .valid-state) t (f .known) (omega arith) table (f .can);
+      room = omega arith;
+    }
+
+pub settled-roomy : (table : List ℕ) (w : Work) → Roomy w → Roomy (settled table w)
+settled-roomy table w = grants-keep table Roomy (roomy-next table) (w .state .trains) w

@@ -1,0 +1,176 @@
+-- Valid states as facts, both ways: `Valid s` holds exactly where the test `valid s` passes.
+-- Assumes nothing.
+use mathlib.Core.Path.{_≡_, refl, sym}
+use mathlib.Core.Logic.{_≢_, ⊎-elim}
+use mathlib.Core.Bool.{Bool, true, false, not, _||_, false≢true, true≢false}
+use Prim.Native.Nat.{ℕ, _≤_, _<_}
+use native.Mathlib.Omega.{arith}
+use lib.Dec.{leb, eqb, ltb}
+use borrow.Author.Tests.{ltb-true, ltb-false, leb-true, eqb-true, eqb-false, lt-ltb, le-leb, ne-eqb, not-true}
+use Rattle.common.specs.Below.{allBelow}
+use Rattle.common.proofs.Tests.{by-cases, by-equality, and-left, and-right, and-both, or-left, or-right}
+use Rattle.common.proofs.Below.{all-below, below-all, one-counted}
+use Rattle.line.specs.Route.{between, sectionOf}
+use Rattle.line.specs.Line.{wellFormed, tracksAt}
+use Rattle.line.specs.Holding.{holdsSection, postHolders, sectionHolders}
+use Rattle.line.proofs.Travel.{Between, between-of, of-between, next-below}
+use Rattle.line.proofs.WellFormed.{WellFormed, well-formed, is-well-formed}
+use Rattle.journal.specs.Journal.{journalLength}
+use Rattle.rules.specs.Types.{Status, Free, Asked, Running, Train, State}
+use Rattle.rules.specs.State.{isFree, isAsked, askedAs, atEnd, nextOf, locatedBy, trainOf, lineOf, located}
+use Rattle.rules.specs.Valid.{trainValid, sectionsValid, postsValid, numberBelow, sameNumber, numberValid, valid}
+use Rattle.rules.proofs.Trains.{asked-busy, route-of}
+
+-- a train's record x, where n records are logged
+pub record TrainValid (x : Train) (n : ℕ) : Type 0 where
+  pub inside : Between (x .route .start .0) (x .at .0) (x .route .end .0)
+  pub busy : isFree (x .status) ≡ false → x .at .0 ≢ x .route .end .0
+  pub numbered : isAsked (x .status) ≡ true → askedAs (x .status) < n
+
+-- "FA numbers are distinct"
+abbrev pub Distinct : State → Type 0
+Distinct s = (t u : ℕ) → t < s .trains → u < s .trains
+    → isAsked (trainOf s t .status) ≡ true → isAsked (trainOf s u .status) ≡ true
+    → askedAs (trainOf s t .status) ≡ askedAs (trainOf s u .status) → t ≡ u
+
+pub record Valid (s : State) : Type 0 where
+  pub line : WellFormed (lineOf s)
+  pub each : (t : ℕ) → t < s .trains → TrainValid (trainOf s t) (s .logged)
+  pub sections : (i : ℕ) → i < s .posts → sectionHolders (s .trains) (located s) i ≤ 1
+  pub posts : (p : ℕ) → p < s .posts → postHolders (s .trains) (located s) p ≤ tracksAt (lineOf s) p
+  pub few-logged : s .logged ≤ journalLength
+  pub distinct : Distinct s
+
+-- ---- the tests of one train
+
+tested-train : (x : Train) (n : ℕ) → trainValid x ≡ true → numberBelow (x .status) n ≡ true → TrainValid x n
+tested-train x n e b =
+    let place = between (x .route .start .0) (x .at .0) (x .route .end .0) in
+    record {
+      inside = between-of _ _ _ (and-left place _ e);
+      busy = λ q. eqb-false _ _ (not-true _ (busy (isFree (x .status)) (not (atEnd x)) (and-right place _ e) q));
+      numbered = number (x .status) b;
+    }
+  where
+    busy : (a b : Bool) → a || b ≡ true → a ≡ false → b ≡ true
+    busy true b e q = absurd (true≢false q)
+    busy false b e q = e
+
+    number : (w : Status) → numberBelow w n ≡ true → isAsked w ≡ true → askedAs w < n
+    number Free b q = absurd (false≢true q)
+    number (Asked m) b q = ltb-true m n b
+    number Running b q = absurd (false≢true q)
+
+train-tested : (x : Train) (n : ℕ) → TrainValid x n → (trainValid x ≡ true) × (numberBelow (x .status) n ≡ true)
+train-tested x n d = (
+  and-both (between (x .route .start .0) (x .at .0) (x .route .end .0)) _ (of-between _ _ _ (d .inside))
+      (by-cases (isFree (x .status))
+      (λ e. or-left (isFree (x .status)) _ e)
+      (λ e. or-right (isFree (x .status)) (not (atEnd x)) (rw (ne-eqb (x .at .0) (x .route .end .0) (d .busy e))))),
+  number (x .status) (d .numbered),
+)
+  where
+    number : (w : Status) → (isAsked w ≡ true → askedAs w < n) → numberBelow w n ≡ true
+    number Free h = refl
+    number (Asked m) h = lt-ltb m n (h refl)
+    number Running h = refl
+
+-- ---- the tests of two trains' numbers
+
+differ : (v w : Status) → not (sameNumber v w) ≡ true → isAsked v ≡ true → isAsked w ≡ true → askedAs v ≢ askedAs w
+differ Free w e p q = absurd (false≢true p)
+differ (Asked m) Free e p q = absurd (false≢true q)
+differ (Asked m) (Asked n) e p q = eqb-false m n (not-true (eqb m n) e)
+differ (Asked m) Running e p q = absurd (false≢true q)
+differ Running w e p q = absurd (false≢true p)
+
+different : (v w : Status) → (isAsked v ≡ true → isAsked w ≡ true → askedAs v ≢ askedAs w) → not (sameNumber v w) ≡ true
+different Free w h = refl
+different (Asked m) Free h = refl
+different (Asked m) (Asked n) h = rw (ne-eqb m n (h refl refl))
+different (Asked m) Running h = refl
+different Running w h = refl
+
+-- the test looks at lower trains only; the numbers of two trains differ either way
+distinct-numbers : (s : State) → ((t : ℕ) → t < s .trains → numberValid s t ≡ true) → Distinct s
+distinct-numbers s h t u kt ku p q e = by-equality t u (λ z. z) (λ z. absurd (by-cases (ltb t u)
+    (λ b. lower u t ku (ltb-true t u b) q p (sym e))
+    (λ b. lower t u kt (let y = ltb-false t u b in omega arith) p q e)))
+  where
+    lower : (a b : ℕ) → a < s .trains → b < a → isAsked (trainOf s a .status) ≡ true
+        → isAsked (trainOf s b .status) ≡ true
+        → askedAs (trainOf s a .status) ≢ askedAs (trainOf s b .status)
+    lower a b ka k = differ (trainOf s a .status) (trainOf s b .status)
+        (all-below a _ (and-right (numberBelow (trainOf s a .status) (s .logged)) _ (h a ka)) b k)
+
+-- ---- the state
+
+module _ (s : State) where
+  pub valid-facts : valid s ≡ true → Valid s
+  unfolding valid
+  valid-facts e =
+      let r₁ = and-right (wellFormed (lineOf s)) _ e in
+      let trains = all-below (s .trains) _ (and-left (allBelow (s .trains) (λ t. trainValid (trainOf s t))) _ r₁) in
+      let r₂ = and-right (allBelow (s .trains) (λ t. trainValid (trainOf s t))) _ r₁ in
+      let r₃ = and-right (sectionsValid s) _ r₂ in
+      let r₄ = and-right (postsValid s) _ r₃ in
+      let numbers = all-below (s .trains) _ (and-right (leb (s .logged) journalLength) _ r₄) in
+      record {
+        line = well-formed (lineOf s) (and-left (wellFormed (lineOf s)) _ e);
+        each = λ t k.
+            tested-train (trainOf s t) (s .logged) (trains t k)
+            (and-left (numberBelow (trainOf s t .status) (s .logged)) _ (numbers t k));
+        sections = λ i k. leb-true _ _ (all-below (s .posts) _ (and-left (sectionsValid s) _ r₂) i k);
+        posts = λ p k. leb-true _ _ (all-below (s .posts) _ (and-left (postsValid s) _ r₃) p k);
+        few-logged = leb-true _ _ (and-left (leb (s .logged) journalLength) _ r₄);
+        distinct = distinct-numbers s numbers;
+      }
+
+  pub is-valid : Valid s → valid s ≡ true
+  unfolding valid
+  is-valid d =
+      let each : (t : ℕ) → t < s .trains
+      → (trainValid (trainOf s t) ≡ true) × (numberBelow (trainOf s t .status) (s .logged) ≡ true) =
+      λ t k. train-tested (trainOf s t) (s .logged) (d .each t k) in
+      and-both _ _ (is-well-formed (lineOf s) (d .line))
+      (and-both _ _ (below-all (s .trains) _ (λ t k. each t k .0))
+      (and-both _ _ (below-all (s .posts) _ (λ i k. le-leb _ _ (d .sections i k)))
+      (and-both _ _ (below-all (s .posts) _ (λ p k. le-leb _ _ (d .posts p k)))
+      (and-both _ _ (le-leb _ _ (d .few-logged))
+      (below-all (s .trains) _ (λ t k. and-both _ _ (each t k .1) (below-all t _ (λ u l.
+      different (trainOf s t .status) (trainOf s u .status)
+      (λ p q z. let y = d .distinct t u k (omega arith) p q z in omega arith)))))))))
+
+-- ---- what a valid state says of its trains
+
+module _ (s : State) (d : Valid s) (t : ℕ) (k : t < s .trains) where
+  pub start-below : trainOf s t .route .start .0 < s .posts
+  start-below = rw (route-of s t) at (d .line .starts t k)
+
+  pub end-below : trainOf s t .route .end .0 < s .posts
+  end-below = rw (route-of s t) at (d .line .ends t k)
+
+  pub post-below : trainOf s t .at .0 < s .posts
+  post-below =
+      let a = start-below in let b = end-below in ⊎-elim (λ r. omega arith) (λ r. omega arith) (d .each t k .inside)
+
+  pub next-post-below : trainOf s t .at .0 ≢ trainOf s t .route .end .0 → nextOf (trainOf s t) < s .posts
+  next-post-below short = next-below _ _ _ (d .each t k .inside) short (s .posts) start-below end-below
+
+  -- an Asked train is short of its end
+  pub asked-short : isAsked (trainOf s t .status) ≡ true → trainOf s t .at .0 ≢ trainOf s t .route .end .0
+  asked-short a = d .each t k .busy (asked-busy (trainOf s t .status) a)
+
+-- "No section has two holders": whatever its number
+pub one-holder : (s : State) → Valid s → (i t u : ℕ) → t < s .trains → u < s .trains
+    → holdsSection (located s t) i ≡ true → holdsSection (located s u) i ≡ true → t ≡ u
+one-holder s d i t u kt ku p q =
+    one-counted (s .trains) (λ v. holdsSection (located s v) i) (d .sections i on) t u kt ku p q
+  where
+    low : (w : Status) (a b : ℕ) → holdsSection (locatedBy w a b) i ≡ true → i ≤ a
+    low Free a b e = absurd (false≢true e)
+    low (Asked n) a b e = absurd (false≢true e)
+    low Running a b e = let z = eqb-true (sectionOf a b) i e in omega arith
+
+    on : i < s .posts
+    on = omega (arith, low (trainOf s t .status) (trainOf s t .at .0) (nextOf (trainOf s t)) p, post-below s d t kt)

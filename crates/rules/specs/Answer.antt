@@ -1,0 +1,136 @@
+-- The answer to a frame: the checks in order, what an accepted frame does, and what is left in state, journal and out buffer.
+use mathlib.Core.Bool.{Bool, true, false, not, cond, _&&_, _||_}
+use mathlib.Core.List.{List, [], _∷_, _++_, map}
+use Prim.Native.Nat.{ℕ, _+_}
+use lib.Dec.{leb, ltb, eqb}
+use lib.ListN.{length, drop}
+use Rattle.common.specs.Check.{Check, check, refusal, unlessRefused}
+use Rattle.common.specs.Part.{replaced}
+use Rattle.line.specs.Refusal.{strangeState, shortStore, wrongEnd, unknownTrain, atEnd as trainAtEnd, wrongPost}
+use Rattle.line.specs.Refusal.{alreadyAsked, underAuthority, noAuthority, journalFull}
+use Rattle.frame.specs.Frame.{moveOf, readChecks, readFrame, bytesOf}
+use Rattle.journal.specs.Journal.{journalLength, recordOf}
+use Rattle.completion.specs.Table.{tableLength}
+use Rattle.rules.specs.Types.{Move, Message, Fa, Fe, Afe, Am, Refused, Record, Status, Asked, Train, State}
+use Rattle.rules.specs.Types.{Verdict, Sent, RefusedBy, Reply}
+use Rattle.rules.specs.State.{isAsked, isRunning, atEnd, nextOf, trainOf, withStatus, arrivedNext, withTrain}
+use Rattle.rules.specs.Valid.{valid}
+use Rattle.rules.specs.Granting.{Work, log, settled}
+
+-- "At most 6 frames go out, 42 bytes"
+abbrev pub outLength : ℕ
+outLength = 42
+
+-- a frame and at most six answers are logged
+abbrev pub mostLogged : ℕ
+mostLogged = 7
+
+abbrev pub isFa : Message → Bool
+isFa (Fa m) = true
+isFa (Fe m) = false
+isFa (Afe m) = false
+isFa (Am m) = false
+isFa (Refused n) = false
+
+abbrev pub isAm : Message → Bool
+isAm (Fa m) = false
+isAm (Fe m) = false
+isAm (Afe m) = false
+isAm (Am m) = true
+isAm (Refused n) = false
+
+-- the move that a message names
+abbrev pub moveIn : Message → Move
+moveIn (Fa m) = m
+moveIn (Fe m) = m
+moveIn (Afe m) = m
+moveIn (Am m) = m
+moveIn (Refused n) = moveOf 0 0 0
+
+-- "then 10 or 11 for FA, 12 for AM"
+abbrev pub statusChecks : Bool → Bool → Status → List Check
+statusChecks asks arrives w =
+    check alreadyAsked (not (asks && isAsked w))
+    ∷ check underAuthority (not (asks && isRunning w))
+    ∷ check noAuthority (not arrives || isRunning w)
+    ∷ []
+
+-- "7, 8 (at its end), 9", then those, "then 13": of the move that an FA `asks` for, or an AM `arrives` by
+abbrev pub moveChecks : State → Bool → Bool → Move → List Check
+moveChecks s asks arrives m =
+    let x = trainOf s (m .train .0) in
+    check unknownTrain (ltb (m .train .0) (s .trains))
+    ∷ check trainAtEnd (not (atEnd x))
+    ∷ check wrongPost (eqb (m .from .0) (x .at .0) && eqb (m .to .0) (nextOf x))
+    ∷ statusChecks asks arrives (x .status)
+    ++ (check journalFull (leb (s .logged + mostLogged) journalLength) ∷ [])
+
+-- "Checks in order: 1, 2, 3, 4, 5, 6, 7, 8 (at its end), 9, then 10 or 11 for FA, 12 for AM, then 13."
+-- Of the table, the journal and the out buffer only the sizes are looked at.
+abbrev pub frameChecks : State → ℕ → ℕ → List ℕ → ℕ → List Check
+frameChecks s table records frame room =
+    let a = readFrame frame in
+    check strangeState (valid s)
+    ∷ check shortStore (leb tableLength table && (leb journalLength records && leb outLength room))
+    ∷ readChecks frame
+    ++ (check wrongEnd (isFa a || isAm a)
+    ∷ moveChecks s (isFa a) (isAm a) (moveIn a))
+
+-- ---- an accepted frame
+
+-- the frame is logged, and x is its train's record
+abbrev pub taken : State → Message → Train → Work
+taken s a x = log (withTrain s (moveIn a .train .0) x) [] a
+
+-- "If the asker was not granted, its AFE comes last."
+abbrev pub declined : Move → Work → Work
+declined m w = cond (isAsked (trainOf (w .state) (m .train .0) .status)) (log (w .state) (w .logged) (Afe m)) w
+
+unfoldable pub accepted : List ℕ → State → Message → Work
+-- "FA: the train becomes Asked. Then the oldest Asked train .. that can be granted"
+accepted table s (Fa m) = declined m (settled table (taken s (Fa m) (withStatus (trainOf s (m .train .0)) (Asked (s .logged)))))
+-- "AM: the train becomes Free at the post it ran to. Then the same granting."
+accepted table s (Am m) = settled table (taken s (Am m) (arrivedNext (trainOf s (m .train .0))))
+accepted table s (Fe m) = record { state = s; logged = [] }
+accepted table s (Afe m) = record { state = s; logged = [] }
+accepted table s (Refused n) = record { state = s; logged = [] }
+
+-- ---- the answer
+
+-- the frames of some messages, one after the other
+unfoldable pub framesOf : List Message → List ℕ
+framesOf [] = []
+framesOf (a ∷ l) = bytesOf a ++ framesOf l
+
+-- what is sent: all that was logged but the frame itself
+abbrev pub sent : Work → List Message
+sent w = drop 1 (w .logged)
+
+pub record Answer : Type 0 where
+  pub state : State
+  pub verdict : Verdict
+  pub journal : List Record
+  pub out : List ℕ
+
+-- what the code hands back, with the journal and the out buffer afterwards
+abbrev pub answerOf : Reply → List Record → List ℕ → Answer
+answerOf r journal out = record { state = r .state; verdict = r .verdict; journal = journal; out = out }
+
+-- the records from the count on, and the frames at the buffer's beginning; all else is untouched
+abbrev pub answered : ℕ → List Record → List ℕ → Work → Answer
+answered count journal out w = record {
+  state = w .state;
+  verdict = Sent (length (sent w));
+  journal = replaced journal count (map recordOf (w .logged));
+  out = replaced out 0 (framesOf (sent w));
+}
+
+-- "A refusal returns its number and the state unchanged, and changes no buffer."
+abbrev pub refused : State → List Record → List ℕ → ℕ → Answer
+refused s journal out n = record { state = s; verdict = RefusedBy n; journal = journal; out = out }
+
+unfoldable pub answer : State → List ℕ → List Record → List ℕ → List ℕ → Answer
+answer s table journal frame out =
+    unlessRefused (refusal (frameChecks s (length table) (length journal) frame (length out)))
+    (answered (s .logged) journal out (accepted table s (readFrame frame)))
+    (refused s journal out)

@@ -1,0 +1,63 @@
+-- Who can be granted, and the granting: "the oldest Asked train (lowest FA number) that can be granted becomes Running and an FE is written; again
+-- from the oldest, until none can be granted."
+use mathlib.Core.Bool.{Bool, cond, _&&_}
+use mathlib.Core.Option.{Option, none, some}
+use mathlib.Core.List.{List, [], _∷_, _++_}
+use Prim.Native.Nat.{ℕ, zero, suc}
+use lib.Dec.{ltb, eqb}
+use lib.ListN.{getD}
+use Rattle.line.specs.Route.{sectionOf}
+use Rattle.line.specs.Holding.{postHolders, sectionHolders}
+use Rattle.completion.specs.Configuration.{moved, codeBelow}
+use Rattle.completion.specs.Table.{bitOf}
+use Rattle.rules.specs.Types.{Message, Fe, Running, State}
+use Rattle.rules.specs.State.{isAsked, askedAs, nextOf, trainOf, located, reached, nextMove, withStatus}
+use Rattle.rules.specs.State.{withTrain, oneLogged}
+
+-- "A train can be granted if it is Asked, its next section is unheld, its next post is held by fewer trains than tracks, and the table has the bit
+-- for the placing in which every Running train, and this one, has reached its next post."
+unfoldable pub grantable : List ℕ → State → ℕ → Bool
+grantable table s t =
+    let x = trainOf s t in
+    isAsked (x .status)
+    && (eqb (sectionHolders (s .trains) (located s) (sectionOf (x .at .0) (nextOf x))) 0
+    && (ltb (postHolders (s .trains) (located s) (nextOf x)) (getD (s .tracks) (nextOf x) 0)
+    && bitOf table (codeBelow (s .trains) (moved (reached s) t))))
+
+-- t, unless u asked before it
+abbrev pub older : State → ℕ → Option ℕ → Option ℕ
+older s t none = some t
+older s t (some u) = cond (ltb (askedAs (trainOf s t .status)) (askedAs (trainOf s u .status))) (some t) (some u)
+
+-- the oldest of the first n trains that can be granted
+unfoldable pub oldest : List ℕ → State → ℕ → Option ℕ
+oldest table s zero = none
+oldest table s (suc n) = let r = oldest table s n in cond (grantable table s n) (older s n r) r
+
+-- ---- the work on one frame: the state, and what was logged so far, the frame and then each answer
+
+pub record Work : Type 0 where
+  pub state : State
+  pub logged : List Message
+
+-- "An accepted frame is logged, then each answer in order of sending."
+abbrev pub log : State → List Message → Message → Work
+log s l m = record { state = oneLogged s; logged = l ++ m ∷ [] }
+
+abbrev pub granted : Work → ℕ → Work
+granted w t =
+    let s = w .state in
+    log (withTrain s t (withStatus (trainOf s t) Running)) (w .logged) (Fe (nextMove s t))
+
+abbrev pub proceed : Option ℕ → Work → (ℕ → Work) → Work
+proceed none w next = w
+proceed (some t) w next = next t
+
+-- at most n grants, each of the oldest
+unfoldable pub grants : List ℕ → ℕ → Work → Work
+grants table zero w = w
+grants table (suc n) w = proceed (oldest table (w .state) (w .state .trains)) w (λ t. grants table n (granted w t))
+
+-- until none can be granted: each grant leaves one Asked train fewer, so as many as there are trains are enough
+abbrev pub settled : List ℕ → Work → Work
+settled table w = grants table (w .state .trains) w

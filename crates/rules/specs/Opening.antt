@@ -1,0 +1,63 @@
+-- The opening of a book: "Opening gives every train Free at its start, count 0, those places all 0 and Free, and the journal's records untouched."
+use mathlib.Core.Bool.{cond, _&&_}
+use mathlib.Core.List.{List, [], _∷_, _++_}
+use Prim.Native.Nat.{ℕ}
+use lib.Dec.{leb, eqb}
+use lib.ListN.{length}
+use Rattle.common.specs.Check.{Check, check, refusal, unlessRefused}
+use Rattle.common.specs.Tabulate.{tabulate}
+use Rattle.line.specs.Refusal.{shortStore, overfull, noWayThrough}
+use Rattle.line.specs.Line.{routeOf}
+use Rattle.line.specs.Book.{lineOf as lineIn, bookChecks, emptyLine}
+use Rattle.journal.specs.Journal.{journalLength}
+use Rattle.completion.specs.Configuration.{start, code, feasible}
+use Rattle.completion.specs.Table.{tableLength, bitOf, filled}
+use Rattle.rules.specs.Types.{Route, Line, Record, Free, Train, State, Opened}
+
+-- "Checks in order: 2; 14 ..; 4; 15; 14 ..; 16; 17; 14 ..; 18; 19; 20."
+-- Of the journal only the number of records is looked at.
+abbrev pub openingChecks : List ℕ → List ℕ → ℕ → List Check
+openingChecks book table records =
+    let l = lineIn book in
+    check shortStore (leb tableLength (length table) && leb journalLength records)
+    ∷ bookChecks book
+    ++ (check overfull (feasible l start)
+    ∷ check noWayThrough (bitOf (filled l table) (code l start))
+    ∷ [])
+
+-- a train at its start; of no route, at post 0
+abbrev pub fresh : Route → Train
+fresh r = record { route = r; at = r .start; status = Free }
+
+-- "every train Free at its start, count 0"; where a line has 0, the state has
+abbrev pub openedState : Line → State
+openedState l = record { posts = l .posts; tracks = l .tracks; trains = l .trains; fleet = tabulate 6 (λ t. fresh (routeOf l t)); logged = 0 }
+
+-- "an empty state that is not sound (all 0 and Free ..)"
+abbrev pub emptyState : State
+emptyState = openedState emptyLine
+
+pub record Opening : Type 0 where
+  pub state : State
+  pub number : ℕ
+  pub table : List ℕ
+
+abbrev pub opened : Line → List ℕ → Opening
+opened l table = record { state = openedState l; number = 0; table = filled l table }
+
+-- what the code hands back, with the table afterwards
+abbrev pub openingOf : Opened → List ℕ → Opening
+openingOf o table = record { state = o .state; number = o .refusal; table = table }
+
+-- "a refused book .. returns an empty state .., and 20 leaves the table filled"
+abbrev pub refusedBook : Line → List ℕ → ℕ → Opening
+refusedBook l table n = record { state = emptyState; number = n; table = cond (eqb n noWayThrough) (filled l table) table }
+
+-- with a journal of so many records, which is untouched
+unfoldable pub openingWith : List ℕ → List ℕ → ℕ → Opening
+openingWith book table records =
+    let l = lineIn book in
+    unlessRefused (refusal (openingChecks book table records)) (opened l table) (refusedBook l table)
+
+abbrev pub opening : List ℕ → List ℕ → List Record → Opening
+opening book table journal = openingWith book table (length journal)

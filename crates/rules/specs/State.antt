@@ -1,0 +1,98 @@
+-- One train's record and the state, read: the next post, where the train is, what it has travelled.
+use mathlib.Core.Bool.{Bool, true, false}
+use mathlib.Core.List.{map}
+use Prim.Native.Nat.{ℕ, _+_}
+use lib.Dec.{eqb}
+use lib.ListN.{getD, set}
+use Rattle.common.specs.Below.{ofBool}
+use Rattle.line.specs.Route.{nextPost, distance}
+use Rattle.line.specs.Line.{noRoute}
+use Rattle.line.specs.Holding.{Whereabouts, at, moving}
+use Rattle.frame.specs.Frame.{moveOf}
+use Rattle.completion.specs.Configuration.{Configuration}
+use Rattle.rules.specs.Types.{Line, Move, Status, Free, Asked, Running, Train, State}
+
+-- ---- one train
+
+abbrev pub isFree : Status → Bool
+isFree Free = true
+isFree (Asked n) = false
+isFree Running = false
+
+abbrev pub isAsked : Status → Bool
+isAsked Free = false
+isAsked (Asked n) = true
+isAsked Running = false
+
+abbrev pub isRunning : Status → Bool
+isRunning Free = false
+isRunning (Asked n) = false
+isRunning Running = true
+
+-- "an Asked train carries the journal number of its FA"
+abbrev pub askedAs : Status → ℕ
+askedAs Free = 0
+askedAs (Asked n) = n
+askedAs Running = 0
+
+abbrev pub atEnd : Train → Bool
+atEnd x = eqb (x .at .0) (x .route .end .0)
+
+-- the post after the present one on the way to its end
+abbrev pub nextOf : Train → ℕ
+nextOf x = nextPost (x .at .0) (x .route .end .0)
+
+-- "A Running train, from its present post p to q, holds the section between them and a track at each of p and q. .. Another train holds a track
+-- at its present post."
+abbrev pub locatedBy : Status → ℕ → ℕ → Whereabouts
+locatedBy Free p q = at p
+locatedBy (Asked n) p q = at p
+locatedBy Running p q = moving p q
+
+abbrev pub locatedAt : Train → Whereabouts
+locatedAt x = locatedBy (x .status) (x .at .0) (nextOf x)
+
+-- the posts travelled, and one more for a train that is Running: it "has reached its next post"
+abbrev pub reachedBy : Train → ℕ
+reachedBy x = distance (x .route .start .0) (x .at .0) + ofBool (isRunning (x .status))
+
+-- ---- the state
+
+abbrev pub noTrain : Train
+noTrain = record { route = noRoute; at = record { 0 = 0 }; status = Free }
+
+abbrev pub trainOf : State → ℕ → Train
+trainOf s t = getD (s .fleet) t noTrain
+
+-- the state's posts, tracks, trains and routes as a line
+abbrev pub lineOf : State → Line
+lineOf s = record { posts = s .posts; tracks = s .tracks; trains = s .trains; routes = map (λ x. x .route) (s .fleet) }
+
+-- where each train is
+abbrev pub located : State → ℕ → Whereabouts
+located s t = locatedAt (trainOf s t)
+
+-- "the placing in which every Running train .. has reached its next post"
+abbrev pub reached : State → Configuration
+reached s t = reachedBy (trainOf s t)
+
+-- the move that train t has before it
+abbrev pub nextMove : State → ℕ → Move
+nextMove s t = moveOf t (trainOf s t .at .0) (nextOf (trainOf s t))
+
+-- ---- the state, changed
+
+abbrev pub withStatus : Train → Status → Train
+withStatus x w = record { route = x .route; at = x .at; status = w }
+
+-- "the train becomes Free at the post it ran to"
+abbrev pub arrivedNext : Train → Train
+arrivedNext x = record { route = x .route; at = record { 0 = nextOf x }; status = Free }
+
+-- x as train t's record
+abbrev pub withTrain : State → ℕ → Train → State
+withTrain s t x = record { posts = s .posts; tracks = s .tracks; trains = s .trains; fleet = set (s .fleet) t x; logged = s .logged }
+
+-- one record more in the journal
+abbrev pub oneLogged : State → State
+oneLogged s = record { posts = s .posts; tracks = s .tracks; trains = s .trains; fleet = s .fleet; logged = s .logged + 1 }

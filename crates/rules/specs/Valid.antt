@@ -1,0 +1,51 @@
+-- When a state that is handed in is valid (01: sound).
+use mathlib.Core.Bool.{Bool, true, false, not, _&&_, _||_}
+use Prim.Native.Nat.{ℕ}
+use lib.Dec.{leb, ltb, eqb}
+use lib.ListN.{getD}
+use Rattle.common.specs.Below.{allBelow}
+use Rattle.line.specs.Route.{between}
+use Rattle.line.specs.Line.{wellFormed}
+use Rattle.line.specs.Holding.{postHolders, sectionHolders}
+use Rattle.journal.specs.Journal.{journalLength}
+use Rattle.rules.specs.Types.{Status, Free, Asked, Running, Train, State}
+use Rattle.rules.specs.State.{isFree, atEnd, trainOf, lineOf, located}
+
+-- "present posts lie between start and end (both counted), only trains short of their end are Asked or Running"
+abbrev pub trainValid : Train → Bool
+trainValid x = between (x .route .start .0) (x .at .0) (x .route .end .0) && (isFree (x .status) || not (atEnd x))
+
+-- "sections and tracks are held as above": "No section has two holders. .. The number of trains that hold a post is never above its tracks."
+abbrev pub sectionsValid : State → Bool
+sectionsValid s = allBelow (s .posts) (λ i. leb (sectionHolders (s .trains) (located s) i) 1)
+
+abbrev pub postsValid : State → Bool
+postsValid s = allBelow (s .posts) (λ p. leb (postHolders (s .trains) (located s) p) (getD (s .tracks) p 0))
+
+-- "FA numbers are distinct and below that count"
+abbrev pub numberBelow : Status → ℕ → Bool
+numberBelow Free c = true
+numberBelow (Asked n) c = ltb n c
+numberBelow Running c = true
+
+abbrev pub sameNumber : Status → Status → Bool
+sameNumber Free v = false
+sameNumber (Asked m) Free = false
+sameNumber (Asked m) (Asked n) = eqb m n
+sameNumber (Asked m) Running = false
+sameNumber Running v = false
+
+abbrev pub numberValid : State → ℕ → Bool
+numberValid s t =
+    numberBelow (trainOf s t .status) (s .logged) && allBelow t (λ u. not (sameNumber (trainOf s t .status) (trainOf s u .status)))
+
+-- "A state is sound if P, T, the track counts and any other number kept are in their ranges and, for trains below T, starts and ends are below P",
+-- then as above, and "the journal count is at most 176"
+unfoldable pub valid : State → Bool
+valid s =
+    wellFormed (lineOf s)
+    && (allBelow (s .trains) (λ t. trainValid (trainOf s t))
+    && (sectionsValid s
+    && (postsValid s
+    && (leb (s .logged) journalLength
+    && allBelow (s .trains) (numberValid s)))))

@@ -1,0 +1,27 @@
+// What the box keeps of the line and its trains. It goes in by value and comes back by value.
+use line::PostNo;
+use line::Route;
+
+// 01: "Each train's record carries its standing: Free, Asked or Running." An asked train carries
+// the journal number of its request.
+pub enum Status {
+    Free,
+    Asked(u8),
+    Running,
+}
+
+pub struct Train {
+    pub route: Route,
+    pub at: PostNo,
+    pub status: Status,
+}
+
+// Places for posts from `posts` on and trains from `trains` on are not read. `logged` counts the
+// records of the journal.
+pub struct State {
+    pub posts: u8,
+    pub tracks: [u8; 8],
+    pub trains: u8,
+    pub fleet: [Train; 6],
+    pub logged: u8,
+}
