@@ -2,3 +2,6 @@
 pub mod Copying
 pub mod Units
 pub mod UnitSteps
+pub mod Each
+pub mod Head
+pub mod Fields

@@ -5,3 +5,8 @@ pub mod Types
 pub mod Word
 pub mod UnitBytes
 pub mod UnitCalls
+pub mod Each
+pub mod LineBytes
+pub mod StateBytes
+pub mod JournalBytes
+pub mod BoxCalls
