@@ -1,6 +1,6 @@
 -- Bytes put into a buffer: the loop's turn and the ways out, over plain lists.
 -- Assumes nothing.
-use mathlib.Core.Path.{_≡_, refl, _∙_}
+use mathlib.Core.Path.{_≡_, refl, sym, subst, _∙_}
 use mathlib.Core.List.{List, append-nil}
 use Prim.Native.Nat.{ℕ, _+_, _≤_, _<_}
 use native.Mathlib.Omega.{arith}
@@ -9,6 +9,20 @@ use lib.ListN.{length, getD, set, drop-of-length-le}
 use lib.Seq.{paste, paste-suc, length-paste, take-length, take-all}
 use Rattle.common.specs.Part.{replaced, replacedIfRoom}
 use Rattle.common.proofs.Part.{paste-replaces, replaced-if}
+
+-- bytes for a whole buffer are what it holds
+module _ (s b : List ℕ) (e : length s ≡ length b) where
+  pub replaced-whole : replaced s 0 b ≡ b
+  unfolding replaced
+  replaced-whole = rw (drop-of-length-le s {i = 0 + length b} (omega arith)) (append-nil b)
+
+  put-whole : replacedIfRoom s 0 b ≡ b
+  put-whole = rw (← replaced-if s 0 b (omega arith)) replaced-whole
+
+-- the same as the code has it: the bytes b are those asked for, and `after` is the buffer afterwards
+pub is-put : (s b after wanted : List ℕ) → length s ≡ length wanted → b ≡ wanted → after ≡ replacedIfRoom s 0 b
+    → after ≡ wanted
+is-put s b after wanted e p q = rw p at q ∙ put-whole s wanted e
 
 -- the first i bytes of b are in their places in s
 pub record Copied (s b : List ℕ) (at : ℕ) (to : List ℕ) (i : ℕ) : Type 0 where
@@ -33,16 +47,9 @@ module _ {s b : List ℕ} {at : ℕ} {to : List ℕ} {i : ℕ} (k : Copied s b a
   pub all-put-if : length b ≤ i → to ≡ replacedIfRoom s at b
   all-put-if h = all-put h ∙ replaced-if s at b (k .room)
 
--- bytes for a whole buffer are what it holds
-module _ (s b : List ℕ) (e : length s ≡ length b) where
-  pub replaced-whole : replaced s 0 b ≡ b
-  unfolding replaced
-  replaced-whole = rw (drop-of-length-le s {i = 0 + length b} (omega arith)) (append-nil b)
+  -- one byte more, worked out by itself, of bytes from the beginning of the buffer
+  pub byte-more : at ≡ 0 → i < length b → (v : ℕ) → v ≡ getD b i 0 → Copied s b at (set to i v) (i + 1)
+  byte-more e h v p = let place : i ≡ at + i = omega arith in rw p (subst (λ (n : ℕ). Copied s b at (set to n (getD b i 0)) (i + 1)) (sym place) (one-more h))
 
-  put-whole : replacedIfRoom s 0 b ≡ b
-  put-whole = rw (← replaced-if s 0 b (omega arith)) replaced-whole
-
--- the same as the code has it: the bytes b are those asked for, and `after` is the buffer afterwards
-pub is-put : (s b after wanted : List ℕ) → length s ≡ length wanted → b ≡ wanted → after ≡ replacedIfRoom s 0 b
-    → after ≡ wanted
-is-put s b after wanted e p q = rw p at q ∙ put-whole s wanted e
+  pub whole-put : at ≡ 0 → length s ≡ length b → length b ≤ i → to ≡ b
+  whole-put e size h = all-put h ∙ rw e (replaced-whole s b size)

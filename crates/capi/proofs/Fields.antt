@@ -15,10 +15,6 @@ use Rattle.capi.specs.StateBytes.{stateLength, trainBytes, stateBytes, t
 use Rattle.capi.proofs.Each.{past, length-each, at-each}
 use Rattle.capi.proofs.Head.{at-rest, length-headed}
 
--- place i of things that have w bytes each is byte i % w of thing i / w
-split : (i w k : ℕ) → k ≡ restAt + i → k ≡ restAt + (w * (i / w) + i % w)
-split i w k e = ?
-
 -- ---- a line
 
 module _ (l : Line) (eight : length (l .tracks) ≡ 8) (six : length (l .routes) ≡ 6) where
@@ -38,6 +34,15 @@ module _ (l : Line) (eight : length (l .tracks) ≡ 8) (six : length (l .routes)
   at-route t j h k =
       at-rest (l .posts) (l .tracks) (l .trains) routes eight (2 * t + j)
       ∙ at-each routeBytes 2 (λ r. refl) (l .routes) t j noRoute (omega arith) k
+
+  -- as the code has it: byte k is past the first ten, and e are the bytes of its train's route
+  pub route-there : (k i : ℕ) → i ≡ k - restAt → restAt ≤ k → k < lineLength
+      → (e : List ℕ) → e ≡ routeBytes (routeOf l (i / 2)) → getD e (i % 2) 0 ≡ getD (lineBytes l) k 0
+  route-there k i p low high e q =
+      let place : restAt + (2 * (i / 2) + i % 2) ≡ k = omega arith in
+      ap (λ (x : List ℕ). getD x (i % 2) 0) q
+      ∙ sym (at-route (i / 2) (i % 2) (omega arith) (omega arith))
+      ∙ ap (λ (n : ℕ). getD (lineBytes l) n 0) place
 
 -- ---- a state
 
@@ -69,3 +74,16 @@ module _ (s : State) (eight : length (s .tracks) ≡ 8) (six : length (s .fleet)
   at-logged =
       at-rest (s .posts) (s .tracks) (s .trains) rest eight 30
       ∙ past trains (s .logged ∷ []) 30 0 0 (omega (arith, thirty))
+
+  -- as the code has it
+  pub train-there : (k i : ℕ) → i ≡ k - restAt → restAt ≤ k → k < stateLength → k ≢ loggedAt
+      → (e : List ℕ) → e ≡ trainBytes (trainOf s (i / 5)) → getD e (i % 5) 0 ≡ getD (stateBytes s) k 0
+  train-there k i p low high other e q =
+      let below : k < loggedAt = omega arith in
+      let place : restAt + (5 * (i / 5) + i % 5) ≡ k = omega arith in
+      ap (λ (x : List ℕ). getD x (i % 5) 0) q
+      ∙ sym (at-train (i / 5) (i % 5) (omega arith) (omega arith))
+      ∙ ap (λ (n : ℕ). getD (stateBytes s) n 0) place
+
+  pub logged-there : (k : ℕ) → k ≡ loggedAt → s .logged ≡ getD (stateBytes s) k 0
+  logged-there k e = rw e (sym at-logged)

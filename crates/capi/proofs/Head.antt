@@ -14,6 +14,9 @@ module _ (posts : ℕ) (tracks : List ℕ) (trains : ℕ) (rest : List ℕ) wher
   unfolding headed
   at-posts = refl
 
+  pub posts-there : (k : ℕ) → k ≡ 0 → posts ≡ getD (headed posts tracks trains rest) k 0
+  posts-there k e = rw e at-posts
+
   module _ (eight : length tracks ≡ 8) where
     pub at-track : (p : ℕ) → p < 8 → getD (headed posts tracks trains rest) (suc p) 0 ≡ getD tracks p 0
     unfolding headed

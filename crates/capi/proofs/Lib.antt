@@ -5,3 +5,6 @@ pub mod UnitSteps
 pub mod Each
 pub mod Head
 pub mod Fields
+pub mod Statuses
+pub mod Journals
+pub mod BoxSteps

@@ -10,7 +10,7 @@ pub use Rattle.unit.specs.declared.hearing.Heard.{Heard}
 pub use Rattle.unit.specs.declared.pressing.Pressed.{Pressed}
 pub use Rattle.line.specs.declared.route.Route.{Route}
 pub use Rattle.line.specs.declared.book.Line.{Line}
-pub use Rattle.line.specs.declared.book.Outcome.{Outcome}
+pub use Rattle.dispatcher.specs.declared.stepping.Outcome.{Outcome}
 pub use Rattle.line.specs.declared.book.Reading.{Reading}
 pub use Rattle.journal.specs.declared.record.Record.{Record}
 pub use Rattle.journal.specs.declared.batch.Batch.{Batch}
