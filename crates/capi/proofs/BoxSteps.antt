@@ -69,4 +69,5 @@ module _ (state table journal frame out : List ℕ) where
       → answerCallOf w after log sent ≡ answerCall state table journal frame out
   unfolding answerCall
   answered h s e o sent p log q after r w t =
-      rw (t, r, q, h) (ap (answerAfter journal) (p .answers (recordsIn journal) (record-count journal) ∙ rw e))
+      let same = rw e at (p .answers (recordsIn journal) (record-count journal)) in
+      rw (t, r, q, h) (ap (answerAfter journal) same)

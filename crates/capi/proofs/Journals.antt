@@ -126,9 +126,9 @@ module _ {b : List ℕ} {at : ℕ} {items : List Record} {n : ℕ} {bytes : List
         seven = w .seven;
         room = w .room;
         written =
-          rw (q, p, w .written, add-one)
-          (with-set b pasted pasted-count (at + k) (recordAt items k) (rw pasted-count place)
-          ∙ ap (withRecords b) (paste-suc (recordsIn b) at items k blank (rw record-count place) (omega arith)));
+            rw (q, p, w .written, add-one)
+            (with-set b pasted pasted-count (at + k) (recordAt items k) (rw pasted-count place)
+            ∙ ap (withRecords b) (paste-suc (recordsIn b) at items k blank (rw record-count place) (omega arith)));
       }
 
 pub all-written : (b : List ℕ) (at : ℕ) (batch : Batch) (n : ℕ) → n ≡ fitting (recordCount (length b)) at (batch .n)

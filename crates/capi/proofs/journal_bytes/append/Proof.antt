@@ -27,7 +27,7 @@ seven : (c : tie.Start Inv-loop μ-loop) → length (c .args .batch .items) ≡ 
 seven c = simp length-map at (c .good .1 .1 .0 .1 .1 .0 .1 .0 .1)
 
 loop-holds : tie.Need-loop-holds Inv-loop μ-loop
-loop-holds c = 
+loop-holds c =
     let a = c .before .before .before in
     start (now (a .args .bytes)) (a .args .at) (a .args .batch) (seven a) _ (c .before .fitting .ensures)
 
@@ -59,7 +59,7 @@ loop-less : tie.Need-loop-less Inv-loop μ-loop
 loop-less c = omega arith
 
 loop-again : tie.Need-loop-again Inv-loop μ-loop
-loop-again c = 
+loop-again c =
     let p = c .before .before in
     let l = p .before .before .before .before .before .before in
     one-more (l .loop .inv) (omega arith) _ (p .before .before .before .record-bytes .ensures) _ (p .put .ensures)
@@ -68,7 +68,7 @@ same-length : tie.Need-same-length Inv-loop μ-loop
 same-length c = same-size (c .before .loop .inv)
 
 returns : tie.Need-returns Inv-loop μ-loop
-returns c = 
+returns c =
     let l = c .before in
     let f = l .before .before in
     let a = f .before .before .args in

@@ -33,7 +33,7 @@ array-read-result : tie.Need-array-read-result
 array-read-result c = search needs
 
 returns-2 : tie.Need-returns-2
-returns-2 c = 
+returns-2 c =
     let a = c .before .before .before in
     route-there (a .args .t1) (search needs) (six a) (a .args .k) _ refl (omega arith) (omega arith) _ (c .route-bytes .ensures)
 

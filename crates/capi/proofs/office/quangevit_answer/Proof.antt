@@ -1,67 +1,79 @@
+-- `quangevit_answer` meets its contract: the bytes encode no state, or the records of the step, its state and its verdict
+-- are written as bytes.
+-- Assumes nothing.
+use mathlib.Core.Path.{_≡_, sym, _∙_}
+use mathlib.Core.Bool.{true}
+use mathlib.Core.List.{List}
+use Prim.Native.Nat.{ℕ}
+use denote.Ref.{now}
+use borrow.Author.Tests.{not-true, not-false}
+use Rattle.capi.specs.StateBytes.{encodesState}
+use Rattle.capi.proofs.Statuses.{encoded-length}
+use Rattle.capi.proofs.BoxSteps.{not-answered, answered}
 use borrow.Author.Needs.{needs}
 use Rattle.capi.proofs.office.quangevit_answer.Statement.{statement}
 use Rattle.capi.proofs.office.quangevit_answer.Tie as tie
-use Rattle.capi.proofs.office.quangevit_answer.Reads as reads
-use Rattle.capi.proofs.office.quangevit_answer.Lts as lts
-use Rattle.capi.proofs.journal_bytes.append.Reads as append-reads
-use Rattle.capi.proofs.office.verdict_word.Reads as verdict-word-reads
-use Rattle.capi.proofs.state_bytes.encodes_state.Reads as encodes-state-reads
-use Rattle.capi.proofs.state_bytes.put_state.Reads as put-state-reads
-use Rattle.capi.proofs.state_bytes.state_in.Reads as state-in-reads
-use Rattle.capi.proofs.word.word_of.Reads as word-of-reads
-use Rattle.dispatcher.proofs.step.Reads as step-reads
 
--- src/office.rt:74:9
 encodes-state-requires : tie.Need-encodes-state-requires
 encodes-state-requires c κs = search needs
 
--- src/office.rt:75:9
 word-of-requires : tie.Need-word-of-requires
 word-of-requires c κs = search needs
 
--- src/office.rt:75:9
 same-length : tie.Need-same-length
 same-length c = search needs
 
--- src/office.rt:75:9
 returns : tie.Need-returns
-returns c = ?
+returns c =
+    let e = c .before .before in
+    let a = e .before .before .before .before .before .before .before .args in
+    not-answered (now (a .state)) (now (a .table)) (now (a .journal)) (now (a .frame)) (now (a .out))
+    (sym (e .encodes-state .ensures) ∙ not-true _ (c .before .if1 .taken)) _ (c .word-of .ensures)
 
--- src/office.rt:77:9
+-- the bytes encode a state
+module _ (c : tie.Else1) where
+  abbrev from : tie.Start
+  from = c .before .before .before .before .before .before .before .before
+
+  encoded : encodesState (now (from .args .state)) ≡ true
+  encoded = sym (c .before .encodes-state .ensures) ∙ not-false _ (c .if1 .left)
+
 state-in-requires : tie.Need-state-in-requires
-state-in-requires c κs = ?
+state-in-requires c κs = encoded-length _ (encoded (c .before))
 
--- src/office.rt:78:9
 step-requires : tie.Need-step-requires
 step-requires c κs = search needs
 
--- src/office.rt:81:5
 append-requires : tie.Need-append-requires
 append-requires c κs = search needs
 
--- src/office.rt:83:5
 put-state-requires : tie.Need-put-state-requires
-put-state-requires c κs = ?
+put-state-requires c κs =
+    let o = c .before .before .before .before .before .before .before .before .before .before in
+    encoded-length _ (encoded (o .before .before .before .before))
 
--- src/office.rt:85:5
 verdict-word-requires : tie.Need-verdict-word-requires
 verdict-word-requires c κs = search needs
 
--- src/office.rt:64:1
 same-length-2 : tie.Need-same-length-2
 same-length-2 c = search needs
 
--- src/office.rt:64:1
 same-length-3 : tie.Need-same-length-3
 same-length-3 c = search needs
 
--- src/office.rt:64:1
 same-length-4 : tie.Need-same-length-4
 same-length-4 c = search needs
 
--- src/office.rt:64:1
 returns-2 : tie.Need-returns-2
-returns-2 c = ?
+returns-2 c =
+    let p = c .before .before .before in
+    let l = p .before .before .before .before .before in
+    let o = l .before .before .before .before .before .before in
+    let s = o .before .before in
+    let e = s .before .before in
+    let a = e .before .before .before .before .before .before .before .before .args in
+    answered (now (a .state)) (now (a .table)) (now (a .journal)) (now (a .frame)) (now (a .out)) (encoded e) _
+    (s .state-in .ensures) _ _ (o .step .ensures) _ (l .append .ensures) _ (p .put-state .ensures) _ (c .verdict-word .ensures)
 
 pub quangevit-answer-spec : {M : Type 1} → statement M
 quangevit-answer-spec =

@@ -1,43 +1,43 @@
+-- `quangevit_open` meets its contract: there is no room for a state, or what the opening gives is written.
+-- Assumes nothing.
+use denote.Ref.{now}
+use Rattle.capi.proofs.BoxSteps.{not-opened, opened}
 use borrow.Author.Needs.{needs}
 use Rattle.capi.proofs.office.quangevit_open.Statement.{statement}
 use Rattle.capi.proofs.office.quangevit_open.Tie as tie
-use Rattle.capi.proofs.office.quangevit_open.Reads as reads
-use Rattle.capi.proofs.office.quangevit_open.Lts as lts
-use Rattle.capi.proofs.state_bytes.put_state.Reads as put-state-reads
-use Rattle.capi.proofs.word.word_of.Reads as word-of-reads
-use Rattle.dispatcher.proofs.open_with.Reads as open-with-reads
 
--- src/office.rt:55:9
 word-of-requires : tie.Need-word-of-requires
 word-of-requires c κs = search needs
 
--- src/office.rt:55:9
 returns : tie.Need-returns
-returns c = ?
+returns c =
+    let a = c .before .before .before .before .before .before .args in
+    not-opened (now (a .book)) (now (a .state)) (now (a .table)) (now (a .journal)) (c .before .if1 .taken) _
+    (c .word-of .ensures)
 
--- src/office.rt:57:9
 open-with-requires : tie.Need-open-with-requires
 open-with-requires c κs = search needs
 
--- src/office.rt:59:5
 put-state-requires : tie.Need-put-state-requires
 put-state-requires c κs = search needs
 
--- src/office.rt:60:5
 word-of-requires-2 : tie.Need-word-of-requires-2
 word-of-requires-2 c κs = search needs
 
--- src/office.rt:45:1
 same-length : tie.Need-same-length
 same-length c = search needs
 
--- src/office.rt:45:1
 same-length-2 : tie.Need-same-length-2
 same-length-2 c = search needs
 
--- src/office.rt:45:1
 returns-2 : tie.Need-returns-2
-returns-2 c = ?
+returns-2 c =
+    let p = c .before .before .before in
+    let o = p .before .before .before .before .before in
+    let e = o .before .before in
+    let a = e .before .before .before .before .before .args in
+    opened (now (a .book)) (now (a .state)) (now (a .table)) (now (a .journal)) (e .if1 .left) _ _ (o .open-with .ensures) _
+    (p .put-state .ensures) _ (c .word-of2 .ensures)
 
 pub quangevit-open-spec : {M : Type 1} → statement M
 quangevit-open-spec =

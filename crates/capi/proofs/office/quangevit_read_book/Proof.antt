@@ -1,44 +1,38 @@
+-- `quangevit_read_book` meets its contract: there is no room for a line, or the line that is read is written.
+-- Assumes nothing.
+use denote.Ref.{now}
+use Rattle.capi.proofs.BoxSteps.{no-line, read}
 use borrow.Author.Needs.{needs}
 use Rattle.capi.proofs.office.quangevit_read_book.Statement.{statement}
 use Rattle.capi.proofs.office.quangevit_read_book.Tie as tie
-use Rattle.capi.proofs.office.quangevit_read_book.Reads as reads
-use Rattle.capi.proofs.office.quangevit_read_book.Lts as lts
-use Rattle.capi.proofs.line_bytes.put_line.Reads as put-line-reads
-use Rattle.capi.proofs.office.number_of.Reads as number-of-reads
-use Rattle.capi.proofs.word.word_of.Reads as word-of-reads
-use Rattle.line.proofs.book.read.Reads as read-reads
 
--- src/office.rt:25:9
 word-of-requires : tie.Need-word-of-requires
 word-of-requires c κs = search needs
 
--- src/office.rt:25:9
 returns : tie.Need-returns
-returns c = ?
+returns c = no-line _ _ (c .before .if1 .taken) _ (c .word-of .ensures)
 
--- src/office.rt:27:9
 read-requires : tie.Need-read-requires
 read-requires c κs = search needs
 
--- src/office.rt:29:5
 put-line-requires : tie.Need-put-line-requires
 put-line-requires c κs = search needs
 
--- src/office.rt:31:13
 number-of-requires : tie.Need-number-of-requires
 number-of-requires c κs = search needs
 
--- src/office.rt:31:5
 word-of-requires-2 : tie.Need-word-of-requires-2
 word-of-requires-2 c κs = search needs
 
--- src/office.rt:20:1
 same-length : tie.Need-same-length
 same-length c = search needs
 
--- src/office.rt:20:1
 returns-2 : tie.Need-returns-2
-returns-2 c = ?
+returns-2 c =
+    let p = c .before .before .before .before in
+    let r = p .before .before .before in
+    read _ _ (r .before .if1 .left) _ (r .read .ensures) _ (p .put-line .ensures) _ (c .before .number-of .ensures) _
+    (c .word-of2 .ensures)
 
 pub quangevit-read-book-spec : {M : Type 1} → statement M
 quangevit-read-book-spec =

@@ -45,7 +45,7 @@ encodes-status-requires : tie.Need-encodes-status-requires Inv-loop μ-loop
 encodes-status-requires c κs = search needs
 
 returns-2 : tie.Need-returns-2 Inv-loop μ-loop
-returns-2 c = 
+returns-2 c =
     let l = c .before .before .before .before .before in
     passing-fails (l .loop .inv) (omega arith) (sym (c .before .encodes-status .ensures) ∙ not-true _ (c .if2 .taken))
     ∙ by-trains _ (l .before .if1 .left)
@@ -57,12 +57,12 @@ loop-less : tie.Need-loop-less Inv-loop μ-loop
 loop-less c = omega arith
 
 loop-again : tie.Need-loop-again Inv-loop μ-loop
-loop-again c = 
+loop-again c =
     let l = c .before .before .before .before .before in
     passing-more (l .loop .inv) (omega arith) (sym (c .before .encodes-status .ensures) ∙ not-false _ (c .if2 .left))
 
 returns-3 : tie.Need-returns-3 Inv-loop μ-loop
-returns-3 c = 
+returns-3 c =
     let l = c .before in
     passing-all (l .loop .inv) (omega arith) ∙ by-trains _ (l .before .if1 .left)
 

@@ -46,12 +46,12 @@ loop-less : tie.Need-loop-less Inv-loop μ-loop
 loop-less c = omega arith
 
 loop-again : tie.Need-loop-again Inv-loop μ-loop
-loop-again c = 
+loop-again c =
     let a = c .before .before in
     (omega arith, rw (a .loop .inv .1, c .train-in2 .ensures) (padded-more 6 _ _ (a .loop .t) (omega arith)))
 
 returns : tie.Need-returns Inv-loop μ-loop
-returns c = 
+returns c =
     let all : c .before .loop .t ≡ 6 = omega arith in
     (rw all at (c .before .loop .inv .1)) ∙ padded-all 6 _ _
 

@@ -24,7 +24,7 @@ six : (c : tie.Start Inv-loop μ-loop) → length (c .args .state .fleet) ≡ 6
 six c = simp length-map at (c .good .0 .1 .1 .1 .1 .1 .0 .1 .0 .1)
 
 loop-holds : tie.Need-loop-holds Inv-loop μ-loop
-loop-holds c = 
+loop-holds c =
     let a = c .before .args in
     let size = state-length (a .state) (search needs) (six (c .before)) in
     (size, record { few = omega arith; room = omega arith; copied = paste-zero (a .to .now) 0 (stateBytes (a .state)) })
@@ -42,7 +42,7 @@ loop-less : tie.Need-loop-less Inv-loop μ-loop
 loop-less c = omega arith
 
 loop-again : tie.Need-loop-again Inv-loop μ-loop
-loop-again c = 
+loop-again c =
     let a = c .before .before in
     (a .loop .inv .0, byte-more (a .loop .inv .1) (search needs) (omega arith) _ (c .state-byte .ensures))
 

@@ -36,7 +36,7 @@ array-read-result : tie.Need-array-read-result
 array-read-result c = search needs
 
 returns-3 : tie.Need-returns-3
-returns-3 c = 
+returns-3 c =
     let a = c .before .before .before .before in
     train-there (a .args .t1) (search needs) (six a) (a .args .k) _ refl (omega arith) (omega arith) (c .before .before .if2 .left) _
     (c .train-bytes .ensures)

@@ -36,12 +36,12 @@ loop-less : tie.Need-loop-less Inv-loop μ-loop
 loop-less c = omega arith
 
 loop-again : tie.Need-loop-again Inv-loop μ-loop
-loop-again c = 
+loop-again c =
     let a = c .before .before in
     (omega arith, rw (a .loop .inv .1) (padded-more 8 _ 0 (a .loop .p) (omega arith)))
 
 returns : tie.Need-returns Inv-loop μ-loop
-returns c = 
+returns c =
     let all : c .before .loop .p ≡ 8 = omega arith in
     (rw all at (c .before .loop .inv .1)) ∙ padded-all 8 _ 0
 
