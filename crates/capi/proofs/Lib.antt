@@ -1,4 +1,4 @@
--- The laws that the functions' proofs cite.
+-- The laws that the functions' proofs cite, from the bytes to the calls; `RoundTrip` proves the claims of `specs/`.
 pub mod Copying
 pub mod Units
 pub mod UnitSteps
@@ -8,3 +8,4 @@ pub mod Fields
 pub mod Statuses
 pub mod Journals
 pub mod BoxSteps
+pub mod RoundTrip

@@ -10,3 +10,4 @@ pub mod LineBytes
 pub mod StateBytes
 pub mod JournalBytes
 pub mod BoxCalls
+pub mod RoundTrip
