@@ -1,4 +1,4 @@
--- The laws that the functions' proofs cite, from the bytes to the calls; `RoundTrip` proves the claims of `specs/`.
+-- The laws that the functions' proofs cite, from the bytes to the calls; `RoundTrip` and `HandedOn` prove the claims of `specs/`.
 pub mod Copying
 pub mod Units
 pub mod UnitSteps
@@ -9,3 +9,4 @@ pub mod Statuses
 pub mod Journals
 pub mod BoxSteps
 pub mod RoundTrip
+pub mod HandedOn

@@ -118,7 +118,7 @@ train-byte b i h (suc (suc (suc (suc (suc j))))) l = absurd (omega arith)
 -- ---- states
 
 -- the list of a list's elements
-elements : {A : Type 0} (n : ℕ) (l : List A) (d : A) → length l ≡ n → tabulate n (λ i. getD l i d) ≡ l
+pub elements : {A : Type 0} (n : ℕ) (l : List A) (d : A) → length l ≡ n → tabulate n (λ i. getD l i d) ≡ l
 elements n l d e =
     let size = length-tabulate n (λ (i : ℕ). getD l i d) in
     ext-getD d (tabulate n (λ i. getD l i d)) l (size ∙ sym e) (λ i h. at-tabulate n _ i d (rw size at h))
@@ -160,10 +160,10 @@ module _ (s : State) (shaped : Shaped s) where
   unfolding stateBytes
   trains-back = at-trains (s .posts) (s .tracks) (s .trains) _ (shaped .eight)
 
-  state-back : stateIn bytes ≡ s
+  pub state-back : stateIn bytes ≡ s
   state-back = rw (posts-back, tracks-back, trains-back, fleet-back, at-logged s (shaped .eight) (shaped .six))
 
-  state-encoded : encodesState bytes ≡ true
+  pub state-encoded : encodesState bytes ≡ true
   state-encoded =
       sym (by-trains bytes (state-length s (shaped .eight) (shaped .six)))
       ∙ below-all 6 _ (λ t h. rw (train-at t 3 h (omega arith), train-at t 4 h (omega arith)) (status-encodes (trainOf s t .status)))
@@ -212,7 +212,7 @@ module _ (b : List ℕ) (h : encodesState b ≡ true) where
       let place : k ≡ loggedAt = omega arith in
       sym (logged-there read eight six k place) ∙ rw place))
 
-  state-only : stateBytes read ≡ b
+  pub state-only : stateBytes read ≡ b
   state-only =
       let size = state-length read eight six in
       ext-getD 0 (stateBytes read) b (size ∙ sym (encoded-length b h)) (λ k l. state-byte k (rw size at l))

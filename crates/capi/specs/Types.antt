@@ -12,6 +12,7 @@ pub use Rattle.line.specs.declared.route.Route.{Route}
 pub use Rattle.line.specs.declared.book.Line.{Line}
 pub use Rattle.dispatcher.specs.declared.stepping.Outcome.{Outcome}
 pub use Rattle.line.specs.declared.book.Reading.{Reading}
+pub use Rattle.frame.specs.declared.message.Message.{Message}
 pub use Rattle.journal.specs.declared.record.Record.{Record}
 pub use Rattle.journal.specs.declared.batch.Batch.{Batch}
 pub use Rattle.rules.specs.declared.state.Status.{Status}

@@ -1,0 +1,131 @@
+-- The claims of `specs/HandedOn`: the state that the rules give keeps the lengths of its lists, and the journal its own,
+-- so that both read back.
+-- Assumes nothing.
+use mathlib.Core.Path.{_≡_, refl, sym, ap, subst, _∙_}
+use mathlib.Core.Bool.{true}
+use mathlib.Core.List.{List, map}
+use Prim.Native.Nat.{ℕ, zero, suc, _+_, _*_, _/_, _≤_, _<_}
+use native.Mathlib.Nat.{add-zero}
+use native.Mathlib.Omega.{arith}
+use lib.ListN.{length, getD, length-map, List·getD-append}
+use borrow.Author.Tests.{eq-eqb}
+use Rattle.common.specs.Check.{unlessRefused}
+use Rattle.common.specs.Tabulate.{tabulate}
+use Rattle.common.proofs.Part.{length-replaced}
+use Rattle.common.proofs.Tabulate.{length-tabulate, length-padded, tabulate-cong}
+use Rattle.frame.specs.Frame.{readFrame}
+use Rattle.line.specs.Book.{byteAt}
+use Rattle.journal.specs.Journal.{journalLength, blank, recordOf}
+use Rattle.rules.specs.State.{lineOf}
+use Rattle.rules.specs.Answer.{Answer, answer, mostLogged}
+use Rattle.rules.specs.Opening.{Opening, openingWith}
+use Rattle.rules.proofs.Acceptance.{Taken, request, arrival, Passed, by-verdict, accepted-facts}
+use Rattle.capi.specs.Types.{Line, Message, Record, State, Verdict, RefusedBy}
+use Rattle.capi.specs.Word.{wordOf}
+use Rattle.capi.specs.Each.{each}
+use Rattle.capi.specs.StateBytes.{stateLength, stateBytes, encodesState, stateIn}
+use Rattle.capi.specs.JournalBytes.{recordLength, recordBytes, recordIn, recordCount, recordsIn, withRecords}
+use Rattle.capi.specs.BoxCalls.{openCall, verdictWord, answerCallOf, answerAfter, answerCall}
+use Rattle.capi.specs.RoundTrip.{Shaped}
+use Rattle.capi.specs.HandedOn.{ReadAs, LeftAs, ruled, HandedOn}
+use Rattle.capi.proofs.Each.{length-each, at-each}
+use Rattle.capi.proofs.Journals.{record-count, own-records, length-with}
+use Rattle.capi.proofs.RoundTrip.{elements, state-back, state-encoded, state-only}
+
+-- ---- the state
+
+read-back : (s : State) → Shaped s → ReadAs (stateBytes s) s
+read-back s h = record { encodes = state-encoded s h; is = state-back s h }
+
+read-shaped : (b : List ℕ) → Shaped (stateIn b)
+read-shaped b = record { eight = length-tabulate 8 _; six = length-tabulate 6 _ }
+
+either : {A : Type 0} (P : A → Type 0) (n : ℕ) (x : A) (f : ℕ → A) → P x → ((k : ℕ) → P (f k)) → P (unlessRefused n x f)
+unfolding unlessRefused
+either P zero x f p q = p
+either P (suc n) x f p q = q (suc n)
+
+opened-shaped : (book table : List ℕ) (n : ℕ) → Shaped (openingWith book table n .state)
+unfolding openingWith
+opened-shaped book table n =
+    either (λ (o : Opening). Shaped (o .state)) _ _ _
+    (record { eight = length-padded 8 _ _ 0; six = length-tabulate 6 _ })
+    (λ k. record { eight = refl; six = length-tabulate 6 _ })
+
+module _ (s : State) (table : List ℕ) (journal : List Record) (frame out : List ℕ) where
+  answer-shaped : Shaped s → Shaped (answer s table journal frame out .state)
+  answer-shaped h =
+      by-verdict s table journal frame out (λ (a : Answer). Shaped (a .state)) (λ n e. h)
+      (λ p.
+      let k = accepted-facts table s (p .valid-state) (readFrame frame) (p .message) in
+      record { eight = ap (λ (l : Line). length (l .tracks)) (k .line) ∙ h .eight; six = k .size ∙ h .six })
+
+  -- ---- the journal
+
+  space : (a : Message) → Taken s a → s .logged + mostLogged ≤ journalLength
+  space a (request m n free idle) = n .space
+  space a (arrival m n runs) = n .space
+
+  answer-records : length (answer s table journal frame out .journal) ≡ length journal
+  answer-records =
+      by-verdict s table journal frame out (λ (a : Answer). length (a .journal) ≡ length journal) (λ n e. refl)
+      (λ p.
+      let k = accepted-facts table s (p .valid-state) (readFrame frame) (p .message) in
+      let room = space (readFrame frame) (p .message) in
+      length-replaced journal (s .logged) _ (rw length-map (omega (arith, k .few, p .long-journal))))
+
+  refused-answer : (n : ℕ) → answer s table journal frame out .verdict ≡ RefusedBy n
+      → answer s table journal frame out ≡ record { state = s; verdict = RefusedBy n; journal = journal; out = out }
+  refused-answer n =
+      by-verdict s table journal frame out
+      (λ (a : Answer). a .verdict ≡ RefusedBy n → a ≡ record { state = s; verdict = RefusedBy n; journal = journal; out = out })
+      (λ m e h. rw h)
+      (λ p h. let z : _≡_ {A = ℕ} 0 1 = cc in absurd (omega arith))
+
+-- a record is what its four bytes are read as
+same-record : (b : List ℕ) (i : ℕ) (r : Record) → ((j : ℕ) → j < recordLength → getD b (i + j) 0 ≡ getD (recordBytes r) j 0)
+    → recordIn b i ≡ r
+same-record b i r h =
+    let kind : byteAt b i ≡ r .kind = rw add-zero at (h 0 (omega arith)) in
+    rw (kind, h 1 (omega arith), h 2 (omega arith), h 3 (omega arith))
+
+module _ (b : List ℕ) (j : List Record) (size : length j ≡ recordCount (length b)) where
+  record-byte : (i k : ℕ) → i < length j → k < recordLength
+      → getD (withRecords b j) (recordLength * i + k) 0 ≡ getD (recordBytes (getD j i blank)) k 0
+  unfolding withRecords
+  record-byte i k h l =
+      List·getD-append (each recordBytes j) _ 0 (recordLength * i + k)
+      (omega (arith, length-each recordBytes recordLength (λ r. refl) j))
+      ∙ at-each recordBytes recordLength (λ r. refl) j i k blank h l
+
+  records-back : recordsIn (withRecords b j) ≡ j
+  records-back =
+      ap (λ (n : ℕ). tabulate (recordCount n) (λ i. recordIn (withRecords b j) (recordLength * i))) (length-with b j size)
+      ∙ tabulate-cong (recordCount (length b)) _ (λ i. getD j i blank)
+      (λ i h. same-record (withRecords b j) (recordLength * i) (getD j i blank) (λ k l. record-byte i k (rw size h) l))
+      ∙ elements (recordCount (length b)) j blank size
+
+-- ---- the claims
+
+opened : (book state table journal : List ℕ) → length state ≡ stateLength
+    → ReadAs (openCall book state table journal .state) (openingWith book table (recordCount (length journal)) .state)
+unfolding openCall
+opened book state table journal h =
+    rw (eq-eqb (length state) stateLength h) (read-back _ (opened-shaped book table (recordCount (length journal))))
+
+module _ (state table journal frame out : List ℕ) (h : encodesState state ≡ true) where
+  answered : LeftAs (answerCall state table journal frame out) (ruled state table journal frame out)
+  unfolding answerCall
+  answered = rw h (record {
+    state = read-back _ (answer-shaped (stateIn state) table (recordsIn journal) frame out (read-shaped state));
+    journal = records-back journal _ (answer-records (stateIn state) table (recordsIn journal) frame out ∙ record-count journal);
+  })
+
+  refused : (n : ℕ) → ruled state table journal frame out .verdict ≡ RefusedBy n
+      → answerCall state table journal frame out ≡ answerCallOf (wordOf n 0) state journal out
+  unfolding answerCall
+  refused n e =
+      rw (h, refused-answer (stateIn state) table (recordsIn journal) frame out n e, state-only state h, own-records journal)
+
+pub handed-on : HandedOn
+handed-on = record { opened = opened; answered = answered; refused = refused }
