@@ -1,6 +1,6 @@
 -- How the calls of the dispatcher's end come out, by the tests that the code makes.
 -- Assumes nothing.
-use mathlib.Core.Path.{_≡_, refl, sym, ap, _∙_}
+use mathlib.Core.Path.{_≡_, ap}
 use mathlib.Core.Logic.{_≢_}
 use mathlib.Core.Bool.{true, false}
 use mathlib.Core.List.{List}
@@ -10,7 +10,6 @@ use borrow.Author.Tests.{eq-eqb, ne-eqb}
 use Rattle.line.specs.Refusal.{strangeState}
 use Rattle.line.specs.Book.{readBook, outcomeNumber}
 use Rattle.journal.specs.Journal.{appended}
-use Rattle.rules.specs.Answer.{Answer, answerOf, answer}
 use Rattle.rules.specs.Opening.{Opening, openingOf, openingWith}
 use Rattle.dispatcher.specs.Step.{Stepped}
 use Rattle.capi.specs.Types.{Reading, Opened, State, Outcome}
@@ -30,8 +29,8 @@ module _ (book line : List ℕ) where
   unfolding readBookCall
   no-line h w p = rw (p, ne-eqb (length line) lineLength h)
 
-  pub read : length line ≡ lineLength → (r : Reading) → r ≡ readBook book → (after : List ℕ) → after ≡ lineBytes (r .line)
-      → (n : ℕ) → n ≡ outcomeNumber (r .outcome) → (w : ℕ) → w ≡ wordOf n 0 → bookCall w after ≡ readBookCall book line
+  pub read : length line ≡ lineLength → (r : Reading) → r ≡ readBook book
+      → (after : List ℕ) → after ≡ lineBytes (r .line) → (n : ℕ) → n ≡ outcomeNumber (r .outcome) → (w : ℕ) → w ≡ wordOf n 0 → bookCall w after ≡ readBookCall book line
   unfolding readBookCall
   read h r p after q n e w s = rw (s, q, e, p, eq-eqb (length line) lineLength h)
 

@@ -1,12 +1,12 @@
 -- Bytes put into a buffer: the loop's turn and the ways out, over plain lists.
 -- Assumes nothing.
-use mathlib.Core.Path.{_≡_, refl, sym, subst, _∙_}
+use mathlib.Core.Path.{_≡_, sym, subst, _∙_}
 use mathlib.Core.List.{List, append-nil}
 use Prim.Native.Nat.{ℕ, _+_, _≤_, _<_}
 use native.Mathlib.Omega.{arith}
 use native.Mathlib.Numerals.{add-one}
 use lib.ListN.{length, getD, set, drop-of-length-le}
-use lib.Seq.{paste, paste-suc, length-paste, take-length, take-all}
+use lib.Seq.{paste, paste-suc, length-paste}
 use Rattle.common.specs.Part.{replaced, replacedIfRoom}
 use Rattle.common.proofs.Part.{paste-replaces, replaced-if}
 
@@ -49,7 +49,10 @@ module _ {s b : List ℕ} {at : ℕ} {to : List ℕ} {i : ℕ} (k : Copied s b a
 
   -- one byte more, worked out by itself, of bytes from the beginning of the buffer
   pub byte-more : at ≡ 0 → i < length b → (v : ℕ) → v ≡ getD b i 0 → Copied s b at (set to i v) (i + 1)
-  byte-more e h v p = let place : i ≡ at + i = omega arith in rw p (subst (λ (n : ℕ). Copied s b at (set to n (getD b i 0)) (i + 1)) (sym place) (one-more h))
+  byte-more e h v p =
+      let place : i ≡ at + i = omega arith in
+      rw p
+      (subst (λ (n : ℕ). Copied s b at (set to n (getD b i 0)) (i + 1)) (sym place) (one-more h))
 
   pub whole-put : at ≡ 0 → length s ≡ length b → length b ≤ i → to ≡ b
   whole-put e size h = all-put h ∙ rw e (replaced-whole s b size)

@@ -1,9 +1,9 @@
 -- Laws of the bytes of some things, one after the other, each of which has w bytes: their length, each byte, and one
 -- thing replaced by another.
 -- Assumes nothing.
-use mathlib.Core.Path.{_≡_, refl, sym, ap, _∙_}
+use mathlib.Core.Path.{_≡_, sym, ap, _∙_}
 use mathlib.Core.List.{List, [], _∷_, _++_, append-assoc}
-use Prim.Native.Nat.{ℕ, zero, suc, _+_, _*_, _≤_, _<_}
+use Prim.Native.Nat.{ℕ, zero, suc, _+_, _*_, _<_}
 use native.Mathlib.Nat.{not-suc-le-zero, mul-zero, mul-suc, zero-add, add-assoc, add-comm}
 use native.Mathlib.Omega.{arith}
 use lib.ListN.{length, getD, set, length-append, List·getD-append}
@@ -24,7 +24,8 @@ replaced-first p q b e = rw (zero-add (length b), drop-at p q (length b) (sym e)
 replaced-past : (p s : List ℕ) (i : ℕ) (b : List ℕ) → replaced (p ++ s) (length p + i) b ≡ p ++ replaced s i b
 unfolding replaced
 replaced-past p s i b =
-    rw (take-append-add p s i, add-assoc (length p) i (length b), drop-append-add p s (i + length b)) (simp append-assoc)
+    rw (take-append-add p s i, add-assoc (length p) i (length b), drop-append-add p s (i + length b))
+    (simp append-assoc)
 
 -- ---- things of w bytes each
 

@@ -8,10 +8,10 @@ use native.Mathlib.Omega.{arith}
 use lib.ListN.{length, getD, length-append, List·getD-append}
 use Rattle.line.specs.Line.{routeOf, noRoute}
 use Rattle.rules.specs.State.{trainOf, noTrain}
-use Rattle.capi.specs.Types.{Route, Line, Train, State}
-use Rattle.capi.specs.Each.{each, headed, restAt}
+use Rattle.capi.specs.Types.{Line, State}
+use Rattle.capi.specs.Each.{each, restAt}
 use Rattle.capi.specs.LineBytes.{lineLength, routeBytes, lineBytes}
-use Rattle.capi.specs.StateBytes.{stateLength, trainBytes, stateBytes, trainAt, loggedAt}
+use Rattle.capi.specs.StateBytes.{stateLength, trainBytes, stateBytes, loggedAt}
 use Rattle.capi.proofs.Each.{past, length-each, at-each}
 use Rattle.capi.proofs.Head.{at-rest, length-headed}
 

@@ -1,10 +1,10 @@
--- The claims of `specs/HandedOn`: the state that the rules give keeps the lengths of its lists, and the journal its own,
--- so that both read back.
+-- The claims of `specs/HandedOn`: the state that the rules give keeps the lengths of its lists, and the journal its
+-- own, so that both read back.
 -- Assumes nothing.
-use mathlib.Core.Path.{_≡_, refl, sym, ap, subst, _∙_}
+use mathlib.Core.Path.{_≡_, refl, ap, _∙_}
 use mathlib.Core.Bool.{true}
-use mathlib.Core.List.{List, map}
-use Prim.Native.Nat.{ℕ, zero, suc, _+_, _*_, _/_, _≤_, _<_}
+use mathlib.Core.List.{List}
+use Prim.Native.Nat.{ℕ, zero, suc, _+_, _*_, _≤_, _<_}
 use native.Mathlib.Nat.{add-zero}
 use native.Mathlib.Omega.{arith}
 use lib.ListN.{length, getD, length-map, List·getD-append}
@@ -15,17 +15,16 @@ use Rattle.common.proofs.Part.{length-replaced}
 use Rattle.common.proofs.Tabulate.{length-tabulate, length-padded, tabulate-cong}
 use Rattle.frame.specs.Frame.{readFrame}
 use Rattle.line.specs.Book.{byteAt}
-use Rattle.journal.specs.Journal.{journalLength, blank, recordOf}
-use Rattle.rules.specs.State.{lineOf}
+use Rattle.journal.specs.Journal.{journalLength, blank}
 use Rattle.rules.specs.Answer.{Answer, answer, mostLogged}
 use Rattle.rules.specs.Opening.{Opening, openingWith}
-use Rattle.rules.proofs.Acceptance.{Taken, request, arrival, Passed, by-verdict, accepted-facts}
-use Rattle.capi.specs.Types.{Line, Message, Record, State, Verdict, RefusedBy}
+use Rattle.rules.proofs.Acceptance.{Taken, request, arrival, by-verdict, accepted-facts}
+use Rattle.capi.specs.Types.{Line, Message, Record, State, RefusedBy}
 use Rattle.capi.specs.Word.{wordOf}
 use Rattle.capi.specs.Each.{each}
 use Rattle.capi.specs.StateBytes.{stateLength, stateBytes, encodesState, stateIn}
 use Rattle.capi.specs.JournalBytes.{recordLength, recordBytes, recordIn, recordCount, recordsIn, withRecords}
-use Rattle.capi.specs.BoxCalls.{openCall, verdictWord, answerCallOf, answerAfter, answerCall}
+use Rattle.capi.specs.BoxCalls.{openCall, answerCallOf, answerCall}
 use Rattle.capi.specs.RoundTrip.{Shaped}
 use Rattle.capi.specs.HandedOn.{ReadAs, LeftAs, ruled, HandedOn}
 use Rattle.capi.proofs.Each.{length-each, at-each}
@@ -78,12 +77,14 @@ module _ (s : State) (table : List ℕ) (journal : List Record) (frame out : Lis
       → answer s table journal frame out ≡ record { state = s; verdict = RefusedBy n; journal = journal; out = out }
   refused-answer n =
       by-verdict s table journal frame out
-      (λ (a : Answer). a .verdict ≡ RefusedBy n → a ≡ record { state = s; verdict = RefusedBy n; journal = journal; out = out })
+      (λ (a : Answer). a .verdict ≡ RefusedBy n
+      → a ≡ record { state = s; verdict = RefusedBy n; journal = journal; out = out })
       (λ m e h. rw h)
       (λ p h. let z : _≡_ {A = ℕ} 0 1 = cc in absurd (omega arith))
 
 -- a record is what its four bytes are read as
-same-record : (b : List ℕ) (i : ℕ) (r : Record) → ((j : ℕ) → j < recordLength → getD b (i + j) 0 ≡ getD (recordBytes r) j 0)
+same-record : (b : List ℕ) (i : ℕ) (r : Record)
+    → ((j : ℕ) → j < recordLength → getD b (i + j) 0 ≡ getD (recordBytes r) j 0)
     → recordIn b i ≡ r
 same-record b i r h =
     let kind : byteAt b i ≡ r .kind = rw add-zero at (h 0 (omega arith)) in
@@ -100,7 +101,8 @@ module _ (b : List ℕ) (j : List Record) (size : length j ≡ recordCount (leng
 
   records-back : recordsIn (withRecords b j) ≡ j
   records-back =
-      ap (λ (n : ℕ). tabulate (recordCount n) (λ i. recordIn (withRecords b j) (recordLength * i))) (length-with b j size)
+      ap (λ (n : ℕ). tabulate (recordCount n) (λ i. recordIn (withRecords b j) (recordLength * i)))
+      (length-with b j size)
       ∙ tabulate-cong (recordCount (length b)) _ (λ i. getD j i blank)
       (λ i h. same-record (withRecords b j) (recordLength * i) (getD j i blank) (λ k l. record-byte i k (rw size h) l))
       ∙ elements (recordCount (length b)) j blank size
@@ -116,16 +118,19 @@ opened book state table journal h =
 module _ (state table journal frame out : List ℕ) (h : encodesState state ≡ true) where
   answered : LeftAs (answerCall state table journal frame out) (ruled state table journal frame out)
   unfolding answerCall
-  answered = rw h (record {
-    state = read-back _ (answer-shaped (stateIn state) table (recordsIn journal) frame out (read-shaped state));
-    journal = records-back journal _ (answer-records (stateIn state) table (recordsIn journal) frame out ∙ record-count journal);
-  })
+  answered =
+      let kept = answer-records (stateIn state) table (recordsIn journal) frame out in
+      rw h (record {
+        state = read-back _ (answer-shaped (stateIn state) table (recordsIn journal) frame out (read-shaped state));
+        journal = records-back journal _ (kept ∙ record-count journal);
+      })
 
   refused : (n : ℕ) → ruled state table journal frame out .verdict ≡ RefusedBy n
       → answerCall state table journal frame out ≡ answerCallOf (wordOf n 0) state journal out
   unfolding answerCall
   refused n e =
-      rw (h, refused-answer (stateIn state) table (recordsIn journal) frame out n e, state-only state h, own-records journal)
+      let same = refused-answer (stateIn state) table (recordsIn journal) frame out n e in
+      rw (h, same, state-only state h, own-records journal)
 
 pub handed-on : HandedOn
 handed-on = record { opened = opened; answered = answered; refused = refused }

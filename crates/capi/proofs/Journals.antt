@@ -1,13 +1,13 @@
--- The journal as bytes: its records and the bytes past them are the buffer, and one record is replaced by its four bytes.
--- Then the loop that writes a batch.
+-- The journal as bytes: its records and the bytes past them are the buffer, and one record is replaced by its four
+-- bytes. Then the loop that writes a batch.
 -- Assumes nothing.
 use mathlib.Core.Path.{_≡_, refl, sym, ap, _∙_}
-use mathlib.Core.List.{List, _++_}
+use mathlib.Core.List.{List}
 use Prim.Native.Nat.{ℕ, zero, suc, _+_, _*_, _-_, _/_, _%_, _≤_, _<_}
 use native.Mathlib.Nat.{add-zero, mul-div-le}
 use native.Mathlib.Numerals.{add-one}
 use native.Mathlib.Omega.{arith}
-use lib.ListN.{length, getD, set, take, drop, length-append, length-drop, take-append-drop}
+use lib.ListN.{length, getD, set, take, length-append, length-drop, take-append-drop}
 use lib.Seq.{paste, paste-zero, paste-suc, length-paste, length-take-le, getD-take, ext-getD}
 use Rattle.common.specs.Part.{replaced, replacedIfRoom}
 use Rattle.common.proofs.Part.{replaced-if}
@@ -42,7 +42,8 @@ module _ (b : List ℕ) where
 
   record-bytes : each recordBytes (recordsIn b) ≡ take (recordLength * count) b
   record-bytes =
-      let size = length-each recordBytes recordLength (λ r. refl) (recordsIn b) ∙ ap (λ (n : ℕ). recordLength * n) record-count in
+      let wide = length-each recordBytes recordLength (λ r. refl) (recordsIn b) in
+      let size = wide ∙ ap (λ (n : ℕ). recordLength * n) record-count in
       ext-getD 0 (each recordBytes (recordsIn b)) (take (recordLength * count) b)
       (size ∙ sym (length-take-le (recordLength * count) b whole))
       (λ k h.
@@ -102,7 +103,8 @@ module _ (b : List ℕ) (at : ℕ) (batch : Batch) (seven : length (batch .items
     written = rw (← paste-zero (recordsIn b) at (batch .items)) (sym (own-records b));
   }
 
-module _ {b : List ℕ} {at : ℕ} {items : List Record} {n : ℕ} {bytes : List ℕ} {k : ℕ} (w : Writing b at items n bytes k) where
+module _ {b : List ℕ} {at : ℕ} {items : List Record} {n : ℕ} {bytes : List ℕ} {k : ℕ}
+    (w : Writing b at items n bytes k) where
   abbrev pasted : List Record
   pasted = paste (recordsIn b) at items k
 
@@ -136,5 +138,6 @@ pub all-written : (b : List ℕ) (at : ℕ) (batch : Batch) (n : ℕ) → n ≡ 
     → bytes ≡ withRecords b (appended (recordsIn b) at batch)
 all-written b at batch n e bytes k w h =
     let all : k ≡ fitting (recordCount (length b)) at (batch .n) = omega (arith, w .most, e) in
-    let same : k ≡ fitting (length (recordsIn b)) at (batch .n) = all ∙ ap (λ (m : ℕ). fitting m at (batch .n)) (sym (record-count b)) in
+    let same : k ≡ fitting (length (recordsIn b)) at (batch .n) =
+    all ∙ ap (λ (m : ℕ). fitting m at (batch .n)) (sym (record-count b)) in
     w .written ∙ ap (withRecords b) (rw same (all-appended (recordsIn b) at batch))

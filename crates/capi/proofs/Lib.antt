@@ -1,4 +1,5 @@
--- The laws that the functions' proofs cite, from the bytes to the calls; `RoundTrip` and `HandedOn` prove the claims of `specs/`.
+-- The laws that the functions' proofs cite, from the bytes to the calls; `RoundTrip` and `HandedOn` prove the claims of
+-- `specs/`.
 pub mod Copying
 pub mod Units
 pub mod UnitSteps

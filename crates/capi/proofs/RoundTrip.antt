@@ -1,18 +1,18 @@
--- The round trips of `specs/RoundTrip`: each by the byte at a free place, with cases only over the few bytes of one train
--- or one unit.
+-- The round trips of `specs/RoundTrip`: each by the byte at a free place, with cases only over the few bytes of one
+-- train or one unit.
 -- Assumes nothing.
 use mathlib.Core.Path.{_≡_, refl, sym, ap, _∙_}
-use mathlib.Core.Bool.{true, false, _&&_, false≢true}
+use mathlib.Core.Bool.{true}
 use mathlib.Core.List.{List}
 use Prim.Native.Nat.{ℕ, zero, suc, _+_, _*_, _-_, _/_, _%_, _≤_, _<_}
 use native.Mathlib.Nat.{add-zero}
 use native.Mathlib.Omega.{arith}
-use lib.Dec.{eqb, leb}
+use lib.Dec.{leb}
 use lib.ListN.{length, getD}
 use lib.Seq.{ext-getD}
-use borrow.Author.Tests.{eq-eqb, eqb-true, leb-true}
+use borrow.Author.Tests.{eqb-true, leb-true}
 use Rattle.common.specs.Tabulate.{tabulate}
-use Rattle.common.proofs.Tests.{by-equality, by-order, and-left, and-right, and-both}
+use Rattle.common.proofs.Tests.{by-equality, by-order, and-left}
 use Rattle.common.proofs.Below.{all-below, below-all}
 use Rattle.common.proofs.Tabulate.{length-tabulate, at-tabulate, tabulate-cong}
 use Rattle.line.specs.Book.{byteAt}
@@ -20,10 +20,11 @@ use Rattle.unit.specs.State.{phaseNo}
 use Rattle.rules.specs.State.{askedAs, noTrain, trainOf}
 use Rattle.capi.specs.Types.{Phase, Standing, Asked, Declined, Granted, UnderWay, Arrived, Unit}
 use Rattle.capi.specs.Types.{Status, Free, AskedAs, Running, Train, State}
-use Rattle.capi.specs.Each.{headed, restAt}
+use Rattle.capi.specs.Each.{restAt}
 use Rattle.capi.specs.UnitBytes.{unitLength, unitBytes, encodesUnit, phaseOf, unitIn}
 use Rattle.capi.specs.StateBytes.{stateLength, statusNo, trainBytes, stateBytes, trainAt, loggedAt}
-use Rattle.capi.specs.StateBytes.{encodesStatus, encodesTrain, encodesState, statusOf, trainIn, tracksIn, fleetIn, stateIn}
+use Rattle.capi.specs.StateBytes.{encodesStatus, encodesTrain, encodesState}
+use Rattle.capi.specs.StateBytes.{statusOf, trainIn, tracksIn, fleetIn, stateIn}
 use Rattle.capi.specs.RoundTrip.{Shaped, RoundTrip}
 use Rattle.capi.proofs.Units as units
 use Rattle.capi.proofs.Statuses.{encoded-length, encoded-trains, by-trains}
@@ -124,7 +125,8 @@ elements n l d e =
     ext-getD d (tabulate n (λ i. getD l i d)) l (size ∙ sym e) (λ i h. at-tabulate n _ i d (rw size at h))
 
 -- a train is what its five bytes are read as
-same-train : (b : List ℕ) (i : ℕ) (x : Train) → ((j : ℕ) → j < 5 → getD b (i + j) 0 ≡ getD (trainBytes x) j 0) → trainIn b i ≡ x
+same-train : (b : List ℕ) (i : ℕ) (x : Train) → ((j : ℕ) → j < 5 → getD b (i + j) 0 ≡ getD (trainBytes x) j 0)
+    → trainIn b i ≡ x
 same-train b i x h =
     let start : byteAt b i ≡ x .route .start .0 = rw add-zero at (h 0 (omega arith)) in
     rw (start, h 1 (omega arith), h 2 (omega arith), h 3 (omega arith), h 4 (omega arith), status-back (x .status))
@@ -166,7 +168,8 @@ module _ (s : State) (shaped : Shaped s) where
   pub state-encoded : encodesState bytes ≡ true
   state-encoded =
       sym (by-trains bytes (state-length s (shaped .eight) (shaped .six)))
-      ∙ below-all 6 _ (λ t h. rw (train-at t 3 h (omega arith), train-at t 4 h (omega arith)) (status-encodes (trainOf s t .status)))
+      ∙ below-all 6 _ (λ t h.
+      rw (train-at t 3 h (omega arith), train-at t 4 h (omega arith)) (status-encodes (trainOf s t .status)))
 
 module _ (b : List ℕ) (h : encodesState b ≡ true) where
   abbrev read : State

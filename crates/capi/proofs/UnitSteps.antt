@@ -1,6 +1,6 @@
 -- How the calls of the driver's end come out, by the tests that the code makes.
 -- Assumes nothing.
-use mathlib.Core.Path.{_≡_, refl, sym, ap, _∙_}
+use mathlib.Core.Path.{_≡_, refl, sym, _∙_}
 use mathlib.Core.Logic.{_≢_}
 use mathlib.Core.Bool.{Bool, true, false, cond}
 use mathlib.Core.List.{List}
@@ -21,7 +21,8 @@ use Rattle.unit.specs.Hearing.{hearFrame}
 use Rattle.capi.specs.Types.{Button, Unit, Made, Heard, Pressed}
 use Rattle.capi.specs.Word.{wordOf}
 use Rattle.capi.specs.UnitBytes.{unitLength, unitBytes, encodesUnit, unitIn, buttonOf}
-use Rattle.capi.specs.UnitCalls.{unitCall, makeUnitCall, hearCall, pressed, pressCallChecks, pressAfter, pressCall}
+use Rattle.capi.specs.UnitCalls.{unitCall, makeUnitCall, hearCall}
+use Rattle.capi.specs.UnitCalls.{pressed, pressCallChecks, pressAfter, pressCall}
 
 -- ---- making
 

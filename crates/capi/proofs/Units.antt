@@ -4,15 +4,12 @@ use mathlib.Core.Path.{_≡_, refl}
 use mathlib.Core.Logic.{_≢_}
 use mathlib.Core.Bool.{true, false}
 use mathlib.Core.List.{List}
-use Prim.Native.Nat.{ℕ, _≤_, _<_}
+use Prim.Native.Nat.{ℕ, _≤_}
 use native.Mathlib.Omega.{arith}
 use lib.Dec.{eqb, leb}
 use lib.ListN.{length}
 use borrow.Author.Tests.{eq-eqb, ne-eqb, eqb-true}
-use Rattle.common.specs.Check.{refusal}
 use Rattle.common.proofs.Tests.{and-left}
-use Rattle.common.proofs.Check.{Refuses, none, stop, pass, accepted-by, refused-by}
-use Rattle.line.specs.Refusal.{strangeState, shortStore, notNow}
 use Rattle.line.specs.Book.{byteAt}
 use Rattle.capi.specs.Types.{Arrived, Report, Unit}
 use Rattle.capi.specs.UnitBytes.{unitLength, unitBytes, encodesUnit, phaseOf, buttonOf}

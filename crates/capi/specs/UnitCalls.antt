@@ -63,7 +63,8 @@ pressCallChecks unit button room =
 -- "A press that gives a frame writes its seven bytes at the beginning of `frame`, else `frame` is untouched."
 abbrev pub pressAfter : Pressed → List ℕ → PressCall
 pressAfter p frame =
-    pressed (wordOf (p .refusal) (ofBool (p .sent))) (unitBytes (p .unit)) (cond (p .sent) (replaced frame 0 (p .frame)) frame)
+    pressed (wordOf (p .refusal) (ofBool (p .sent))) (unitBytes (p .unit))
+    (cond (p .sent) (replaced frame 0 (p .frame)) frame)
 
 unfoldable pub pressCall : List ℕ → ℕ → List ℕ → PressCall
 pressCall unit button frame =

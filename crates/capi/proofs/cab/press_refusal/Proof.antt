@@ -1,7 +1,7 @@
 -- `press_refusal` meets its contract: at each `return` the checks that passed, and the one that fails, give the number.
 -- Assumes nothing.
 use mathlib.Core.Path.{_≡_, sym, ap, _∙_}
-use mathlib.Core.Bool.{true, false}
+use mathlib.Core.Bool.{true}
 use mathlib.Core.List.{List}
 use Prim.Native.Nat.{ℕ}
 use denote.Ref.{now}
@@ -63,7 +63,8 @@ returns-4 : tie.Need-returns-4
 returns-4 c =
     let e = c .before .before in
     let a = is-unit e .before .before .before .args in
-    no-button (now (a .unit)) (a .button) (a .room) (encoded (is-unit e)) (good e) (c .before .if3 .left) (c .if4 .taken)
+    no-button (now (a .unit)) (a .button) (a .room) (encoded (is-unit e)) (good e) (c .before .if3 .left)
+    (c .if4 .taken)
 
 returns-5 : tie.Need-returns-5
 returns-5 c =

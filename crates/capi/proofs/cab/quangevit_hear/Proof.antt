@@ -23,7 +23,9 @@ same-length : tie.Need-same-length
 same-length c = search needs
 
 returns : tie.Need-returns
-returns c = not-heard _ _ (sym (c .before .before .encodes-unit .ensures) ∙ not-true _ (c .before .if1 .taken)) _ (c .word-of .ensures)
+returns c =
+    not-heard _ _ (sym (c .before .before .encodes-unit .ensures) ∙ not-true _ (c .before .if1 .taken)) _
+    (c .word-of .ensures)
 
 -- the bytes encode a unit
 module _ (c : tie.Else1) where

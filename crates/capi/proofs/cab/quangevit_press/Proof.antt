@@ -2,9 +2,8 @@
 -- frame that it gives are written.
 -- Assumes nothing.
 use mathlib.Core.Path.{_≡_, sym, _∙_}
-use mathlib.Core.Bool.{true}
 use mathlib.Core.List.{List}
-use Prim.Native.Nat.{ℕ, _≤_}
+use Prim.Native.Nat.{ℕ}
 use denote.Ref.{now}
 use lib.ListN.{length}
 use Rattle.common.specs.Check.{refusal}
@@ -86,8 +85,8 @@ returns-2 c =
     let v = p .before .before in
     let u = v .before .before in
     let e = u .before .before in
-    carried-out (unit e) (button e) (frame e) (passed e) _ (u .unit-in .ensures) _ (v .before .button-of .ensures) _ (v .press .ensures) _
-    (p .put-unit .ensures) _ _ (s .send .ensures) _ (c .word-of2 .ensures)
+    carried-out (unit e) (button e) (frame e) (passed e) _ (u .unit-in .ensures) _ (v .before .button-of .ensures) _
+    (v .press .ensures) _ (p .put-unit .ensures) _ _ (s .send .ensures) _ (c .word-of2 .ensures)
 
 pub quangevit-press-spec : {M : Type 1} → statement M
 quangevit-press-spec =

@@ -1,11 +1,10 @@
-use mathlib.Core.Path.{refl}
 use lib.ListN.{length, length-map}
 use denote.Ref.{now}
 use Rattle.journal.specs.Journal.{batchLength}
 -- `append` meets its contract. The loop's invariant: the bytes are those of the journal with the first k records of the
 -- batch in their places.
 -- Assumes nothing.
-use mathlib.Core.Path.{_≡_, sym, _∙_}
+use mathlib.Core.Path.{_≡_}
 use Prim.Native.Nat.{_-_}
 use native.Mathlib.Omega.{arith}
 use borrow.Author.Needs.{needs}
@@ -44,10 +43,14 @@ slice-aggregate-put : tie.Need-slice-aggregate-put Inv-loop μ-loop
 slice-aggregate-put c = search needs
 
 add-put : tie.Need-add-put Inv-loop μ-loop
-add-put c = let l = c .before .before .before .before .before in omega (arith, l .loop .inv .room (l .loop .k) (omega arith))
+add-put c =
+    let l = c .before .before .before .before .before in
+    omega (arith, l .loop .inv .room (l .loop .k) (omega arith))
 
 mul-put : tie.Need-mul-put Inv-loop μ-loop
-mul-put c = let l = c .before .before .before .before .before in omega (arith, l .loop .inv .room (l .loop .k) (omega arith))
+mul-put c =
+    let l = c .before .before .before .before .before in
+    omega (arith, l .loop .inv .room (l .loop .k) (omega arith))
 
 put-requires : tie.Need-put-requires Inv-loop μ-loop
 put-requires c κs = search needs

@@ -35,7 +35,8 @@ array-read-result c = search needs
 returns-2 : tie.Need-returns-2
 returns-2 c =
     let a = c .before .before .before in
-    route-there (a .args .t1) (search needs) (six a) (a .args .k) _ refl (omega arith) (omega arith) _ (c .route-bytes .ensures)
+    route-there (a .args .t1) (search needs) (six a) (a .args .k) _ refl (omega arith) (omega arith) _
+    (c .route-bytes .ensures)
 
 pub line-byte-spec : {M : Type 1} → statement M
 line-byte-spec =

@@ -1,10 +1,8 @@
--- `quangevit_answer` meets its contract: the bytes encode no state, or the records of the step, its state and its verdict
--- are written as bytes.
+-- `quangevit_answer` meets its contract: the bytes encode no state, or the records of the step, its state and its
+-- verdict are written as bytes.
 -- Assumes nothing.
 use mathlib.Core.Path.{_≡_, sym, _∙_}
 use mathlib.Core.Bool.{true}
-use mathlib.Core.List.{List}
-use Prim.Native.Nat.{ℕ}
 use denote.Ref.{now}
 use borrow.Author.Tests.{not-true, not-false}
 use Rattle.capi.specs.StateBytes.{encodesState}
@@ -73,7 +71,8 @@ returns-2 c =
     let e = s .before .before in
     let a = e .before .before .before .before .before .before .before .before .args in
     answered (now (a .state)) (now (a .table)) (now (a .journal)) (now (a .frame)) (now (a .out)) (encoded e) _
-    (s .state-in .ensures) _ _ (o .step .ensures) _ (l .append .ensures) _ (p .put-state .ensures) _ (c .verdict-word .ensures)
+    (s .state-in .ensures) _ _ (o .step .ensures) _ (l .append .ensures) _ (p .put-state .ensures) _
+    (c .verdict-word .ensures)
 
 pub quangevit-answer-spec : {M : Type 1} → statement M
 quangevit-answer-spec =

@@ -36,8 +36,8 @@ returns-2 c =
     let o = p .before .before .before .before .before in
     let e = o .before .before in
     let a = e .before .before .before .before .before .args in
-    opened (now (a .book)) (now (a .state)) (now (a .table)) (now (a .journal)) (e .if1 .left) _ _ (o .open-with .ensures) _
-    (p .put-state .ensures) _ (c .word-of2 .ensures)
+    opened (now (a .book)) (now (a .state)) (now (a .table)) (now (a .journal)) (e .if1 .left) _ _
+    (o .open-with .ensures) _ (p .put-state .ensures) _ (c .word-of2 .ensures)
 
 pub quangevit-open-spec : {M : Type 1} → statement M
 quangevit-open-spec =

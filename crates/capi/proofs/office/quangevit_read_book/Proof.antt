@@ -1,6 +1,5 @@
 -- `quangevit_read_book` meets its contract: there is no room for a line, or the line that is read is written.
 -- Assumes nothing.
-use denote.Ref.{now}
 use Rattle.capi.proofs.BoxSteps.{no-line, read}
 use borrow.Author.Needs.{needs}
 use Rattle.capi.proofs.office.quangevit_read_book.Statement.{statement}

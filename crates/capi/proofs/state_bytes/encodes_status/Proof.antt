@@ -1,6 +1,5 @@
 -- `encodes_status` meets its contract: by the tests that led to each `return`.
 -- Assumes nothing.
-use native.Mathlib.Omega.{arith}
 use Rattle.capi.proofs.Statuses.{no-status, asked-number, other-number}
 use Rattle.capi.proofs.state_bytes.encodes_status.Statement.{statement}
 use Rattle.capi.proofs.state_bytes.encodes_status.Tie as tie

@@ -13,7 +13,8 @@ use Rattle.capi.proofs.state_bytes.fleet_in.Statement.{statement}
 use Rattle.capi.proofs.state_bytes.fleet_in.Tie as tie
 
 abbrev Inv-loop : tie.InvT-loop
-Inv-loop bytes fleet₀ t₀ fleet t = (t ≤ 6) × (fleet ≡ padded 6 t (λ u. trainIn bytes (trainAt u)) (trainIn bytes restAt))
+Inv-loop bytes fleet₀ t₀ fleet t =
+    (t ≤ 6) × (fleet ≡ padded 6 t (λ u. trainIn bytes (trainAt u)) (trainIn bytes restAt))
 
 abbrev μ-loop : tie.MeasureT-loop
 μ-loop bytes fleet₀ t₀ fleet t = 6 - t

@@ -1,7 +1,7 @@
--- `put_state` meets its contract. The loop's invariant: the first k bytes are in their places; the measure is what is left
--- of them.
+-- `put_state` meets its contract. The loop's invariant: the first k bytes are in their places; the measure is what is
+-- left of them.
 -- Assumes nothing.
-use mathlib.Core.Path.{_≡_, sym, _∙_}
+use mathlib.Core.Path.{_≡_}
 use Prim.Native.Nat.{_-_}
 use native.Mathlib.Omega.{arith}
 use lib.ListN.{length, length-map}

@@ -21,7 +21,9 @@ unfolding stateBytes
 returns c = c .head-byte .ensures _
 
 returns-2 : tie.Need-returns-2
-returns-2 c = let a = c .before .before in logged-there (a .args .t1) (search needs) (six a) (a .args .k) (c .if2 .taken)
+returns-2 c =
+    let a = c .before .before in
+    logged-there (a .args .t1) (search needs) (six a) (a .args .k) (c .if2 .taken)
 
 mul-train-bytes : tie.Need-mul-train-bytes
 mul-train-bytes c = search needs
@@ -38,8 +40,8 @@ array-read-result c = search needs
 returns-3 : tie.Need-returns-3
 returns-3 c =
     let a = c .before .before .before .before in
-    train-there (a .args .t1) (search needs) (six a) (a .args .k) _ refl (omega arith) (omega arith) (c .before .before .if2 .left) _
-    (c .train-bytes .ensures)
+    train-there (a .args .t1) (search needs) (six a) (a .args .k) _ refl (omega arith) (omega arith)
+    (c .before .before .if2 .left) _ (c .train-bytes .ensures)
 
 pub state-byte-spec : {M : Type 1} → statement M
 state-byte-spec =

@@ -3,7 +3,6 @@
 use mathlib.Core.Path.{_≡_, _∙_}
 use Prim.Native.Nat.{_+_, _-_, _≤_}
 use native.Mathlib.Omega.{arith}
-use borrow.Author.Needs.{needs}
 use Rattle.common.specs.Tabulate.{padded}
 use Rattle.common.proofs.Tabulate.{padded-none, padded-more}
 use Rattle.line.specs.Book.{byteAt}

@@ -2,7 +2,6 @@ use Rattle.capi.proofs.Copying.{is-put}
 use Rattle.capi.specs.UnitBytes.{unitBytes}
 -- `put_unit` meets its contract: the five bytes are the whole buffer.
 -- Assumes nothing.
-use mathlib.Core.Path.{sym, _∙_}
 use borrow.Author.Needs.{needs}
 use Rattle.capi.proofs.unit_bytes.put_unit.Statement.{statement}
 use Rattle.capi.proofs.unit_bytes.put_unit.Tie as tie
@@ -21,7 +20,8 @@ same-length c = search needs
 
 returns : tie.Need-returns
 unfolding unitBytes
-returns c = is-put _ _ _ _ (search needs) (c .before .before .before .before .before .bytes-of .ensures) (c .before .before .put .ensures)
+returns c =
+    is-put _ _ _ _ (search needs) (c .before .before .before .before .before .bytes-of .ensures) (c .before .before .put .ensures)
 
 pub put-unit-spec : {M : Type 1} → statement M
 put-unit-spec =
