@@ -4,32 +4,27 @@
 use mathlib.Core.Path.{_≡_, refl, ap, _∙_}
 use mathlib.Core.Bool.{true}
 use mathlib.Core.List.{List}
-use Prim.Native.Nat.{ℕ, zero, suc, _+_, _*_, _≤_, _<_}
-use native.Mathlib.Nat.{add-zero}
+use Prim.Native.Nat.{ℕ, zero, suc, _+_, _≤_}
 use native.Mathlib.Omega.{arith}
-use lib.ListN.{length, getD, length-map, List·getD-append}
+use lib.ListN.{length, length-map}
 use borrow.Author.Tests.{eq-eqb}
 use Rattle.common.specs.Check.{unlessRefused}
-use Rattle.common.specs.Tabulate.{tabulate}
 use Rattle.common.proofs.Part.{length-replaced}
-use Rattle.common.proofs.Tabulate.{length-tabulate, length-padded, tabulate-cong}
+use Rattle.common.proofs.Tabulate.{length-tabulate, length-padded}
 use Rattle.frame.specs.Frame.{readFrame}
-use Rattle.line.specs.Book.{byteAt}
-use Rattle.journal.specs.Journal.{journalLength, blank}
+use Rattle.journal.specs.Journal.{journalLength}
 use Rattle.rules.specs.Answer.{Answer, answer, mostLogged}
 use Rattle.rules.specs.Opening.{Opening, openingWith}
 use Rattle.rules.proofs.Acceptance.{Taken, request, arrival, by-verdict, accepted-facts}
 use Rattle.capi.specs.Types.{Line, Message, Record, State, RefusedBy}
 use Rattle.capi.specs.Word.{wordOf}
-use Rattle.capi.specs.Each.{each}
 use Rattle.capi.specs.StateBytes.{stateLength, stateBytes, encodesState, stateIn}
-use Rattle.capi.specs.JournalBytes.{recordLength, recordBytes, recordIn, recordCount, recordsIn, withRecords}
+use Rattle.capi.specs.JournalBytes.{recordCount, recordsIn}
 use Rattle.capi.specs.BoxCalls.{openCall, answerCallOf, answerCall}
 use Rattle.capi.specs.RoundTrip.{Shaped}
 use Rattle.capi.specs.HandedOn.{ReadAs, LeftAs, ruled, HandedOn}
-use Rattle.capi.proofs.Each.{length-each, at-each}
-use Rattle.capi.proofs.Journals.{record-count, own-records, length-with}
-use Rattle.capi.proofs.RoundTrip.{elements, state-back, state-encoded, state-only}
+use Rattle.capi.proofs.Journals.{record-count, own-records}
+use Rattle.capi.proofs.RoundTrip.{state-back, state-encoded, state-only, records-back}
 
 -- ---- the state
 
@@ -81,31 +76,6 @@ module _ (s : State) (table : List ℕ) (journal : List Record) (frame out : Lis
       → a ≡ record { state = s; verdict = RefusedBy n; journal = journal; out = out })
       (λ m e h. rw h)
       (λ p h. let z : _≡_ {A = ℕ} 0 1 = cc in absurd (omega arith))
-
--- a record is what its four bytes are read as
-same-record : (b : List ℕ) (i : ℕ) (r : Record)
-    → ((j : ℕ) → j < recordLength → getD b (i + j) 0 ≡ getD (recordBytes r) j 0)
-    → recordIn b i ≡ r
-same-record b i r h =
-    let kind : byteAt b i ≡ r .kind = rw add-zero at (h 0 (omega arith)) in
-    rw (kind, h 1 (omega arith), h 2 (omega arith), h 3 (omega arith))
-
-module _ (b : List ℕ) (j : List Record) (size : length j ≡ recordCount (length b)) where
-  record-byte : (i k : ℕ) → i < length j → k < recordLength
-      → getD (withRecords b j) (recordLength * i + k) 0 ≡ getD (recordBytes (getD j i blank)) k 0
-  unfolding withRecords
-  record-byte i k h l =
-      List·getD-append (each recordBytes j) _ 0 (recordLength * i + k)
-      (omega (arith, length-each recordBytes recordLength (λ r. refl) j))
-      ∙ at-each recordBytes recordLength (λ r. refl) j i k blank h l
-
-  records-back : recordsIn (withRecords b j) ≡ j
-  records-back =
-      ap (λ (n : ℕ). tabulate (recordCount n) (λ i. recordIn (withRecords b j) (recordLength * i)))
-      (length-with b j size)
-      ∙ tabulate-cong (recordCount (length b)) _ (λ i. getD j i blank)
-      (λ i h. same-record (withRecords b j) (recordLength * i) (getD j i blank) (λ k l. record-byte i k (rw size h) l))
-      ∙ elements (recordCount (length b)) j blank size
 
 -- ---- the claims
 

@@ -8,7 +8,7 @@ use Prim.Native.Nat.{ℕ, zero, suc, _+_, _*_, _-_, _/_, _%_, _≤_, _<_}
 use native.Mathlib.Nat.{add-zero}
 use native.Mathlib.Omega.{arith}
 use lib.Dec.{leb}
-use lib.ListN.{length, getD}
+use lib.ListN.{length, getD, List·getD-append}
 use lib.Seq.{ext-getD}
 use borrow.Author.Tests.{eqb-true, leb-true}
 use Rattle.common.specs.Tabulate.{tabulate}
@@ -16,21 +16,24 @@ use Rattle.common.proofs.Tests.{by-equality, by-order, and-left}
 use Rattle.common.proofs.Below.{all-below, below-all}
 use Rattle.common.proofs.Tabulate.{length-tabulate, at-tabulate, tabulate-cong}
 use Rattle.line.specs.Book.{byteAt}
+use Rattle.journal.specs.Journal.{blank}
 use Rattle.unit.specs.State.{phaseNo}
 use Rattle.rules.specs.State.{askedAs, noTrain, trainOf}
 use Rattle.capi.specs.Types.{Phase, Standing, Asked, Declined, Granted, UnderWay, Arrived, Unit}
-use Rattle.capi.specs.Types.{Status, Free, AskedAs, Running, Train, State}
-use Rattle.capi.specs.Each.{restAt}
+use Rattle.capi.specs.Types.{Status, Free, AskedAs, Running, Train, State, Record}
+use Rattle.capi.specs.Each.{each, restAt}
 use Rattle.capi.specs.UnitBytes.{unitLength, unitBytes, encodesUnit, phaseOf, unitIn}
 use Rattle.capi.specs.StateBytes.{stateLength, statusNo, trainBytes, stateBytes, trainAt, loggedAt}
 use Rattle.capi.specs.StateBytes.{encodesStatus, encodesTrain, encodesState}
 use Rattle.capi.specs.StateBytes.{statusOf, trainIn, tracksIn, fleetIn, stateIn}
+use Rattle.capi.specs.JournalBytes.{recordLength, recordBytes, recordIn, recordCount, recordsIn, withRecords}
 use Rattle.capi.specs.RoundTrip.{Shaped, RoundTrip}
 use Rattle.capi.proofs.Units as units
 use Rattle.capi.proofs.Statuses.{encoded-length, encoded-trains, by-trains}
+use Rattle.capi.proofs.Each.{length-each, at-each}
 use Rattle.capi.proofs.Head.{at-posts, at-track, at-trains, posts-there, track-there, trains-there}
 use Rattle.capi.proofs.Fields.{state-length, at-train, at-logged, train-there, logged-there}
-use Rattle.capi.proofs.Journals.{own-records}
+use Rattle.capi.proofs.Journals.{own-records, length-with}
 
 -- ---- units
 
@@ -119,7 +122,7 @@ train-byte b i h (suc (suc (suc (suc (suc j))))) l = absurd (omega arith)
 -- ---- states
 
 -- the list of a list's elements
-pub elements : {A : Type 0} (n : ℕ) (l : List A) (d : A) → length l ≡ n → tabulate n (λ i. getD l i d) ≡ l
+elements : {A : Type 0} (n : ℕ) (l : List A) (d : A) → length l ≡ n → tabulate n (λ i. getD l i d) ≡ l
 elements n l d e =
     let size = length-tabulate n (λ (i : ℕ). getD l i d) in
     ext-getD d (tabulate n (λ i. getD l i d)) l (size ∙ sym e) (λ i h. at-tabulate n _ i d (rw size at h))
@@ -220,6 +223,33 @@ module _ (b : List ℕ) (h : encodesState b ≡ true) where
       let size = state-length read eight six in
       ext-getD 0 (stateBytes read) b (size ∙ sym (encoded-length b h)) (λ k l. state-byte k (rw size at l))
 
+-- ---- the journal
+
+-- a record is what its four bytes are read as
+same-record : (b : List ℕ) (i : ℕ) (r : Record)
+    → ((j : ℕ) → j < recordLength → getD b (i + j) 0 ≡ getD (recordBytes r) j 0)
+    → recordIn b i ≡ r
+same-record b i r h =
+    let kind : byteAt b i ≡ r .kind = rw add-zero at (h 0 (omega arith)) in
+    rw (kind, h 1 (omega arith), h 2 (omega arith), h 3 (omega arith))
+
+module _ (b : List ℕ) (j : List Record) (size : length j ≡ recordCount (length b)) where
+  record-byte : (i k : ℕ) → i < length j → k < recordLength
+      → getD (withRecords b j) (recordLength * i + k) 0 ≡ getD (recordBytes (getD j i blank)) k 0
+  unfolding withRecords
+  record-byte i k h l =
+      List·getD-append (each recordBytes j) _ 0 (recordLength * i + k)
+      (omega (arith, length-each recordBytes recordLength (λ r. refl) j))
+      ∙ at-each recordBytes recordLength (λ r. refl) j i k blank h l
+
+  pub records-back : recordsIn (withRecords b j) ≡ j
+  records-back =
+      ap (λ (n : ℕ). tabulate (recordCount n) (λ i. recordIn (withRecords b j) (recordLength * i)))
+      (length-with b j size)
+      ∙ tabulate-cong (recordCount (length b)) _ (λ i. getD j i blank)
+      (λ i h. same-record (withRecords b j) (recordLength * i) (getD j i blank) (λ k l. record-byte i k (rw size h) l))
+      ∙ elements (recordCount (length b)) j blank size
+
 pub round-trip : RoundTrip
 round-trip = record {
   unit-encoded = unit-encoded;
@@ -229,4 +259,5 @@ round-trip = record {
   state-back = state-back;
   state-only = state-only;
   journal-only = own-records;
+  journal-back = records-back;
 }

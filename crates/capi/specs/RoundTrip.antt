@@ -26,3 +26,6 @@ pub record RoundTrip : Type 0 where
   pub state-only : (b : List ℕ) → encodesState b ≡ true → stateBytes (stateIn b) ≡ b
   -- the records of a buffer, with the bytes past them, are the buffer
   pub journal-only : (b : List ℕ) → withRecords b (recordsIn b) ≡ b
+  -- and records that are as many read back from it
+  pub journal-back : (b : List ℕ) (j : List Record) → length j ≡ recordCount (length b)
+      → recordsIn (withRecords b j) ≡ j

@@ -21,5 +21,4 @@ pub use Rattle.rules.specs.declared.state.Train.{Train}
 pub use Rattle.rules.specs.declared.state.State.{State}
 pub use Rattle.rules.specs.declared.result.Verdict.{Verdict}
 pub use Rattle.rules.specs.declared.result.Verdict.the-variants.{Sent, Refused as RefusedBy}
-pub use Rattle.rules.specs.declared.result.Reply.{Reply}
 pub use Rattle.rules.specs.declared.result.Opened.{Opened}
