@@ -30,7 +30,8 @@ module _ (book line : List ℕ) where
   no-line h w p = rw (p, ne-eqb (length line) lineLength h)
 
   pub read : length line ≡ lineLength → (r : Reading) → r ≡ readBook book
-      → (after : List ℕ) → after ≡ lineBytes (r .line) → (n : ℕ) → n ≡ outcomeNumber (r .outcome) → (w : ℕ) → w ≡ wordOf n 0 → bookCall w after ≡ readBookCall book line
+      → (after : List ℕ) → after ≡ lineBytes (r .line)
+      → (n : ℕ) → n ≡ outcomeNumber (r .outcome) → (w : ℕ) → w ≡ wordOf n 0 → bookCall w after ≡ readBookCall book line
   unfolding readBookCall
   read h r p after q n e w s = rw (s, q, e, p, eq-eqb (length line) lineLength h)
 

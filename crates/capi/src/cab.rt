@@ -41,7 +41,8 @@ pub extern "C" fn quangevit_make_unit(train: u8, start: u8, end: u8, unit: &mut 
 // Presses a button. The frame that a press gives is at the beginning of `frame`.
 #[no_mangle]
 pub extern "C" fn quangevit_press(unit: &mut [u8], button: u8, frame: &mut [u8]) -> u32
-    ensures { λ r. ⌜ pressed r (now (unit .exit)) (now (frame .exit)) ≡ pressCall (now (unit .entry)) button (now (frame .entry)) ⌝ }
+    ensures { λ r. ⌜ pressed r (now (unit .exit)) (now (frame .exit))
+        ≡ pressCall (now (unit .entry)) button (now (frame .entry)) ⌝ }
 {
     let number = press_refusal(unit, button, frame.len());
     if number != 0 {

@@ -10,7 +10,8 @@ pub const RECORD_LENGTH: usize = 4;
 
 // Writes the records of the batch from record `at` on, and nothing where they do not all fit.
 pub fn append(bytes: &mut [u8], at: usize, batch: Batch)
-    ensures { λ _. ⌜ now (bytes .exit) ≡ withRecords (now (bytes .entry)) (appended (recordsIn (now (bytes .entry))) at batch) ⌝ }
+    ensures { λ _. ⌜ now (bytes .exit)
+        ≡ withRecords (now (bytes .entry)) (appended (recordsIn (now (bytes .entry))) at batch) ⌝ }
 {
     let n = journal::fitting(bytes.len() / RECORD_LENGTH, at, batch.n);
     let items = batch.items;

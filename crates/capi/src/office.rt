@@ -49,7 +49,8 @@ pub extern "C" fn quangevit_open(
     table: &mut [u8],
     journal: &[u8],
 ) -> u32
-    ensures { λ r. ⌜ openCallOf r (now (state .exit)) (now (table .exit)) ≡ openCall (now (book .entry)) (now (state .entry)) (now (table .entry)) (now (journal .entry)) ⌝ }
+    ensures { λ r. ⌜ openCallOf r (now (state .exit)) (now (table .exit))
+        ≡ openCall (now (book .entry)) (now (state .entry)) (now (table .entry)) (now (journal .entry)) ⌝ }
 {
     if state.len() != STATE_LENGTH {
         return word_of(STRANGE_STATE, 0);
@@ -69,7 +70,9 @@ pub extern "C" fn quangevit_answer(
     frame: &[u8],
     out: &mut [u8],
 ) -> u32
-    ensures { λ r. ⌜ answerCallOf r (now (state .exit)) (now (journal .exit)) (now (out .exit)) ≡ answerCall (now (state .entry)) (now (table .entry)) (now (journal .entry)) (now (frame .entry)) (now (out .entry)) ⌝ }
+    ensures { λ r. ⌜ answerCallOf r (now (state .exit)) (now (journal .exit)) (now (out .exit))
+        ≡ answerCall (now (state .entry)) (now (table .entry)) (now (journal .entry))
+        (now (frame .entry)) (now (out .entry)) ⌝ }
 {
     if !encodes_state(state) {
         return word_of(STRANGE_STATE, 0);

@@ -21,7 +21,8 @@ same-length c = search needs
 returns : tie.Need-returns
 unfolding unitBytes
 returns c =
-    is-put _ _ _ _ (search needs) (c .before .before .before .before .before .bytes-of .ensures) (c .before .before .put .ensures)
+    is-put _ _ _ _ (search needs) (c .before .before .before .before .before .bytes-of .ensures)
+    (c .before .before .put .ensures)
 
 pub put-unit-spec : {M : Type 1} → statement M
 put-unit-spec =
