@@ -20,7 +20,7 @@ use Rattle.rules.specs.Opening.{opening}
 use Rattle.rules.proofs.Validity.{Valid, is-valid}
 use Rattle.rules.proofs.Acceptance.{by-verdict, accepted-facts}
 use Rattle.assurance.specs.Types.{Record, State, Verdict, RefusedBy}
-use Rattle.assurance.specs.Run.{Input, Exchange, exchange, run}
+use Rattle.assurance.specs.Run.{Input, Exchange, run}
 use Rattle.assurance.specs.Homecoming.{NeverRefused}
 use Rattle.assurance.proofs.Records.{recordsIn, few-records, accepted-bounded}
 use Rattle.assurance.proofs.Opened.{opening-accepted, opened-line, opened-settled}
@@ -51,7 +51,8 @@ module _ (table : List ℕ) where
 
     not-strange : answer s table j frame out .verdict ≢ RefusedBy strangeState
     not-strange =
-        not-by strangeState (not-given strangeState checks (omega arith) (and-both _ _ (is-valid s (k .valid-state)) refl))
+        not-by strangeState (not-given strangeState checks (omega arith)
+        (and-both _ _ (is-valid s (k .valid-state)) refl))
 
     not-full : answer s table j frame out .verdict ≢ RefusedBy journalFull
     not-full = not-by journalFull (not-given journalFull checks (omega arith)

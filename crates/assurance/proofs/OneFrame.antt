@@ -6,27 +6,50 @@ use mathlib.Core.Option.{Option, none, some}
 use mathlib.Core.List.{List, [], _∷_, append-assoc}
 use Prim.Native.Nat.{ℕ, zero, suc, _+_, _≤_}
 use native.Mathlib.Omega.{arith}
+use lib.ListN.{length, length-drop}
 use Rattle.common.proofs.Tests.{by-equality}
 use Rattle.frame.specs.Frame.{readFrame}
 use Rattle.rules.specs.declared.state.Status.the-variants.{Running}
-use Rattle.rules.specs.State.{trainOf, nextMove, withStatus}
+use Rattle.completion.specs.Configuration.{moved}
+use Rattle.completion.specs.Table.{filled}
+use Rattle.completion.proofs.Rule.{bit-completable, completable-bit}
+use Rattle.rules.specs.State.{trainOf, lineOf, reached, nextMove, withStatus}
 use Rattle.rules.specs.Valid.{valid}
 use Rattle.rules.specs.Granting.{oldest, Work, granted, proceed, grants}
-use Rattle.rules.specs.Answer.{answer}
+use Rattle.rules.specs.Answer.{accepted, sent, refused, answer}
 use Rattle.rules.proofs.Validity.{Distinct, valid-facts, is-valid}
-use Rattle.rules.proofs.Changes.{distinct-change}
+use Rattle.rules.proofs.Changes.{distinct-change, grantable-facts, is-grantable}
+use Rattle.rules.proofs.Reached.{moved-within, moved-code}
 use Rattle.rules.proofs.Oldest.{Oldest, oldest-none, oldest-some, earlier}
-use Rattle.rules.proofs.Grants.{askedCount, Turn, granted-fewer, granted-place, none-asked, few-asked}
-use Rattle.rules.proofs.Grants.{settled-next}
+use Rattle.rules.proofs.Grants.{askedCount, Turn, granted-fewer, granted-place, none-asked, few-asked, settled-next}
 use Rattle.rules.proofs.Settling.{settled-settles}
 use Rattle.rules.proofs.Acceptance.{by-verdict, accepted-facts}
-use Rattle.assurance.specs.Types.{Fe, Record, State, Sent}
-use Rattle.assurance.specs.OneFrame.{ValidKept, NoneLeft, First, Granting, done, next, ExactGrant, OldestFirst}
+use Rattle.assurance.specs.Types.{Fe, Record, State, Sent, RefusedBy}
+use Rattle.assurance.specs.OneFrame.{ValidKept, RefusalsChangeNothing, AtMostSix, BitInTable, NoneLeft, First}
+use Rattle.assurance.specs.OneFrame.{Granting, done, next, ExactGrant, OldestFirst, RightGrant}
 
 pub valid-kept : ValidKept
 valid-kept s table journal frame out e =
     by-verdict s table journal frame out (λ a. valid (a .state) ≡ true) (λ n q. e)
     (λ p. is-valid _ (accepted-facts table s (p .valid-state) (readFrame frame) (p .message) .valid-state))
+
+pub refusals-change-nothing : RefusalsChangeNothing
+refusals-change-nothing s table journal frame out n =
+    by-verdict s table journal frame out (λ a. a .verdict ≡ RefusedBy n → a ≡ refused s journal out n)
+    (λ k q e. let same : k ≡ n = cc in ap (refused s journal out) same)
+    (λ p e. absurd (let z : _≡_ {A = ℕ} 0 1 = cc in omega arith))
+
+pub at-most-six : AtMostSix
+at-most-six s table journal frame out n =
+    by-verdict s table journal frame out (λ a. a .verdict ≡ Sent n → n ≤ 6)
+    (λ k q e. absurd (let z : _≡_ {A = ℕ} 0 1 = cc in omega arith))
+    (λ p e.
+    let a = accepted-facts table s (p .valid-state) (readFrame frame) (p .message) in
+    let same : length (sent (accepted table s (readFrame frame))) ≡ n = cc in
+    omega (arith, a .few, length-drop 1 (accepted table s (readFrame frame) .logged)))
+
+pub bit-in-table : BitInTable
+bit-in-table s t e k asks = moved-code s (valid-facts s e) t k asks
 
 none-left : (s : State) (table : List ℕ) (journal : List Record) (frame out : List ℕ) (n : ℕ)
     → answer s table journal frame out .verdict ≡ Sent n → NoneLeft table (answer s table journal frame out .state)
@@ -85,3 +108,28 @@ oldest-first table w t e f =
       ap (λ (v : Work). v .logged) (sym (settled-next table w t d (first-turn table (w .state) t f))) ∙ rest .added ∙
           append-assoc (w .logged) (Fe (nextMove (w .state) t) ∷ []) (rest .answers),
     )
+
+-- ---- the grant, with the table of the line
+
+pub right-grant : RightGrant
+right-grant = record {
+  only = λ s table t e k g.
+      let d = valid-facts s e in
+      let f = grantable-facts (filled (lineOf s) table) s t g in
+      record {
+        asks = f .asks;
+        section = f .section;
+        post = f .post;
+        completable = bit-completable (lineOf s) (d .line) table (moved (reached s) t)
+            (moved-within s d t k (f .asks)) (f .bit);
+      };
+  then = λ s table t e k m.
+      let d = valid-facts s e in
+      is-grantable (filled (lineOf s) table) s t (record {
+        asks = m .asks;
+        section = m .section;
+        post = m .post;
+        bit = completable-bit (lineOf s) (d .line) table (moved (reached s) t) (moved-within s d t k (m .asks))
+            (m .completable);
+      });
+}

@@ -23,8 +23,7 @@ use Rattle.rules.specs.State.{nextMove, withStatus, arrivedNext, withTrain, one
 use Rattle.rules.specs.Granting.{grantable}
 use Rattle.rules.proofs.Trains.{asked-idle, running-is, in-fleet, changed}
 use Rattle.rules.proofs.Validity.{Valid}
-use Rattle.rules.proofs.Changes.{grantable-facts, short-place, valid-logged, valid-request, valid-arrival}
-use Rattle.rules.proofs.Changes.{valid-grant}
+use Rattle.rules.proofs.Changes.{grantable-facts, short-place, valid-logged, valid-request, valid-arrival, valid-grant}
 use Rattle.rules.proofs.Acceptance.{NextMove}
 use Rattle.rules.proofs.Reached.{moved-within}
 use Rattle.assurance.specs.Types.{Move, Message, Fa, Fe, Afe, Am, Record, State}
@@ -95,7 +94,8 @@ module _ (table : List ℕ) (s : State) (j : List Record) (o : Observer) (inv : 
 
     pub request-kept : isRunning (trainOf s (m .train .0) .status) ≡ false
         → let x = withStatus (trainOf s (m .train .0)) (Asked (s .logged)) in
-        Invariant table (oneLogged (withTrain s (m .train .0) x)) (set j (s .logged) (recordOf (Fa m))) (hearFrame o (Fa m))
+        Invariant table (oneLogged (withTrain s (m .train .0) x)) (set j (s .logged) (recordOf (Fa m)))
+        (hearFrame o (Fa m))
     unfolding recordOf
     request-kept idle =
         let t = m .train .0 in
@@ -112,7 +112,8 @@ module _ (table : List ℕ) (s : State) (j : List Record) (o : Observer) (inv : 
 
     pub arrival-kept : isRunning (trainOf s (m .train .0) .status) ≡ true
         → let x = arrivedNext (trainOf s (m .train .0)) in
-        Invariant table (oneLogged (withTrain s (m .train .0) x)) (set j (s .logged) (recordOf (Am m))) (hearFrame o (Am m))
+        Invariant table (oneLogged (withTrain s (m .train .0) x)) (set j (s .logged) (recordOf (Am m)))
+        (hearFrame o (Am m))
     unfolding recordOf
     arrival-kept runs =
         let t = m .train .0 in

@@ -9,7 +9,7 @@ use Rattle.common.specs.Update.{update}
 use Rattle.line.specs.Line.{routeOf}
 use Rattle.line.specs.Holding.{Whereabouts, at, moving}
 use Rattle.frame.specs.Frame.{readFrame}
-use Rattle.assurance.specs.Types.{Line, Move, Message, Fa, Fe, Afe, Am, Refused, Verdict, Sent, RefusedBy}
+use Rattle.assurance.specs.Types.{Line, Message, Fa, Fe, Afe, Am, Refused, Verdict, Sent, RefusedBy}
 use Rattle.assurance.specs.Run.{Exchange}
 
 -- "For each train it has a post and one of these: nothing, asked, or an authority for one move."
@@ -46,9 +46,11 @@ hearFrame o (Fe m) = o
 hearFrame o (Afe m) = o
 hearFrame o (Refused n) = o
 
--- an answer: "Then each FE among the answers, in order of writing, gives its train the authority for the move it names."
+-- an answer: "Then each FE among the answers, in order of writing, gives its train the authority for the move it
+-- names."
 abbrev pub hearAnswer : Observer → Message → Observer
-hearAnswer o (Fe m) = update o (m .train .0) (record { post = o (m .train .0) .post; claim = authority (m .from .0) (m .to .0) })
+hearAnswer o (Fe m) = update o (m .train .0)
+    (record { post = o (m .train .0) .post; claim = authority (m .from .0) (m .to .0) })
 hearAnswer o (Fa m) = o
 hearAnswer o (Afe m) = o
 hearAnswer o (Am m) = o

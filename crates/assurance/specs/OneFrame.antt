@@ -5,16 +5,37 @@ use mathlib.Core.Logic.{_≢_}
 use mathlib.Core.Bool.{true, false}
 use mathlib.Core.List.{List, _∷_, _++_}
 use Prim.Native.Nat.{ℕ, _≤_, _<_}
-use Rattle.rules.specs.State.{askedAs, trainOf, nextMove}
+use Rattle.line.specs.Route.{sectionOf}
+use Rattle.line.specs.Line.{tracksAt}
+use Rattle.line.specs.Holding.{postHolders, sectionHolders}
+use Rattle.completion.specs.Configuration.{Completable, moved, codeBelow}
+use Rattle.completion.specs.Table.{codeCount, filled}
+use Rattle.rules.specs.State.{isAsked, askedAs, nextOf, trainOf, lineOf, located, reached, nextMove}
 use Rattle.rules.specs.Valid.{valid}
 use Rattle.rules.specs.Granting.{grantable, Work, granted, settled}
 use Rattle.rules.specs.Answer.{answer}
-use Rattle.assurance.specs.Types.{Message, Fe, Record, State, Sent}
+use Rattle.assurance.specs.Types.{Message, Fe, Record, State, Sent, RefusedBy}
 
 -- a valid state stays valid
 abbrev pub ValidKept : Type 0
 ValidKept = (s : State) (table : List ℕ) (journal : List Record) (frame out : List ℕ)
     → valid s ≡ true → valid (answer s table journal frame out .state) ≡ true
+
+-- "A refusal returns its number and the state unchanged, and changes no buffer."
+abbrev pub RefusalsChangeNothing : Type 0
+RefusalsChangeNothing = (s : State) (table : List ℕ) (journal : List Record) (frame out : List ℕ) (n : ℕ)
+    → answer s table journal frame out .verdict ≡ RefusedBy n
+    → answer s table journal frame out ≡ record { state = s; verdict = RefusedBy n; journal = journal; out = out }
+
+-- "At most 6 frames go out"
+abbrev pub AtMostSix : Type 0
+AtMostSix = (s : State) (table : List ℕ) (journal : List Record) (frame out : List ℕ) (n : ℕ)
+    → answer s table journal frame out .verdict ≡ Sent n → n ≤ 6
+
+-- the placing that a grant asks for has its bit in the table
+abbrev pub BitInTable : Type 0
+BitInTable = (s : State) (t : ℕ) → valid s ≡ true → t < s .trains → isAsked (trainOf s t .status) ≡ true
+    → codeBelow (s .trains) (moved (reached s) t) < codeCount
 
 -- none can be granted
 abbrev pub NoneLeft : List ℕ → State → Type 0
@@ -47,3 +68,18 @@ pub record ExactGrant : Type 0 where
 abbrev pub OldestFirst : Type 0
 OldestFirst = (table : List ℕ) (w : Work) (t : ℕ) → valid (w .state) ≡ true → First table (w .state) t
     → (others : List Message) × (settled table w .logged ≡ w .logged ++ Fe (nextMove (w .state) t) ∷ others)
+
+-- what demand 2 asks for an authority: the train asked, "the section is free, the next post has a free track, and all
+-- trains could still reach their ends"
+pub record MayGo (s : State) (t : ℕ) : Type 0 where
+  pub asks : isAsked (trainOf s t .status) ≡ true
+  pub section : sectionHolders (s .trains) (located s) (sectionOf (trainOf s t .at .0) (nextOf (trainOf s t))) ≡ 0
+  pub post : postHolders (s .trains) (located s) (nextOf (trainOf s t)) < tracksAt (lineOf s) (nextOf (trainOf s t))
+  pub completable : Completable (lineOf s) (moved (reached s) t)
+
+-- with the table of the line, as every run from an opening has it, a train can be granted exactly then
+pub record RightGrant : Type 0 where
+  pub only : (s : State) (table : List ℕ) (t : ℕ) → valid s ≡ true → t < s .trains
+      → grantable (filled (lineOf s) table) s t ≡ true → MayGo s t
+  pub then : (s : State) (table : List ℕ) (t : ℕ) → valid s ≡ true → t < s .trains
+      → MayGo s t → grantable (filled (lineOf s) table) s t ≡ true

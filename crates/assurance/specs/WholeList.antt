@@ -8,7 +8,7 @@ use mathlib.Core.List.{List, List·Memᴰ}
 use Prim.Native.Nat.{ℕ, _+_, _≤_, _<_}
 use lib.Dec.{eqb}
 use Rattle.common.specs.Below.{ofBool, countBelow}
-use Rattle.line.specs.Route.{distance}
+use Rattle.line.specs.Route.{nextPost, distance}
 use Rattle.line.specs.Line.{routeOf, tracksAt}
 use Rattle.line.specs.Holding.{holdsSection, postHolders}
 use Rattle.line.specs.Book.{lineOf}
@@ -18,7 +18,8 @@ use Rattle.rules.specs.Valid.{valid}
 use Rattle.rules.specs.Opening.{opening}
 use Rattle.assurance.specs.Types.{Line, Move, Fa, Fe, Record}
 use Rattle.assurance.specs.Run.{Input, Exchange, Ran, run}
-use Rattle.assurance.specs.Observer.{Observer, atOpening, answersOf, observe, located, hasAuthority, hasAsked}
+use Rattle.assurance.specs.Observer.{authority, Observer, atOpening, answersOf, observe, located}
+use Rattle.assurance.specs.Observer.{hasAuthority, hasAsked}
 
 -- "An authority written, that is an FE, has its logged request if, below the journal count, the journal has that FE
 -- and, at a lower number, an FA of the same train, from and to."
@@ -50,11 +51,16 @@ pub record Unhindered (l : Line) (o : Observer) : Type 0 where
 
 pub record Assured (l : Line) (r : Ran) (o : Observer) : Type 0 where
   -- "no section has two holders"
-  pub sections : (i t u : ℕ) → t < l .trains → u < l .trains → holdsSection (located o t) i ≡ true → holdsSection (located o u) i ≡ true → t ≡ u
+  pub sections : (i t u : ℕ) → t < l .trains → u < l .trains → holdsSection (located o t) i ≡ true
+      → holdsSection (located o u) i ≡ true → t ≡ u
   -- "no post is held by more trains than it has tracks"
   pub posts : (p : ℕ) → p < l .posts → postHolders (l .trains) (located o) p ≤ tracksAt l p
+  -- an authority is for the move from the train's post to its next one, so that the section between them is one
+  pub moves : (t p q : ℕ) → t < l .trains → o t .claim ≡ authority p q
+      → (p ≡ o t .post) × (q ≡ nextPost p (routeOf l t .end .0))
   -- "Every authority written has its logged request."
-  pub requests : (e : Exchange) → List·Memᴰ e (r .exchanges) → (m : Move) → List·Memᴰ (Fe m) (answersOf (e .verdict) (e .out)) → Requested r m
+  pub requests : (e : Exchange) → List·Memᴰ e (r .exchanges) → (m : Move)
+      → List·Memᴰ (Fe m) (answersOf (e .verdict) (e .out)) → Requested r m
   -- "While any train is short of its end, at least one such train has an authority or has not asked for its next
   -- section."
   pub onward : (t : ℕ) → t < l .trains → ShortOfEnd l o t → Unhindered l o

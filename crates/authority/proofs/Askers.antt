@@ -1,5 +1,5 @@
--- The Asked trains in the order of their requests: what the search for the next one finds, train by train, and what it means to have tried all
--- whose numbers are below a bound.
+-- The Asked trains in the order of their requests: what the search for the next one finds, train by train, and what it
+-- means to have tried all whose numbers are below a bound.
 -- Assumes nothing.
 use mathlib.Core.Path.{_≡_, refl, sym, ap, _∙_}
 use mathlib.Core.Bool.{true, false, false≢true}
@@ -50,9 +50,11 @@ next-none s from = nobody (λ u k. absurd (not-suc-le-zero k))
 
 module _ (s : State) (from i : ℕ) where
   -- train i is not among those looked for
-  skip : (best : Asker) → ((m : ℕ) → trainOf s i .status ≡ Asked m → m < from) → NextAsked s from i best → NextAsked s from (suc i) best
+  skip : (best : Asker) → ((m : ℕ) → trainOf s i .status ≡ Asked m → m < from) → NextAsked s from i best
+      → NextAsked s from (suc i) best
   skip best h (nobody f) = nobody (below-suc i f h)
-  skip best h (next t n k e low f) = next t n (omega arith) e low (below-suc i f (λ m q z. absurd (let y = h m q in omega arith)))
+  skip best h (next t n k e low f) =
+      next t n (omega arith) e low (below-suc i f (λ m q z. absurd (let y = h m q in omega arith)))
 
   -- it is
   take : (n : ℕ) → trainOf s i .status ≡ Asked n → from ≤ n → (best : Asker) → NextAsked s from i best
@@ -64,7 +66,8 @@ module _ (s : State) (from i : ℕ) where
       (below-suc i (λ u l m q z. omega (arith, ltb-true n k p, f u l m q z)) (λ m q z. omega (arith, same-asked e q)))))
       (λ p. rw p (next t k (omega arith) a h (below-suc i f (λ m q z. omega (arith, ltb-false n k p, same-asked e q)))))
 
-  pub next-more : (best : Asker) (w : Status) → trainOf s i .status ≡ w → NextAsked s from i best → NextAsked s from (suc i) (elder best (record { 0 = i }) w from)
+  pub next-more : (best : Asker) (w : Status) → trainOf s i .status ≡ w → NextAsked s from i best
+      → NextAsked s from (suc i) (elder best (record { 0 = i }) w from)
   next-more best Free e a = skip best (λ m q. absurd (false≢true (ap isAsked (sym e ∙ q)))) a
   next-more best (Asked n) e a = by-cases (ltb n from)
       (λ p. rw p (skip best (λ m q. omega (arith, ltb-true n from p, same-asked e q)) a))
@@ -98,7 +101,8 @@ asked-number Running e = absurd (false≢true e)
 
 -- nobody whose request has a number below `from` can be granted
 pub record Tried (table : List ℕ) (s : State) (from : ℕ) : Type 0 where
-  pub barred : (u : ℕ) → u < s .trains → (m : ℕ) → trainOf s u .status ≡ Asked m → m < from → grantable table s u ≡ false
+  pub barred : (u : ℕ) → u < s .trains → (m : ℕ) → trainOf s u .status ≡ Asked m → m < from
+      → grantable table s u ≡ false
 
 pub tried-none : (table : List ℕ) (s : State) → Tried table s 0
 tried-none table s = record { barred = λ u k m e l. absurd (not-suc-le-zero l) }
@@ -110,7 +114,8 @@ module _ (table : List ℕ) (s : State) (from : ℕ) (tried : Tried table s from
 
   pub tried-all : NextAsked s from (s .trains) Nobody → NobodyLeft table s (s .trains)
   tried-all (nobody f) = record {
-    barred = λ u k. not-passed (grantable table s u) (λ g. clash (grantable table s u) g (tried .barred u k _ (numbered u g) (f u k _ (numbered u g))));
+    barred = λ u k. not-passed (grantable table s u)
+        (λ g. clash (grantable table s u) g (tried .barred u k _ (numbered u g) (f u k _ (numbered u g))));
   }
 
   module _ (t : TrainNo) (k : ℕ) (n : Next s from t k) where
@@ -130,6 +135,7 @@ module _ (table : List ℕ) (s : State) (from : ℕ) (tried : Tried table s from
           (λ z.
           let asked : isAsked (trainOf s u .status) ≡ true = rw e in
           let own : isAsked (trainOf s (t .0) .status) ≡ true = rw (n .asks) in
-          let same : askedAs (trainOf s u .status) ≡ askedAs (trainOf s (t .0) .status) = rw (e, n .asks) (omega (arith, n .least u l m e z)) in
+          let same : askedAs (trainOf s u .status) ≡ askedAs (trainOf s (t .0) .status) =
+          rw (e, n .asks) (omega (arith, n .least u l m e z)) in
           rw (valid-facts s v .distinct u (t .0) l (n .known) asked own same) b);
     }

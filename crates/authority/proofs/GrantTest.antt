@@ -1,4 +1,5 @@
--- The test of a grant in the order in which the code makes it, and the configuration whose bit it reads, train by train.
+-- The test of a grant in the order in which the code makes it, and the configuration whose bit it reads, train by
+-- train.
 -- Assumes nothing.
 use mathlib.Core.Path.{_≡_, ap, _∙_}
 use mathlib.Core.Logic.{_≢_}
@@ -46,7 +47,8 @@ module _ (s : State) (t u p : ℕ) (e : p ≡ reached s u) where
   travelled-other h = rw (update-other (reached s) t (reached s t + 1) u h) e
 
 -- the digits of n trains, at most six, have their code
-pub padded-code : (n : ℕ) (c : Configuration) (digits : List ℕ) → n ≤ 6 → digits ≡ padded 6 n c 0 → codeBelow n (λ u. getD digits u 0) ≡ codeBelow n c
+pub padded-code : (n : ℕ) (c : Configuration) (digits : List ℕ) → n ≤ 6 → digits ≡ padded 6 n c 0
+    → codeBelow n (λ u. getD digits u 0) ≡ codeBelow n c
 padded-code n c digits few e = code-cong n (λ u. getD digits u 0) c (λ u k.
     ap (λ (l : List ℕ). getD l u 0) e ∙ at-padded 6 n c 0 u (omega arith) k)
 
@@ -57,7 +59,8 @@ module _ (table : List ℕ) (s : State) (t : ℕ) where
   unfolding grantable
   not-asked e = rw e
 
-  module _ (asks : isAsked (trainOf s t .status) ≡ true) (m : Move) (next : m ≡ nextMove s t) (i : ℕ) (section : i ≡ sectionOf (m .from .0) (m .to .0)) where
+  module _ (asks : isAsked (trainOf s t .status) ≡ true) (m : Move) (next : m ≡ nextMove s t) (i : ℕ)
+      (section : i ≡ sectionOf (m .from .0) (m .to .0)) where
     own : i ≡ sectionOf (nextMove s t .from .0) (nextMove s t .to .0)
     own = section ∙ ap (λ (n : Move). sectionOf (n .from .0) (n .to .0)) next
 
@@ -66,7 +69,8 @@ module _ (table : List ℕ) (s : State) (t : ℕ) where
     section-held e = rw (asks, ← own, e)
 
     module _ (free : eqb (sectionHolders (s .trains) (located s) i) 0 ≡ true) where
-      pub post-full : ltb (postHolders (s .trains) (located s) (m .to .0)) (getD (s .tracks) (m .to .0) 0) ≡ false → false ≡ grantable table s t
+      pub post-full : ltb (postHolders (s .trains) (located s) (m .to .0)) (getD (s .tracks) (m .to .0) 0) ≡ false
+          → false ≡ grantable table s t
       unfolding grantable
       post-full e = rw (asks, ← own, free, rw next at e)
 

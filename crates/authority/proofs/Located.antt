@@ -9,7 +9,8 @@ use Rattle.authority.specs.Types.{TrainNo, PostNo, Move, Free, Running, 
 use Rattle.rules.specs.State.{nextOf, locatedAt, trainOf, nextMove, arrivedNext}
 
 module _ (x : Train) where
-  pub running-section : (i n q : ℕ) → x .status ≡ Running → q ≡ nextOf x → n ≡ sectionOf (x .at .0) q → eqb n i ≡ holdsSection (locatedAt x) i
+  pub running-section : (i n q : ℕ) → x .status ≡ Running → q ≡ nextOf x → n ≡ sectionOf (x .at .0) q
+      → eqb n i ≡ holdsSection (locatedAt x) i
   running-section i n q e f g = rw (e, g, f)
 
   pub arrived-at : (q : PostNo) → q .0 ≡ nextOf x → record { route = x .route; at = q; status = Free } ≡ arrivedNext x

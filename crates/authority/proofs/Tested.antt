@@ -1,4 +1,5 @@
--- The tests of `specs/Valid.antt` one by one, in the order in which the code makes them: the first that fails decides, and else the last.
+-- The tests of `specs/Valid.antt` one by one, in the order in which the code makes them: the first that fails decides,
+-- and else the last.
 -- Assumes nothing.
 use mathlib.Core.Path.{_≡_, _∙_}
 use mathlib.Core.Bool.{Bool, true, false, not}
@@ -37,7 +38,8 @@ module _ (s : State) (t : ℕ) (w : Status) (e : w ≡ trainOf s t .status) wher
   pub number-late : numberBelow w (s .logged) ≡ false → false ≡ numberValid s t
   number-late f = rw (← e, f)
 
-  pub number-decides : numberBelow w (s .logged) ≡ true → (b : Bool) → b ≡ allBelow t (λ u. not (sameNumber w (trainOf s u .status))) → b ≡ numberValid s t
+  pub number-decides : numberBelow w (s .logged) ≡ true → (b : Bool)
+      → b ≡ allBelow t (λ u. not (sameNumber w (trainOf s u .status))) → b ≡ numberValid s t
   number-decides f b g = g ∙ rw (← e, f)
 
 -- ---- h holders of t tracks, found to be n and k

@@ -7,19 +7,20 @@ use Prim.Native.Nat.{ℕ, _+_, _≤_, _<_}
 use native.Mathlib.Omega.{arith}
 use Rattle.common.proofs.Below.{count-le}
 use Rattle.journal.specs.Journal.{journalLength, recordOf, emptyBatch, withRecord}
-use Rattle.authority.specs.Types.{Message, Fe, Running, Batch, State, Progress}
-use Rattle.rules.specs.State.{isAsked, trainOf, nextMove, withStatus, withTrain, oneLogged}
+use Rattle.authority.specs.Types.{Message, Batch, State, Progress}
+use Rattle.rules.specs.State.{isAsked, trainOf, oneLogged}
 use Rattle.rules.specs.Valid.{valid}
 use Rattle.rules.specs.Granting.{Work, log, granted, settled}
 use Rattle.rules.specs.Answer.{mostLogged}
-use Rattle.authority.specs.Progress.{addRecords, batchOf, progressOf, progressWith}
+use Rattle.authority.specs.Progress.{addRecords, batchOf, progressOf, progressWith, progressTo}
 use Rattle.rules.proofs.Validity.{valid-facts, is-valid}
 use Rattle.rules.proofs.Oldest.{Nobody, Oldest}
 use Rattle.rules.proofs.Grants.{askedCount, granted-fewer, settled-stop, settled-next}
 use Rattle.rules.proofs.Settling.{Roomy, roomy-next}
 
 -- a message more
-records-more : (b : Batch) (l : List Message) (a : Message) → withRecord (addRecords b l) (recordOf a) ≡ addRecords b (l ++ a ∷ [])
+records-more : (b : Batch) (l : List Message) (a : Message) → withRecord (addRecords b l) (recordOf a) ≡ addRecords b
+    (l ++ a ∷ [])
 unfolding addRecords
 records-more b [] a = refl
 records-more b (c ∷ l) a = records-more (withRecord b (recordOf c)) l a
@@ -36,7 +37,8 @@ pub record Working (table : List ℕ) (w : Work) (p : Progress) : Type 0 where
   pub ends : settled table work ≡ settled table w
 
 -- a frame is logged, and its own change made, which leaves a valid state with room for the answers
-pub begun-roomy : (s : State) (a : Message) → valid (oneLogged s) ≡ true → s .logged + mostLogged ≤ journalLength → Roomy (log s [] a)
+pub begun-roomy : (s : State) (a : Message) → valid (oneLogged s) ≡ true → s .logged + mostLogged ≤ journalLength
+    → Roomy (log s [] a)
 begun-roomy s a v room =
     let d = valid-facts (oneLogged s) v in
     record {
@@ -44,7 +46,8 @@ begun-roomy s a v room =
       room = omega (arith, count-le (s .trains) (λ t. isAsked (trainOf s t .status)), d .line .few-trains);
     }
 
-pub working-start : (table : List ℕ) (s : State) (a : Message) (p : Progress) → valid (oneLogged s) ≡ true → s .logged + mostLogged ≤ journalLength
+pub working-start : (table : List ℕ) (s : State) (a : Message) (p : Progress) → valid (oneLogged s) ≡ true
+    → s .logged + mostLogged ≤ journalLength
     → p ≡ progressWith s emptyBatch a → Working table (log s [] a) p
 unfolding addRecords
 working-start table s a p v room e = record { work = log s [] a; held = e; roomy = begun-roomy s a v room; ends = refl }
@@ -58,20 +61,17 @@ module _ (table : List ℕ) (w : Work) (p : Progress) (g : Working table w p) wh
 
   pub working-end : Nobody table (p .state) (p .state .trains) → p ≡ progressOf (settled table w)
   working-end h =
-      let none : Nobody table (g .work .state) (g .work .state .trains) = subst (λ (s : State). Nobody table s (s .trains)) (sym state) h in
+      let none : Nobody table (g .work .state) (g .work .state .trains) =
+      subst (λ (s : State). Nobody table s (s .trains)) (sym state) h in
       g .held ∙ ap progressOf (sym (settled-stop table (g .work) none) ∙ g .ends)
 
   module _ (t : ℕ) (f : Oldest table (p .state) (p .state .trains) t) where
     turn : Oldest table (g .work .state) (g .work .state .trains) t
     turn = subst (λ (s : State). Oldest table s (s .trains) t) (sym state) f
 
-    module _ (q : Progress)
-        (e : q ≡ progressWith (withTrain (p .state) t (withStatus (trainOf (p .state) t) Running)) (p .batch) (Fe (nextMove (p .state) t))) where
+    module _ (q : Progress) (e : q ≡ progressTo p t) where
       after : q ≡ progressOf (granted (g .work) t)
-      after =
-          e
-          ∙ ap (λ (r : Progress). progressWith (withTrain (r .state) t (withStatus (trainOf (r .state) t) Running)) (r .batch) (Fe (nextMove (r .state) t))) (g .held)
-          ∙ logged-more _ (g .work .logged) _
+      after = e ∙ ap (λ (r : Progress). progressTo r t) (g .held) ∙ logged-more _ (g .work .logged) _
 
       pub working-next : Working table w q
       working-next = record {

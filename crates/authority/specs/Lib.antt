@@ -1,4 +1,5 @@
 -- Words of the code below the entry points.
 pub mod Types
+pub mod Places
 pub mod Asking
 pub mod Progress

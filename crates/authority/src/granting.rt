@@ -4,13 +4,12 @@ ghost use mathlib.Core.Path.{_≡_};
 ghost use mathlib.Core.Bool.{true};
 ghost use mathlib.Core.List.{[]};
 ghost use Prim.Native.Nat.{_+_, _≤_, _<_};
-ghost use Rattle.journal.specs.Journal.{journalLength, recordOf, withRecord};
-ghost use Rattle.authority.specs.Types.{Fe, Running};
-ghost use Rattle.rules.specs.State.{trainOf, nextMove, withStatus, withTrain, oneLogged};
+ghost use Rattle.journal.specs.Journal.{journalLength};
+ghost use Rattle.rules.specs.State.{oneLogged};
 ghost use Rattle.rules.specs.Valid.{valid};
 ghost use Rattle.rules.specs.Granting.{log, settled};
 ghost use Rattle.rules.specs.Answer.{mostLogged};
-ghost use Rattle.authority.specs.Progress.{progressOf, progressWith};
+ghost use Rattle.authority.specs.Progress.{progressOf, progressWith, progressTo};
 use crate::asking::Asker;
 use crate::asking::next_asked;
 use crate::fleet::one_logged;
@@ -66,7 +65,7 @@ pub fn logged(state: State, batch: Batch, message: Message) -> Progress
 // Train `t` becomes Running, and its FE is logged.
 fn granted(work: Progress, t: TrainNo) -> Progress
     requires { ⌜ (t .0 < 6) × (work .state .logged ≤ journalLength) ⌝ }
-    ensures { λ r. ⌜ r ≡ progressWith (withTrain (work .state) (t .0) (withStatus (trainOf (work .state) (t .0)) Running)) (work .batch) (Fe (nextMove (work .state) (t .0))) ⌝ }
+    ensures { λ r. ⌜ r ≡ progressTo work (t .0) ⌝ }
 {
     let state = work.state;
     let batch = work.batch;

@@ -3,14 +3,15 @@ ghost use mathlib.Core.Path.{_≡_};
 ghost use Prim.Native.Nat.{_+_, _*_, _^_, _≤_, _<_};
 ghost use lib.Dec.{ltb, eqb};
 ghost use lib.ListN.{getD};
-ghost use Rattle.common.specs.Below.{ofBool};
+ghost use Rattle.common.specs.Below.{ofBool, countBelow};
 ghost use Rattle.common.specs.Bits.{setBelow};
-ghost use Rattle.line.specs.Holding.{holdsPost, holdsSection, postHolders, sectionHolders};
+ghost use Rattle.line.specs.Holding.{postHolders, sectionHolders};
 ghost use Rattle.rules.specs.State.{located};
+ghost use Rattle.authority.specs.Places.{holdsPlace};
 use crate::fleet::tracks_at;
 use crate::fleet::train_of;
-use crate::train::holds_post;
-use crate::train::holds_section;
+use crate::train::Place;
+use crate::train::holds;
 use line::PostNo;
 use line::SectionNo;
 use line::TrainNo;
@@ -24,32 +25,25 @@ fn with_holder(set: u32, t: TrainNo, holds: bool) -> u32
     if holds { set | 1 << t.0 } else { set }
 }
 
-fn post_set(state: State, p: PostNo) -> u32
+fn holder_set(state: State, place: Place) -> u32
     requires { ⌜ state .trains ≤ 6 ⌝ }
-    ensures { λ r. ⌜ r ≡ setBelow (state .trains) (λ t. holdsPost (located state t) (p .0)) ⌝ }
+    ensures { λ r. ⌜ r ≡ setBelow (state .trains) (λ t. holdsPlace (located state t) place) ⌝ }
 {
     let mut set: u32 = 0;
     let mut t: u8 = 0;
     while t < state.trains {
-        let holds = holds_post(train_of(state, TrainNo(t)), p);
-        set = with_holder(set, TrainNo(t), holds);
+        let holder = holds(train_of(state, TrainNo(t)), place);
+        set = with_holder(set, TrainNo(t), holder);
         t += 1;
     }
     set
 }
 
-fn section_set(state: State, i: SectionNo) -> u32
+fn holders(state: State, place: Place) -> u32
     requires { ⌜ state .trains ≤ 6 ⌝ }
-    ensures { λ r. ⌜ r ≡ setBelow (state .trains) (λ t. holdsSection (located state t) (i .0)) ⌝ }
+    ensures { λ r. ⌜ r ≡ countBelow (state .trains) (λ t. holdsPlace (located state t) place) ⌝ }
 {
-    let mut set: u32 = 0;
-    let mut t: u8 = 0;
-    while t < state.trains {
-        let holds = holds_section(train_of(state, TrainNo(t)), i);
-        set = with_holder(set, TrainNo(t), holds);
-        t += 1;
-    }
-    set
+    u32::count_ones(holder_set(state, place))
 }
 
 // How many trains hold post `p`.
@@ -57,7 +51,7 @@ pub fn post_holders(state: State, p: PostNo) -> u32
     requires { ⌜ state .trains ≤ 6 ⌝ }
     ensures { λ r. ⌜ r ≡ postHolders (state .trains) (located state) (p .0) ⌝ }
 {
-    u32::count_ones(post_set(state, p))
+    holders(state, Place::Post(p))
 }
 
 // How many trains hold section `i`.
@@ -65,7 +59,7 @@ pub fn section_holders(state: State, i: SectionNo) -> u32
     requires { ⌜ state .trains ≤ 6 ⌝ }
     ensures { λ r. ⌜ r ≡ sectionHolders (state .trains) (located state) (i .0) ⌝ }
 {
-    u32::count_ones(section_set(state, i))
+    holders(state, Place::Section(i))
 }
 
 // Whether nobody holds section `i`.

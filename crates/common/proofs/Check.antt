@@ -59,7 +59,8 @@ not-given n [] h k e = omega arith
 not-given n (c ∷ cs) h k e = by-cases (c .passes)
     (λ p. not-given n cs h (and-right (not (eqb (c .number) n) || c .passes) (clear n cs) k) (rw p at e))
     (λ p.
-    let own : not (eqb (c .number) n) || c .passes ≡ true = and-left (not (eqb (c .number) n) || c .passes) (clear n cs) k in
+    let own : not (eqb (c .number) n) || c .passes ≡ true = and-left (not (eqb (c .number) n) || c .passes)
+    (clear n cs) k in
     let same : c .number ≡ n = rw p at e in
     let passes : c .passes ≡ true = rw (eq-eqb (c .number) n same) at own in
     clash (c .passes) passes p)
@@ -99,7 +100,8 @@ refuses-of (c ∷ cs) e = by-cases (c .passes)
 pub stop-within : (cs ds : List Check) → 0 < refusal cs → Refuses (cs ++ ds) (refusal cs)
 stop-within cs ds h = refuses-of (cs ++ ds) (first-part cs ds h)
 
-pub pass-all : (cs : List Check) {ds : List Check} {n : ℕ} → numbered cs ≡ true → refusal cs ≡ 0 → Refuses ds n → Refuses (cs ++ ds) n
+pub pass-all : (cs : List Check) {ds : List Check} {n : ℕ} → numbered cs ≡ true → refusal cs ≡ 0 → Refuses ds n
+    → Refuses (cs ++ ds) n
 pass-all cs {ds = ds} k e r = refuses-of (cs ++ ds) (second-part cs ds k e ∙ refusal-is r)
 
 -- ---- the answer

@@ -12,7 +12,8 @@ use Rattle.completion_examples.specs.Lines.{threePosts, xWith, lineX, li
 use Rattle.completion_examples.specs.Examples.{TableExamples}
 
 pub examples : TableExamples
-unfolding countBelow allBelow anyBelow update postAfter codeBelow within fits arrived feasible movesOn completableBy completableIn
+unfolding countBelow allBelow anyBelow update postAfter codeBelow within fits arrived feasible movesOn completableBy
+    completableIn
 examples = record {
   a = bit-of-table lineX 0 (lit< tt);
   b = bit-of-table (xWith (threePosts 1 1 1) 2) 0 (lit< tt);

@@ -1,1 +1,2 @@
+-- The examples at the table, evaluated.
 pub mod Examples

@@ -1,5 +1,5 @@
--- What a batch of at most seven messages has: their records, in order. So the journal with the batch appended, and the frames of the answers, are
--- those of the definitions, which have the messages in a list.
+-- What a batch of at most seven messages has: their records, in order. So the journal with the batch appended, and the
+-- frames of the answers, are those of the definitions, which have the messages in a list.
 -- Assumes nothing.
 use mathlib.Core.Path.{_≡_, refl, sym, ap, subst, _∙_}
 use mathlib.Core.List.{List, [], _∷_, _++_, append-assoc, append-nil, map, List·Memᴰ, List·Memᴰ·head, List·Memᴰ·tail}
@@ -26,17 +26,20 @@ pub record Batched (b : Batch) (rs : List Record) : Type 0 where
 batched-none : Batched emptyBatch []
 batched-none = record { seven = refl; count = refl; same = refl }
 
-batched-more : (b : Batch) (rs : List Record) (r : Record) → Batched b rs → length rs < batchLength → Batched (withRecord b r) (rs ++ r ∷ [])
+batched-more : (b : Batch) (rs : List Record) (r : Record) → Batched b rs → length rs < batchLength
+    → Batched (withRecord b r) (rs ++ r ∷ [])
 batched-more b rs r k h =
     let room : b .n < batchLength = omega (arith, k .count) in
     let longer = length-append rs (r ∷ []) in
     record {
-      seven = ap (λ (c : Batch). length (c .items)) (sym (with-room b r room)) ∙ length-set (b .items) (b .n) r ∙ k .seven;
+      seven = ap (λ (c : Batch). length (c .items)) (sym (with-room b r room)) ∙ length-set (b .items) (b .n) r
+          ∙ k .seven;
       count = ap (λ (c : Batch). c .n) (sym (with-room b r room)) ∙ omega (arith, k .count);
       same = records-with b r (k .seven) room ∙ ap (λ (l : List Record). l ++ r ∷ []) (k .same);
     }
 
-batched-all : (l : List Message) (b : Batch) (rs : List Record) → Batched b rs → length rs + length l ≤ batchLength → Batched (addRecords b l) (rs ++ map recordOf l)
+batched-all : (l : List Message) (b : Batch) (rs : List Record) → Batched b rs → length rs + length l ≤ batchLength
+    → Batched (addRecords b l) (rs ++ map recordOf l)
 unfolding addRecords
 batched-all [] b rs k h = rw append-nil k
 batched-all (a ∷ l) b rs k h =
@@ -49,7 +52,8 @@ batched l h = batched-all l emptyBatch [] batched-none (omega arith)
 
 -- ---- the journal
 
-pub batched-appended : (b : Batch) (rs : List Record) → Batched b rs → (journal : List Record) (at : ℕ) → length rs ≤ batchLength → at + length rs ≤ length journal
+pub batched-appended : (b : Batch) (rs : List Record) → Batched b rs → (journal : List Record) (at : ℕ)
+    → length rs ≤ batchLength → at + length rs ≤ length journal
     → appended journal at b ≡ replaced journal at rs
 unfolding replaced
 batched-appended b rs k journal at few room =
@@ -59,19 +63,25 @@ batched-appended b rs k journal at few room =
 
 -- ---- the answers' frames
 
-tail-taken : {A : Type 0} (items : List A) (m : ℕ) (x : A) (l : List A) → take (suc m) items ≡ x ∷ l → take m (drop 1 items) ≡ l
+tail-taken : {A : Type 0} (items : List A) (m : ℕ) (x : A) (l : List A) → take (suc m) items ≡ x ∷ l
+    → take m (drop 1 items) ≡ l
 tail-taken [] m x l e = absurd (let z : _≡_ {A = ℕ} 0 1 = cc in omega arith)
 tail-taken (y ∷ items) m x l e = cc
 
 -- all but the first
-pub batched-answers : (b : Batch) (r : Record) (rs : List Record) → Batched b (r ∷ rs) → answersIn (b .items) (b .n) ≡ rs
+pub batched-answers : (b : Batch) (r : Record) (rs : List Record) → Batched b (r ∷ rs)
+    → answersIn (b .items) (b .n) ≡ rs
 batched-answers b r rs k =
     let n : b .n - 1 ≡ length rs = omega (arith, k .count) in
     ap (λ (m : ℕ). take m (drop 1 (b .items))) n
     ∙ tail-taken (b .items) (length rs) r rs (ap (λ (m : ℕ). take m (b .items)) (sym (k .count)) ∙ k .same)
 
 -- a frame that is sent is the frame of its record
-pub frames-logged : (l : List Message) → ((a : Message) → List·Memᴰ a l → IsMessage a) → framesIn (map recordOf l) ≡ framesOf l
+pub frames-logged : (l : List Message) → ((a : Message) → List·Memᴰ a l → IsMessage a)
+    → framesIn (map recordOf l) ≡ framesOf l
 unfolding framesIn framesOf
 frames-logged [] h = refl
-frames-logged (a ∷ l) h = rw (logged-as-sent a (h a (List·Memᴰ·head refl)), frames-logged l (λ c m. h c (List·Memᴰ·tail m)))
+frames-logged (a ∷ l) h = rw (
+  logged-as-sent a (h a (List·Memᴰ·head refl)),
+  frames-logged l (λ c m. h c (List·Memᴰ·tail m)),
+)

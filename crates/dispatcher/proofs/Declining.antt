@@ -2,12 +2,13 @@
 -- Assumes nothing.
 use mathlib.Core.Path.{_≡_, subst⁻¹, _∙_}
 use mathlib.Core.Bool.{Bool, true, false}
-use mathlib.Core.List.{List}
+use mathlib.Core.List.{List, []}
 use Prim.Native.Nat.{ℕ, _≤_, _<_}
 use native.Mathlib.Omega.{arith}
 use Rattle.journal.specs.Journal.{journalLength}
-use Rattle.rules.specs.State.{isAsked, trainOf, withTrain}
-use Rattle.rules.specs.Granting.{Work, settled}
+use Rattle.rules.specs.State.{isAsked, trainOf, withTrain, oneLogged}
+use Rattle.rules.specs.Valid.{valid}
+use Rattle.rules.specs.Granting.{Work, log, settled}
 use Rattle.rules.specs.Answer.{moveIn, taken, declined}
 use Rattle.rules.proofs.Validity.{valid-facts}
 use Rattle.rules.proofs.Settling.{settled-roomy}
@@ -20,15 +21,26 @@ module _ (s : State) (a : Message) (x : Train) (r : Ready s a x) where
   pub ready-train : moveIn a .train .0 < 6
   ready-train = omega (arith, r .0, valid-facts (taken s a x .state) (r .2) .line .few-trains)
 
+  -- with another word for the new record, as the code has it
+  pub ready-take : (y : Train) → y ≡ x → valid (oneLogged (withTrain s (moveIn a .train .0) y)) ≡ true
+  ready-take y e = rw e (r .2)
+
+  pub taken-with : (table : List ℕ) (y : Train) → y ≡ x
+      → progressOf (settled table (log (withTrain s (moveIn a .train .0) y) [] a))
+      ≡ progressOf (settled table (taken s a x))
+  taken-with table y e = rw e
+
   pub ready-logged : (table : List ℕ) → settled table (taken s a x) .state .logged ≤ journalLength
   ready-logged table =
-      settled-roomy table (taken s a x) (begun-roomy (withTrain s (moveIn a .train .0) x) a (r .2) (r .1)) .valid-state .few-logged
+      settled-roomy table (taken s a x)
+      (begun-roomy (withTrain s (moveIn a .train .0) x) a (r .2) (r .1)) .valid-state .few-logged
 
 module _ (m : Move) (w : Work) where
   abbrev asks : State → Bool
   asks s = isAsked (trainOf s (m .train .0) .status)
 
-  still-asked : asks (w .state) ≡ true → progressWith (w .state) (batchOf (w .logged)) (Afe m) ≡ progressOf (declined m w)
+  still-asked : asks (w .state) ≡ true → progressWith (w .state) (batchOf (w .logged)) (Afe m) ≡ progressOf
+      (declined m w)
   still-asked e = logged-more (w .state) (w .logged) (Afe m) ∙ rw e
 
   not-asked : asks (w .state) ≡ false → progressOf w ≡ progressOf (declined m w)
@@ -36,7 +48,8 @@ module _ (m : Move) (w : Work) where
 
   module _ (p : Progress) (held : p ≡ progressOf w) where
     pub declined-asker : asks (p .state) ≡ true → progressWith (p .state) (p .batch) (Afe m) ≡ progressOf (declined m w)
-    declined-asker = subst⁻¹ (λ (q : Progress). asks (q .state) ≡ true → progressWith (q .state) (q .batch) (Afe m) ≡ progressOf (declined m w)) held still-asked
+    declined-asker = subst⁻¹ (λ (q : Progress). asks (q .state) ≡ true → progressWith (q .state) (q .batch)
+        (Afe m) ≡ progressOf (declined m w)) held still-asked
 
     pub granted-asker : asks (p .state) ≡ false → p ≡ progressOf (declined m w)
     granted-asker = subst⁻¹ (λ (q : Progress). asks (q .state) ≡ false → q ≡ progressOf (declined m w)) held not-asked

@@ -4,4 +4,3 @@ pub mod Refusals
 pub mod Sent
 pub mod Batched
 pub mod Outcomes
-pub mod OpeningCases

@@ -25,10 +25,18 @@ use Rattle.dispatcher.proofs.Batched.{Batched, batched, batched-appende
 
 -- an FA or an AM that passes the checks can be taken
 pub taken-acceptable : (s : State) → Valid s → (a : Message) → Taken s a → Acceptable s a
-taken-acceptable s d a (request m n free idle) =
-    (n .known, n .space, is-valid _ (valid-request s d (m .train .0) (n .known) (omega (arith, n .space)) (n .short) idle))
-taken-acceptable s d a (arrival m n runs) =
-    (n .known, n .space, is-valid _ (valid-arrival s d (m .train .0) (n .known) (omega (arith, n .space)) (n .short) runs))
+taken-acceptable s d a (request m n free idle) = (
+  n .known,
+  n .space,
+  is-valid _ (valid-request s d (m .train .0) (n .known) (omega (arith, n .space))
+      (n .short) idle),
+)
+taken-acceptable s d a (arrival m n runs) = (
+  n .known,
+  n .space,
+  is-valid _ (valid-arrival s d (m .train .0) (n .known) (omega (arith, n .space))
+      (n .short) runs),
+)
 
 module _ (s : State) (table : List ℕ) (count : ℕ) (frame out : List ℕ) (number : ℕ)
     (given : number ≡ refusal (frameChecks s (length table) count frame (length out))) where
@@ -42,7 +50,8 @@ module _ (s : State) (table : List ℕ) (count : ℕ) (frame out : List ℕ) (nu
     declined h =
         refuses _ (refused s journal out) (omega (arith, numbered)) ∙ ap (refused s journal out) numbered
 
-    taken : number ≡ 0 → answer s table journal frame out ≡ answered (s .logged) journal out (accepted table s (readFrame frame))
+    taken : number ≡ 0 → answer s table journal frame out ≡ answered (s .logged) journal out
+        (accepted table s (readFrame frame))
     unfolding answer
     taken z = accepts _ (refused s journal out) (numbered ∙ z)
 
@@ -61,7 +70,8 @@ module _ (s : State) (table : List ℕ) (count : ℕ) (frame out : List ℕ) (nu
     work = accepted table s (readFrame frame)
 
     pub step-passed : Passed s table (replicate count blank) frame out
-    step-passed = frame-passed s table (replicate count blank) frame out (numbered (replicate count blank) (length-replicate count blank) ∙ zero)
+    step-passed = frame-passed s table (replicate count blank) frame out
+        (numbered (replicate count blank) (length-replicate count blank) ∙ zero)
 
     left : Accepted table s (readFrame frame) work
     left = accepted-facts table s (step-passed .valid-state) (readFrame frame) (step-passed .message)
@@ -86,22 +96,26 @@ module _ (s : State) (table : List ℕ) (count : ℕ) (frame out : List ℕ) (nu
       frames : framesIn (answersIn (p .batch .items) (p .batch .n)) ≡ framesOf (sent work)
       frames =
           ap (λ (q : Progress). framesIn (answersIn (q .batch .items) (q .batch .n))) held
-          ∙ ap framesIn (batched-answers (batchOf (work .logged)) _ _ (subst (Batched (batchOf (work .logged))) (ap (map recordOf) (left .first)) kept))
+          ∙ ap framesIn (batched-answers (batchOf (work .logged)) _ _
+          (subst (Batched (batchOf (work .logged))) (ap (map recordOf) (left .first)) kept))
           ∙ frames-logged (sent work) (left .messages)
 
-      written : (journal : List Record) → length journal ≡ count → replaced journal (s .logged) (map recordOf (work .logged)) ≡ appended journal (s .logged) (p .batch)
+      written : (journal : List Record) → length journal ≡ count
+          → replaced journal (s .logged) (map recordOf (work .logged)) ≡ appended journal (s .logged) (p .batch)
       written journal long =
           let fits = length-map (work .logged) recordOf in
           let space : s .logged + mostLogged ≤ journalLength = room (readFrame frame) (step-passed .message) in
           let enough : journalLength ≤ count = rw length-replicate at (step-passed .long-journal) in
-          sym (batched-appended (batchOf (work .logged)) (map recordOf (work .logged)) kept journal (s .logged) (omega (arith, left .few)) (omega (arith, left .few)))
+          sym (batched-appended (batchOf (work .logged)) (map recordOf (work .logged)) kept journal (s .logged)
+          (omega (arith, left .few)) (omega (arith, left .few)))
           ∙ ap (λ (q : Progress). appended journal (s .logged) (q .batch)) (sym held)
         where
           room : (a : Message) → Taken s a → s .logged + mostLogged ≤ journalLength
           room a (request m n free idle) = n .space
           room a (arrival m n runs) = n .space
 
-      pub step-accepted : (k : ℕ) → k ≡ p .batch .n - 1 → (after : List ℕ) → after ≡ replaced out 0 (framesIn (answersIn (p .batch .items) (p .batch .n)))
+      pub step-accepted : (k : ℕ) → k ≡ p .batch .n - 1 → (after : List ℕ)
+          → after ≡ replaced out 0 (framesIn (answersIn (p .batch .items) (p .batch .n)))
           → Stepped s table count frame out (outcomeOf (p .state) (Sent k) (s .logged) (p .batch)) after
       step-accepted k ek after ea =
           let state : work .state ≡ p .state = ap (λ (q : Progress). q .state) (sym held) in
@@ -110,9 +124,13 @@ module _ (s : State) (table : List ℕ) (count : ℕ) (frame out : List ℕ) (nu
           record {
             answers = λ journal long. sym (
                 taken journal long zero
-                ∙ ap (λ (t : State). made t (length (sent work)) (replaced journal (s .logged) (map recordOf (work .logged))) (replaced out 0 (framesOf (sent work)))) state
-                ∙ ap (λ (n : ℕ). made (p .state) n (replaced journal (s .logged) (map recordOf (work .logged))) (replaced out 0 (framesOf (sent work)))) verdict
-                ∙ ap (λ (j : List Record). made (p .state) k j (replaced out 0 (framesOf (sent work)))) (written journal long)
+                ∙ ap (λ (t : State). made t (length (sent work))
+                (replaced journal (s .logged) (map recordOf (work .logged)))
+                (replaced out 0 (framesOf (sent work)))) state
+                ∙ ap (λ (n : ℕ). made (p .state) n (replaced journal (s .logged) (map recordOf (work .logged)))
+                (replaced out 0 (framesOf (sent work)))) verdict
+                ∙ ap (λ (j : List Record). made (p .state) k j (replaced out 0 (framesOf (sent work))))
+                (written journal long)
                 ∙ ap (λ (b : List ℕ). made (p .state) k (appended journal (s .logged) (p .batch)) b) bytes);
           }
         where

@@ -58,7 +58,8 @@ module _ (s : State) (asks : Bool) (m : Move) where
           -- 7, 8 and 9 pass
           after-posts : (n : ℕ) → Refuses (statusChecks asks (not asks) (x .status) ++ last) n → Refuses checks n
           after-posts n r =
-              let posts : eqb (m .from .0) (trainOf s (m .train .0) .at .0) && eqb (m .to .0) (nextOf (trainOf s (m .train .0))) ≡ true =
+              let posts : eqb (m .from .0) (trainOf s (m .train .0) .at .0)
+              && eqb (m .to .0) (nextOf (trainOf s (m .train .0))) ≡ true =
               rw (← own, eq-eqb _ _ from, eq-eqb _ _ (to ∙ next)) in
               pass (lt-ltb _ _ known) (pass onward (pass posts
               (subst (λ (y : Train). Refuses (statusChecks asks (not asks) (y .status) ++ last) n) own r)))
@@ -67,12 +68,14 @@ module _ (s : State) (asks : Bool) (m : Move) where
             pub status-refuses : n ≢ 0 → n ≡ refusal checks
             status-refuses h =
                 let some : 0 < refusal (statusChecks asks (not asks) (x .status)) = omega arith in
-                status ∙ sym (refusal-is (after-posts _ (stop-within (statusChecks asks (not asks) (x .status)) last some)))
+                status ∙ sym (refusal-is (after-posts _
+                (stop-within (statusChecks asks (not asks) (x .status)) last some)))
 
             module _ (zero : n ≡ 0) where
               -- 10, 11 and 12 pass
               after-status : {k : ℕ} → Refuses last k → Refuses checks k
-              after-status r = after-posts _ (pass-all (statusChecks asks (not asks) (x .status)) refl (sym status ∙ zero) r)
+              after-status r = after-posts _
+                  (pass-all (statusChecks asks (not asks) (x .status)) refl (sym status ∙ zero) r)
 
               pub journal-full : journalLength < s .logged + mostLogged → journalFull ≡ refusal checks
               journal-full h = sym (refusal-is (after-status (stop (lt-leb _ _ h))))
@@ -98,18 +101,22 @@ module _ (s : State) (table records : ℕ) (frame : List ℕ) (room : ℕ) where
       abbrev content : Message → List Check
       content a = check wrongEnd (isFa a || isAm a) ∷ moveChecks s (isFa a) (isAm a) (moveIn a)
 
-      passed : IsMessage (readFrame frame) → refusal (frameChecks s table records frame room) ≡ refusal (content (readFrame frame))
+      passed : IsMessage (readFrame frame) → refusal (frameChecks s table records frame room) ≡ refusal
+          (content (readFrame frame))
       passed h =
-          check-passes _ _ sound ∙ check-passes _ _ long ∙ second-part (readChecks frame) (content (readFrame frame)) refl (read-passed frame h)
+          check-passes _ _ sound ∙ check-passes _ _ long
+          ∙ second-part (readChecks frame) (content (readFrame frame)) refl (read-passed frame h)
 
       pub message-decides : messageRefusal s (readFrame frame) ≡ refusal (frameChecks s table records frame room)
       unfolding IsMessage
       message-decides = at (readFrame frame) refl
         where
-          of : (a : Message) → readFrame frame ≡ a → IsMessage a → refusal (frameChecks s table records frame room) ≡ refusal (content a)
+          of : (a : Message) → readFrame frame ≡ a → IsMessage a
+              → refusal (frameChecks s table records frame room) ≡ refusal (content a)
           of a e h = passed (rw e h) ∙ ap (λ (b : Message). refusal (content b)) e
 
-          at : (a : Message) → readFrame frame ≡ a → messageRefusal s (readFrame frame) ≡ refusal (frameChecks s table records frame room)
+          at : (a : Message) → readFrame frame ≡ a → messageRefusal s (readFrame frame) ≡ refusal
+              (frameChecks s table records frame room)
           at (Fa m) e = ap (messageRefusal s) e ∙ sym (of (Fa m) e tt ∙ check-passes _ _ refl)
           at (Am m) e = ap (messageRefusal s) e ∙ sym (of (Am m) e tt ∙ check-passes _ _ refl)
           at (Fe m) e = ap (messageRefusal s) e ∙ sym (of (Fe m) e tt ∙ check-fails _ _ refl)
@@ -118,4 +125,5 @@ module _ (s : State) (table records : ℕ) (frame : List ℕ) (room : ℕ) where
               let r = read-refused frame n e in
               let some : 0 < refusal (readChecks frame) = rw (r .1) (r .0) in
               ap (messageRefusal s) e
-              ∙ sym (check-passes _ _ sound ∙ check-passes _ _ long ∙ first-part (readChecks frame) (content (readFrame frame)) some ∙ r .1)
+              ∙ sym (check-passes _ _ sound ∙ check-passes _ _ long
+              ∙ first-part (readChecks frame) (content (readFrame frame)) some ∙ r .1)

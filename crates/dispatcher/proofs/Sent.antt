@@ -29,7 +29,13 @@ frames-more (s ∷ l) r = rw (frames-more l r) (sym (append-assoc (frameOf s) (f
 replaced-next : (o xs ys : List ℕ) → replaced (replaced o 0 xs) (length xs) ys ≡ replaced o 0 (xs ++ ys)
 unfolding replaced
 replaced-next o xs ys =
-    simp (zero-add, take-append-seam xs (drop (length xs) o), drop-append-add xs (drop (length xs) o) (length ys), drop-drop, length-append)
+    simp (
+      zero-add,
+      take-append-seam xs (drop (length xs) o),
+      drop-append-add xs (drop (length xs) o) (length ys),
+      drop-drop,
+      length-append,
+    )
 
 -- the frames of the first k answers among the items are written in the buffer o, which is then `out`
 pub record Written (o : List ℕ) (items : List Record) (out : List ℕ) (k : ℕ) : Type 0 where
@@ -40,7 +46,12 @@ pub record Written (o : List ℕ) (items : List Record) (out : List ℕ) (k : �
 
 pub written-none : (o : List ℕ) (items : List Record) → outLength ≤ length o → length items ≡ 7 → Written o items o 0
 unfolding framesIn
-written-none o items room seven = record { room = room; seven = seven; few = omega arith; written = sym (replaced-none o 0) }
+written-none o items room seven = record {
+  room = room;
+  seven = seven;
+  few = omega arith;
+  written = sym (replaced-none o 0);
+}
 
 module _ (o : List ℕ) (items : List Record) (out : List ℕ) (k : ℕ) (w : Written o items out k) where
   abbrev answers : List Record
@@ -53,9 +64,11 @@ module _ (o : List ℕ) (items : List Record) (out : List ℕ) (k : ℕ) (w : Wr
   size = frames-size (take k answers) ∙ ap (λ (n : ℕ). 7 * n) (length-take-le k answers (omega (arith, six, w .few)))
 
   pub written-length : length out ≡ length o
-  written-length = ap length (w .written) ∙ length-replaced o 0 (framesIn (take k answers)) (omega (arith, size, w .room, w .few))
+  written-length = ap length (w .written) ∙ length-replaced o 0 (framesIn (take k answers))
+      (omega (arith, size, w .room, w .few))
 
-  pub written-more : k < 6 → (f : List ℕ) → f ≡ frameOf (getD items (k + 1) blank) → (after : List ℕ) → after ≡ replacedIfRoom out (7 * k) f
+  pub written-more : k < 6 → (f : List ℕ) → f ≡ frameOf (getD items (k + 1) blank) → (after : List ℕ)
+      → after ≡ replacedIfRoom out (7 * k) f
       → Written o items after (k + 1)
   written-more h f is after e = record {
     room = w .room;
@@ -73,9 +86,11 @@ module _ (o : List ℕ) (items : List Record) (out : List ℕ) (k : ℕ) (w : Wr
       -- one frame more
       more : framesIn (take k answers) ++ f ≡ framesIn (take (k + 1) answers)
       more =
-          ap (λ (g : List ℕ). framesIn (take k answers) ++ g) (is ∙ ap frameOf (place ∙ sym (getD-drop 1 items k blank)))
+          ap (λ (g : List ℕ). framesIn (take k answers) ++ g)
+          (is ∙ ap frameOf (place ∙ sym (getD-drop 1 items k blank)))
           ∙ sym (frames-more (take k answers) (getD answers k blank))
-          ∙ ap framesIn (sym (take-suc answers k blank (omega (arith, six))) ∙ ap (λ (n : ℕ). take n answers) (sym (add-one k)))
+          ∙ ap framesIn (sym (take-suc answers k blank (omega (arith, six)))
+          ∙ ap (λ (n : ℕ). take n answers) (sym (add-one k)))
         where
           place : getD items (k + 1) blank ≡ getD items (1 + k) blank
           place = ap (λ (n : ℕ). getD items n blank) (omega arith)

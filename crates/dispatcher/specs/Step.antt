@@ -1,5 +1,5 @@
--- Words of the functions below the entry points: what they hold by value where the definitions have lists, and what they ask of a state. Nothing
--- above the entry points cites them.
+-- Words of the functions below the entry points: what they hold by value where the definitions have lists, and what
+-- they ask of a state. Nothing above the entry points cites them.
 use mathlib.Core.Path.{_≡_}
 use mathlib.Core.Bool.{true, false}
 use mathlib.Core.List.{List, [], _∷_, _++_}
@@ -26,7 +26,8 @@ messageRefusal s (Refused n) = n
 
 -- what the frame a and the new record x of its train must meet for the granting
 abbrev pub Ready : State → Message → Train → Type 0
-Ready s a x = (moveIn a .train .0 < s .trains) × (s .logged + mostLogged ≤ journalLength) × (valid (taken s a x .state) ≡ true)
+Ready s a x = (moveIn a .train .0 < s .trains) × (s .logged + mostLogged ≤ journalLength)
+    × (valid (taken s a x .state) ≡ true)
 
 abbrev pub Acceptable : State → Message → Type 0
 Acceptable s (Fa m) = Ready s (Fa m) (withStatus (trainOf s (m .train .0)) (Asked (s .logged)))
@@ -51,7 +52,9 @@ answersIn items n = take (n - 1) (drop 1 items)
 abbrev pub outcomeOf : State → Verdict → ℕ → Batch → Outcome
 outcomeOf s v at b = record { reply = record { state = s; verdict = v }; at = at; batch = b }
 
--- o, with the records of its batch written, and the out buffer afterwards are the answer, with every journal of so many records
-pub record Stepped (s : State) (table : List ℕ) (records : ℕ) (frame out : List ℕ) (o : Outcome) (after : List ℕ) : Type 0 where
+-- o, with the records of its batch written, and the out buffer afterwards are the answer, with every journal of so many
+-- records
+pub record Stepped (s : State) (table : List ℕ) (records : ℕ) (frame out : List ℕ) (o : Outcome)
+    (after : List ℕ) : Type 0 where
   pub answers : (journal : List Record) → length journal ≡ records
       → answerOf (o .reply) (appended journal (o .at) (o .batch)) after ≡ answer s table journal frame out

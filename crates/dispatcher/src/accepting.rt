@@ -1,12 +1,14 @@
 // What an accepted frame does.
 ghost use mathlib.Core.Path.{_≡_};
 ghost use mathlib.Core.List.{[]};
-ghost use Prim.Native.Nat.{_≤_, _<_};
+ghost use mathlib.Core.Bool.{true};
+ghost use Prim.Native.Nat.{_+_, _≤_, _<_};
 ghost use Rattle.journal.specs.Journal.{journalLength};
 ghost use Rattle.dispatcher.specs.Types.{Fa, Am, Asked};
-ghost use Rattle.rules.specs.State.{trainOf, withStatus, arrivedNext};
-ghost use Rattle.rules.specs.Granting.{Work};
-ghost use Rattle.rules.specs.Answer.{accepted, declined};
+ghost use Rattle.rules.specs.State.{trainOf, withStatus, arrivedNext, withTrain, oneLogged};
+ghost use Rattle.rules.specs.Valid.{valid};
+ghost use Rattle.rules.specs.Granting.{Work, log, settled};
+ghost use Rattle.rules.specs.Answer.{mostLogged, accepted, declined};
 ghost use Rattle.authority.specs.Progress.{progressOf};
 ghost use Rattle.dispatcher.specs.Step.{Ready, Acceptable};
 use authority::Progress;
@@ -20,8 +22,10 @@ use authority::with_status;
 use authority::with_train;
 use frame::Message;
 use frame::Move;
+use line::TrainNo;
 use rules::State;
 use rules::Status;
+use rules::Train;
 
 // The frame is logged and answered. What is neither an FA nor an AM is not accepted.
 pub fn accept(state: State, table: &[u8], message: Message) -> Progress
@@ -44,7 +48,7 @@ fn request(state: State, table: &[u8], m: Move) -> Progress
     ensures { λ r. ⌜ r ≡ progressOf (accepted (now (table .entry)) state (Fa m)) ⌝ }
 {
     let asked = with_status(train_of(state, m.train), Status::Asked(state.logged));
-    let work = settle(with_train(state, m.train, asked), table, Message::Fa(m));
+    let work = take(state, table, Message::Fa(m), m.train, asked);
     decline(work, m)
 }
 
@@ -54,7 +58,16 @@ fn arrival(state: State, table: &[u8], m: Move) -> Progress
     ensures { λ r. ⌜ r ≡ progressOf (accepted (now (table .entry)) state (Am m)) ⌝ }
 {
     let free = arrived(train_of(state, m.train));
-    settle(with_train(state, m.train, free), table, Message::Am(m))
+    take(state, table, Message::Am(m), m.train, free)
+}
+
+// The frame is logged with the new record of train `t`, and then the granting goes on.
+fn take(state: State, table: &[u8], message: Message, t: TrainNo, train: Train) -> Progress
+    requires { ⌜ (t .0 < 6) × (state .logged + mostLogged ≤ journalLength) ⌝ }
+    requires { ⌜ valid (oneLogged (withTrain state (t .0) train)) ≡ true ⌝ }
+    ensures { λ r. ⌜ r ≡ progressOf (settled (now (table .entry)) (log (withTrain state (t .0) train) [] message)) ⌝ }
+{
+    settle(with_train(state, t, train), table, message)
 }
 
 // If the asker was not granted, its AFE is logged.

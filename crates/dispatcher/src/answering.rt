@@ -17,7 +17,8 @@ pub fn answer(
     frame: &[u8],
     out: &mut [u8],
 ) -> Reply
-    ensures { λ r. ⌜ answerOf r (now (journal .exit)) (now (out .exit)) ≡ answer state (now (table .entry)) (now (journal .entry)) (now (frame .entry)) (now (out .entry)) ⌝ }
+    ensures { λ r. ⌜ answerOf r (now (journal .exit)) (now (out .exit))
+        ≡ answer state (now (table .entry)) (now (journal .entry)) (now (frame .entry)) (now (out .entry)) ⌝ }
 {
     let o = step(state, table, journal.len(), frame, out);
     journal::append(journal, o.at, o.batch);
@@ -32,7 +33,8 @@ pub struct Logged {
 
 // The same with a journal by value.
 pub fn answer_log(state: State, table: &[u8], log: Log, frame: &[u8], out: &mut [u8]) -> Logged
-    ensures { λ r. ⌜ answerOf (r .reply) (r .log .records) (now (out .exit)) ≡ answer state (now (table .entry)) (log .records) (now (frame .entry)) (now (out .entry)) ⌝ }
+    ensures { λ r. ⌜ answerOf (r .reply) (r .log .records) (now (out .exit))
+        ≡ answer state (now (table .entry)) (log .records) (now (frame .entry)) (now (out .entry)) ⌝ }
 {
     let records = log.records;
     let o = step(state, table, log_length(records), frame, out);

@@ -22,14 +22,16 @@ use rules::Train;
 
 // Opens a book. Of the journal only its length is looked at.
 pub fn open(book: &[u8], table: &mut [u8], journal: &[Record]) -> Opened
-    ensures { λ r. ⌜ openingOf r (now (table .exit)) ≡ opening (now (book .entry)) (now (table .entry)) (now (journal .entry)) ⌝ }
+    ensures { λ r. ⌜ openingOf r (now (table .exit))
+        ≡ opening (now (book .entry)) (now (table .entry)) (now (journal .entry)) ⌝ }
 {
     open_with(book, table, journal.len())
 }
 
 // The same with a journal by value.
 pub fn open_log(book: &[u8], table: &mut [u8], log: Log) -> Opened
-    ensures { λ r. ⌜ openingOf r (now (table .exit)) ≡ opening (now (book .entry)) (now (table .entry)) (log .records) ⌝ }
+    ensures { λ r. ⌜ openingOf r (now (table .exit))
+        ≡ opening (now (book .entry)) (now (table .entry)) (log .records) ⌝ }
 {
     let records = log.records;
     open_with(book, table, log_length(records))
@@ -38,7 +40,8 @@ pub fn open_log(book: &[u8], table: &mut [u8], log: Log) -> Opened
 // The opening, with a journal of so many records: checks 2, those of the book, 19 and 20, in that
 // order. 20 needs the table, so that it alone leaves it filled.
 pub fn open_with(book: &[u8], table: &mut [u8], records: usize) -> Opened
-    ensures { λ r. ⌜ openingOf r (now (table .exit)) ≡ openingWith (now (book .entry)) (now (table .entry)) records ⌝ }
+    ensures { λ r. ⌜ openingOf r (now (table .exit))
+        ≡ openingWith (now (book .entry)) (now (table .entry)) records ⌝ }
 {
     if table.len() < TABLE_LENGTH {
         return refused(SHORT_STORE);

@@ -21,7 +21,8 @@ pub struct Outcome {
 // The answers' frames are at the beginning of `out`. A refused frame has no records, so that
 // nothing is written.
 pub fn step(state: State, table: &[u8], records: usize, frame: &[u8], out: &mut [u8]) -> Outcome
-    ensures { λ r. ⌜ Stepped state (now (table .entry)) records (now (frame .entry)) (now (out .entry)) r (now (out .exit)) ⌝ }
+    ensures { λ r. ⌜ Stepped state (now (table .entry)) records (now (frame .entry)) (now (out .entry))
+        r (now (out .exit)) ⌝ }
 {
     let number = refusal_of(state, table.len(), records, frame, out.len());
     if number != 0 {

@@ -77,7 +77,13 @@ frameWith size version kind t p q = 0 ∷ size ∷ version ∷ kind ∷ t ∷ p 
 abbrev pub withRecords : ℕ → List (List ℕ) → Ran
 withRecords n frames =
     let s = opened bookX .state in
-    let made : State = record { posts = s .posts; tracks = s .tracks; trains = s .trains; fleet = s .fleet; logged = n } in
+    let made : State = record {
+      posts = s .posts;
+      tracks = s .tracks;
+      trains = s .trains;
+      fleet = s .fleet;
+      logged = n;
+    } in
     ranFrom made (opened bookX .table) frames
 
 -- the verdict on a frame of a torn length, by the lengths of table, journal and out buffer

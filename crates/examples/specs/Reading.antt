@@ -1,6 +1,6 @@
 -- How the examples are read: books are opened and frames put to the box with blank stores, and the answers are read
 -- from the out buffers. The `unfolding` lines say which definitions are worked out where these are evaluated.
-use mathlib.Core.List.{List, [], _∷_, map}
+use mathlib.Core.List.{List, map}
 use Prim.Native.Nat.{ℕ}
 use lib.ListN.{take, replicate}
 use Rattle.common.specs.Below.{countBelow, allBelow, anyBelow}
@@ -21,7 +21,7 @@ use Rattle.rules.specs.Granting.{grantable, oldest, grants}
 use Rattle.rules.specs.Answer.{outLength, accepted, framesOf, answer}
 use Rattle.rules.specs.Opening.{Opening, openingWith, opening}
 use Rattle.assurance.specs.Types.{Message, Fa, Fe, Afe, Am, Record, State, Verdict}
-use Rattle.assurance.specs.Run.{Input, Exchange, Ran, run}
+use Rattle.assurance.specs.Run.{Input, Ran, run}
 use Rattle.assurance.specs.Observer.{Seen, readFrames, answersOf, atOpening, hearAnswers, observe}
 
 -- ---- messages, by train, from and to

@@ -9,13 +9,12 @@ use native.Mathlib.Omega.{arith}
 use lib.Dec.{eqb, leb}
 use lib.ListN.{length, getD}
 use borrow.Author.Tests.{eq-eqb, ne-eqb, le-leb, leb-true}
-use Rattle.common.specs.Check.{unlessRefused}
 use Rattle.common.specs.Word.{word}
 use Rattle.common.proofs.Tests.{not-passed, and-left, and-right}
-use Rattle.common.proofs.Check.{Refuses, none, stop, pass, refusal-is, accepts, refuses}
+use Rattle.common.proofs.Check.{Refuses, none, stop, pass, accepted-by, refused-by}
 use Rattle.line.specs.Line.{inRange}
 use Rattle.line.specs.Refusal.{tornFrame, otherEdition, unknownKind}
-use Rattle.frame.specs.Types.{Move, Message, Refused}
+use Rattle.frame.specs.Types.{Move, Refused}
 use Rattle.frame.specs.Frame.{moveOf, readChecks, messageOf, readFrame}
 
 -- the move and the message that the bytes of a whole frame name
@@ -25,9 +24,7 @@ namedMove s = moveOf (getD s 4 0) (getD s 5 0) (getD s 6 0)
 module _ (s : List ℕ) where
   refused : {n : ℕ} → 0 < n → Refuses (readChecks s) n → Refused n ≡ readFrame s
   unfolding readFrame
-  refused h r =
-      let m = messageOf (getD s 3 0) (namedMove s) in
-      sym (ap (λ (k : ℕ). unlessRefused k m Refused) (refusal-is r) ∙ refuses m Refused h)
+  refused h r = refused-by (messageOf (getD s 3 0) (namedMove s)) Refused h r
 
   pub other-size : length s ≢ 7 → Refused tornFrame ≡ readFrame s
   other-size h = refused (omega arith) (stop (rw (ne-eqb _ _ h)))
@@ -52,8 +49,7 @@ module _ (s : List ℕ) where
         known-kind k e low high =
             let kind : inRange 1 4 (getD s 3 0) ≡ true = rw (e, le-leb _ _ low, le-leb _ _ high) in
             let r : Refuses (readChecks s) 0 = pass whole (pass (eq-eqb _ _ version) (pass kind none)) in
-            let m : ℕ → Message = λ n. messageOf n (namedMove s) in
-            sym (accepts (m (getD s 3 0)) Refused (refusal-is r) ∙ ap m e)
+            ap (λ n. messageOf n (namedMove s)) (sym e) ∙ accepted-by (messageOf (getD s 3 0) (namedMove s)) Refused r
 
 -- a kind byte below 1 or above 4 is none
 pub not-a-kind : (k : ℕ) → (1 ≤ k → k ≤ 4 → ⊥) → inRange 1 4 k ≡ false

@@ -39,6 +39,7 @@ unfolding readFrame unlessRefused IsMessage
 read-refused s n = at (refusal (readChecks s)) refl
   where
     at : (k : ℕ) → refusal (readChecks s) ≡ k
-        → unlessRefused k (messageOf (getD s 3 0) (namedMove s)) Refused ≡ Refused n → (0 < n) × (refusal (readChecks s) ≡ n)
+        → unlessRefused k (messageOf (getD s 3 0) (namedMove s)) Refused ≡ Refused n → (0 < n)
+        × (refusal (readChecks s) ≡ n)
     at zero r e = absurd (rw e at (known-message (getD s 3 0) (namedMove s) (passed-at (readChecks s) refl r 2)))
     at (suc k) r e = let z : suc k ≡ n = cc in (rw (← z) (omega arith), r ∙ z)

@@ -67,7 +67,8 @@ only s h =
     let high : getD s 0 0 ≡ 0 = omega arith in
     let low : getD s 1 0 ≡ 5 = omega arith in
     let version : getD s 2 0 ≡ 1 = eqb-true _ _ (passed 1) in
-    ap bytesOf (accepts m Refused (a .0)) ∙ message-bytes (getD s 3 0) (namedMove s) (a .1) ∙ cc (spell s 7 0 (sym size))
+    ap bytesOf (accepts m Refused (a .0)) ∙ message-bytes (getD s 3 0) (namedMove s) (a .1)
+    ∙ cc (spell s 7 0 (sym size))
 
 pub round-trip : RoundTrip
 round-trip = record { back = back; only = only }

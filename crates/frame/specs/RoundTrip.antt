@@ -1,5 +1,5 @@
--- The claims on frames. Demand 2: "Frames read back as written, and only such frames are read." They hold for any list of
--- numbers, bytes or not.
+-- The claims on frames. Demand 2: "Frames read back as written, and only such frames are read." They hold for any list
+-- of numbers, bytes or not.
 use mathlib.Core.Path.{_≡_}
 use mathlib.Core.List.{List}
 use Prim.Native.Nat.{ℕ}

@@ -3,7 +3,7 @@
 use mathlib.Core.Path.{_≡_}
 use mathlib.Core.Bool.{Bool, cond, _&&_}
 use mathlib.Core.List.{List, _++_}
-use Prim.Native.Nat.{ℕ, _+_}
+use Prim.Native.Nat.{ℕ, _+_, _≤_, _<_}
 use lib.Dec.{leb, ltb}
 use lib.ListN.{length, getD, set, take, drop, replicate}
 use Rattle.frame.specs.Frame.{frameBytes, bytesOf}
@@ -74,3 +74,14 @@ fitting len at n = cond (fit len at n) n 0
 -- the journal j with the records of b from place `at` on; j itself where they do not fit
 unfoldable pub appended : List Record → ℕ → Batch → List Record
 appended j at b = cond (fit (length j) at (b .n)) (take at j ++ records b ++ drop (at + b .n) j) j
+
+-- the claim on writing: each record of the batch stands in its place, and "records past the count are untouched", as
+-- are those before it
+pub record OnlyAppended : Type 0 where
+  pub below : (j : List Record) (at : ℕ) (b : Batch) → length (b .items) ≡ batchLength
+      → (i : ℕ) → i < at → recordAt (appended j at b) i ≡ recordAt j i
+  pub above : (j : List Record) (at : ℕ) (b : Batch) → length (b .items) ≡ batchLength
+      → (i : ℕ) → at + b .n ≤ i → recordAt (appended j at b) i ≡ recordAt j i
+  pub new : (j : List Record) (at : ℕ) (b : Batch) → length (b .items) ≡ batchLength
+      → b .n ≤ batchLength → at + b .n ≤ length j
+      → (k : ℕ) → k < b .n → recordAt (appended j at b) (at + k) ≡ recordAt (b .items) k

@@ -15,13 +15,13 @@ use Rattle.common.specs.Check.{check, refusal, unlessRefused}
 use Rattle.common.specs.Tabulate.{tabulate}
 use Rattle.common.proofs.Tests.{and-left, and-right, and-both}
 use Rattle.common.proofs.Check.{none, pass, refusal-is, passed-at, clear, not-given, accepts}
-use Rattle.common.proofs.Tabulate.{length-tabulate, at-tabulate, tabulate-cong}
-use Rattle.common.proofs.Tabulate.{length-padded, at-padded, past-padded, padded-is}
+use Rattle.common.proofs.Tabulate.{length-tabulate, at-tabulate, tabulate-cong, length-padded, at-padded, past-padded}
+use Rattle.common.proofs.Tabulate.{padded-is}
 use Rattle.line.specs.Sorts.{Line, Reading}
 use Rattle.line.specs.Line.{noRoute, routeOf, tracksAt, wellFormed}
-use Rattle.line.specs.Book.{byteAt, versionAt, countAt, trainsAt, startAt, endAt, total}
-use Rattle.line.specs.Book.{named, postsOf, trainsOf, routeIn, lineOf, bookChecks}
-use Rattle.line.specs.Book.{accepted, refusedBy, readBook, outcomeNumber, routeBytes, bytesOf}
+use Rattle.line.specs.Book.{byteAt, versionAt, countAt, trainsAt, startAt, endAt, total, named, postsOf, trainsOf}
+use Rattle.line.specs.Book.{routeIn, lineOf, bookChecks, accepted, refusedBy, readBook, outcomeNumber, routeBytes}
+use Rattle.line.specs.Book.{bytesOf}
 use Rattle.line.specs.Claims.{Padded, ReadAs, LineBook}
 use Rattle.line.proofs.WellFormed.{WellFormed, well-formed, well-formed-parts, formed-parts}
 use Rattle.line.proofs.InOrder.{line-is}

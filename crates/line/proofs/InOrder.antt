@@ -13,8 +13,8 @@ use Rattle.common.proofs.Check.{passed-at, second-part, first-part, accepts, re
 use Rattle.line.specs.Sorts.{Route, Line, Stage, Passed, Stopped}
 use Rattle.line.specs.Line.{noRoute}
 use Rattle.line.specs.Book.{byteAt, countAt, trainsAt, postsOf, trainsOf, routeIn, total, lineOf, bookChecks}
-use Rattle.line.specs.Book.{accepted, refusedBy, readBook}
-use Rattle.line.specs.Book.{stageOf, numberOf, postsStage, tracksStage, trainsStage, routesStage}
+use Rattle.line.specs.Book.{accepted, refusedBy, readBook, stageOf, numberOf, postsStage, tracksStage}
+use Rattle.line.specs.Book.{trainsStage, routesStage}
 use Rattle.line.proofs.WellFormed.{high}
 
 -- a line is what its parts are

@@ -14,8 +14,8 @@ use Rattle.common.proofs.Check.{Refuses, none, stop, pass, refusal-is}
 use Rattle.line.specs.Refusal as number
 use Rattle.line.specs.Sorts.{Line, Passed, Stopped}
 use Rattle.line.specs.Line.{inRange, tracksInRange, routesOnLine}
-use Rattle.line.specs.Book.{byteAt, versionAt, trainsAt, named, postsOf, total}
-use Rattle.line.specs.Book.{stageOf, postsStage, tracksStage, trainsStage, routesStage}
+use Rattle.line.specs.Book.{byteAt, versionAt, trainsAt, named, postsOf, total, stageOf, postsStage, tracksStage}
+use Rattle.line.specs.Book.{trainsStage, routesStage}
 
 passes : {cs : List Check} (v : ℕ) → Refuses cs 0 → Passed v ≡ stageOf cs v
 unfolding unlessRefused

@@ -43,7 +43,8 @@ in-order a b c h = and-both (leb a b) (leb b c) (le-leb a b (h .0)) (le-leb b c 
 pub between-of : (a p e : ℕ) → between a p e ≡ true → Between a p e
 unfolding between
 between-of a p e h =
-    ⊎-elim (λ k. inl (ordered a p e k)) (λ k. inr (ordered e p a k)) (or-either (leb a p && leb p e) (leb e p && leb p a) h)
+    ⊎-elim (λ k. inl (ordered a p e k)) (λ k. inr (ordered e p a k))
+    (or-either (leb a p && leb p e) (leb e p && leb p a) h)
 
 pub of-between : (a p e : ℕ) → Between a p e → between a p e ≡ true
 unfolding between
@@ -103,7 +104,8 @@ module _ (r : Route) where
   unfolding postAfter
   post-travelled p b = by-cases (leb (r .start .0) (r .end .0))
       (λ up. let z = leb-true (r .start .0) (r .end .0) up in rw up (⊎-elim (λ k. omega arith) (λ k. omega arith) b))
-      (λ down. let z = leb-false (r .start .0) (r .end .0) down in rw down (⊎-elim (λ k. omega arith) (λ k. omega arith) b))
+      (λ down. let z = leb-false (r .start .0) (r .end .0) down in rw down
+      (⊎-elim (λ k. omega arith) (λ k. omega arith) b))
 
   -- one more of them leads to the next post
   pub post-next : (p : ℕ) → Between (r .start .0) p (r .end .0) → p ≢ r .end .0

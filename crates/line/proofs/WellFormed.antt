@@ -9,8 +9,8 @@ use borrow.Author.Tests.{ltb-true, leb-true, lt-ltb, le-ltb, le-leb, lt-leb}
 use Rattle.common.proofs.Tests.{and-left, and-right, and-both}
 use Rattle.common.proofs.Below.{all-below, below-all}
 use Rattle.line.specs.Sorts.{Line}
-use Rattle.line.specs.Line.{routeOf, tracksAt, inRange, wellFormed}
-use Rattle.line.specs.Line.{postsInRange, tracksInRange, trainsInRange, routesOnLine}
+use Rattle.line.specs.Line.{routeOf, tracksAt, inRange, wellFormed, postsInRange, tracksInRange, trainsInRange}
+use Rattle.line.specs.Line.{routesOnLine}
 use Rattle.line.specs.Route.{routeLength}
 
 pub record WellFormed (l : Line) : Type 0 where

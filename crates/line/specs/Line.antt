@@ -4,7 +4,7 @@ use Prim.Native.Nat.{ℕ}
 use lib.Dec.{leb, ltb}
 use lib.ListN.{getD}
 use Rattle.common.specs.Below.{allBelow}
-use Rattle.line.specs.Sorts.{PostNo, Route, Line}
+use Rattle.line.specs.Sorts.{Route, Line}
 
 abbrev pub noRoute : Route
 noRoute = record { start = record { 0 = 0 }; end = record { 0 = 0 } }

@@ -54,7 +54,8 @@ pub record Passed (s : State) (table : List ℕ) (journal : List Record) (frame 
   pub message : Taken s (readFrame frame)
 
 module _ (s : State) (table : List ℕ) (journal : List Record) (frame out : List ℕ) where
-  pub frame-passed : refusal (frameChecks s (length table) (length journal) frame (length out)) ≡ 0 → Passed s table journal frame out
+  pub frame-passed : refusal (frameChecks s (length table) (length journal) frame (length out)) ≡ 0
+      → Passed s table journal frame out
   frame-passed e =
       let check = passed-at (frameChecks s (length table) (length journal) frame (length out)) refl e in
       let stores = check 1 in
@@ -92,7 +93,8 @@ module _ (s : State) (table : List ℕ) (journal : List Record) (frame out : Lis
 
 -- what holds of the answer to a refused frame and of that to an accepted one holds of the answer
 pub by-verdict : (s : State) (table : List ℕ) (journal : List Record) (frame out : List ℕ) (P : Answer → Type 0)
-    → ((n : ℕ) → refusal (frameChecks s (length table) (length journal) frame (length out)) ≡ n → P (refused s journal out n))
+    → ((n : ℕ) → refusal (frameChecks s (length table) (length journal) frame (length out)) ≡ n
+    → P (refused s journal out n))
     → (Passed s table journal frame out → P (answered (s .logged) journal out (accepted table s (readFrame frame))))
     → P (answer s table journal frame out)
 unfolding answer

@@ -2,12 +2,12 @@
 -- Assumes nothing.
 use mathlib.Core.Path.{_≡_, refl, sym}
 use mathlib.Core.List.{List, [], _∷_, _++_, append-assoc, append-nil}
-use Prim.Native.Nat.{_*_, _≤_}
+use Prim.Native.Nat.{_*_}
 use native.Mathlib.Omega.{arith}
 use lib.ListN.{length, length-append}
 use Rattle.frame.specs.Frame.{bytesOf}
 use Rattle.rules.specs.Types.{Message, Fa, Fe, Afe, Am, Refused}
-use Rattle.rules.specs.Answer.{outLength, framesOf}
+use Rattle.rules.specs.Answer.{framesOf}
 
 pub bytes-length : (a : Message) → length (bytesOf a) ≡ 7
 unfolding bytesOf
@@ -21,10 +21,6 @@ pub frames-length : (l : List Message) → length (framesOf l) ≡ 7 * length l
 unfolding framesOf
 frames-length [] = refl
 frames-length (a ∷ l) = rw length-append (omega (arith, bytes-length a, frames-length l))
-
--- six frames fit
-pub frames-fit : (l : List Message) → length l ≤ 6 → length (framesOf l) ≤ outLength
-frames-fit l h = omega (arith, frames-length l)
 
 -- one frame more, at the end
 pub frames-added : (l : List Message) (a : Message) → framesOf (l ++ a ∷ []) ≡ framesOf l ++ bytesOf a

@@ -69,7 +69,11 @@ module _ (table : List ℕ) where
         let one : ofBool (isAsked (trainOf (w .state) t .status)) ≡ 1 = rw asks in
         let x = withStatus (trainOf (w .state) t) Running in
         let asking : Train → Bool = λ y. isAsked (y .status) in
-        omega (arith, changed-count (w .state) t x (w .state .logged + 1) asking (w .state .trains) (f .known) granted-place)
+        omega (
+          arith,
+          changed-count (w .state) t x (w .state .logged + 1) asking (w .state .trains)
+              (f .known) granted-place,
+        )
 
     pub granted-line : lineOf (granted w t .state) ≡ lineOf (w .state)
     granted-line = changed-line (w .state) t (withStatus (trainOf (w .state) t) Running) (w .state .logged + 1) refl

@@ -9,3 +9,4 @@ pub mod Settling
 pub mod Acceptance
 pub mod Frames
 pub mod Taking
+pub mod OpeningCases

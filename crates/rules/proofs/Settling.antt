@@ -60,7 +60,8 @@ settles-next table w v t k f = record {
       (k .post t) u (λ h. k .post u);
   answers = k .answers ++ Fe (nextMove (v .state) t) ∷ [];
   added =
-      ap (λ (l : List Message). l ++ Fe (nextMove (v .state) t) ∷ []) (k .added) ∙ append-assoc (w .logged) (k .answers) _;
+      ap (λ (l : List Message). l ++ Fe (nextMove (v .state) t) ∷ []) (k .added)
+      ∙ append-assoc (w .logged) (k .answers) _;
   messages = λ a h.
       ⊎-elim (k .messages a) (λ m. subst IsMessage (sym (List·Memᴰ·eq-of-singleton m)) (authority (v .state) t))
       (List·Memᴰ·append-cases (k .answers) h);

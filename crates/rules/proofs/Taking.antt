@@ -39,5 +39,6 @@ module _ (s : State) (table : List ℕ) (journal : List Record) (out : List ℕ)
       (pass (and-both _ _ (eq-eqb _ _ (q .from)) (eq-eqb _ _ (q .to)))
       (pass refl (pass refl (pass runs (pass (le-leb _ _ (q .space)) none))))))))))))
 
-  pub taken-accepted : (a : Message) → Taken s a → refusal (frameChecks s (length table) (length journal) (bytesOf a) (length out)) ≡ 0
+  pub taken-accepted : (a : Message) → Taken s a
+      → refusal (frameChecks s (length table) (length journal) (bytesOf a) (length out)) ≡ 0
   taken-accepted a t = refusal-is (passes a t)

@@ -1,4 +1,5 @@
--- The answer to a frame: the checks in order, what an accepted frame does, and what is left in state, journal and out buffer.
+-- The answer to a frame: the checks in order, what an accepted frame does, and what is left in state, journal and out
+-- buffer.
 use mathlib.Core.Bool.{Bool, true, false, not, cond, _&&_, _||_}
 use mathlib.Core.List.{List, [], _∷_, _++_, map}
 use Prim.Native.Nat.{ℕ, _+_}
@@ -88,7 +89,9 @@ declined m w = cond (isAsked (trainOf (w .state) (m .train .0) .status)) (log (w
 
 unfoldable pub accepted : List ℕ → State → Message → Work
 -- "FA: the train becomes Asked. Then the oldest Asked train .. that can be granted"
-accepted table s (Fa m) = declined m (settled table (taken s (Fa m) (withStatus (trainOf s (m .train .0)) (Asked (s .logged)))))
+accepted table s (Fa m) =
+    let asked = withStatus (trainOf s (m .train .0)) (Asked (s .logged)) in
+    declined m (settled table (taken s (Fa m) asked))
 -- "AM: the train becomes Free at the post it ran to. Then the same granting."
 accepted table s (Am m) = settled table (taken s (Am m) (arrivedNext (trainOf s (m .train .0))))
 accepted table s (Fe m) = record { state = s; logged = [] }

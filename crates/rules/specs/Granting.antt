@@ -1,5 +1,5 @@
--- Who can be granted, and the granting: "the oldest Asked train (lowest FA number) that can be granted becomes Running and an FE is written; again
--- from the oldest, until none can be granted."
+-- Who can be granted, and the granting: "the oldest Asked train (lowest FA number) that can be granted becomes Running
+-- and an FE is written; again from the oldest, until none can be granted."
 use mathlib.Core.Bool.{Bool, cond, _&&_}
 use mathlib.Core.Option.{Option, none, some}
 use mathlib.Core.List.{List, [], _∷_, _++_}
@@ -14,8 +14,9 @@ use Rattle.rules.specs.Types.{Message, Fe, Running, State}
 use Rattle.rules.specs.State.{isAsked, askedAs, nextOf, trainOf, located, reached, nextMove, withStatus}
 use Rattle.rules.specs.State.{withTrain, oneLogged}
 
--- "A train can be granted if it is Asked, its next section is unheld, its next post is held by fewer trains than tracks, and the table has the bit
--- for the placing in which every Running train, and this one, has reached its next post."
+-- "A train can be granted if it is Asked, its next section is unheld, its next post is held by fewer trains than
+-- tracks, and the table has the bit for the placing in which every Running train, and this one, has reached its next
+-- post."
 unfoldable pub grantable : List ℕ → State → ℕ → Bool
 grantable table s t =
     let x = trainOf s t in

@@ -1,4 +1,5 @@
--- The opening of a book: "Opening gives every train Free at its start, count 0, those places all 0 and Free, and the journal's records untouched."
+-- The opening of a book: "Opening gives every train Free at its start, count 0, those places all 0 and Free, and the
+-- journal's records untouched."
 use mathlib.Core.Bool.{cond, _&&_}
 use mathlib.Core.List.{List, [], _∷_, _++_}
 use Prim.Native.Nat.{ℕ}
@@ -31,7 +32,13 @@ fresh r = record { route = r; at = r .start; status = Free }
 
 -- "every train Free at its start, count 0"; where a line has 0, the state has
 abbrev pub openedState : Line → State
-openedState l = record { posts = l .posts; tracks = l .tracks; trains = l .trains; fleet = tabulate 6 (λ t. fresh (routeOf l t)); logged = 0 }
+openedState l = record {
+  posts = l .posts;
+  tracks = l .tracks;
+  trains = l .trains;
+  fleet = tabulate 6 (λ t. fresh (routeOf l t));
+  logged = 0;
+}
 
 -- "an empty state that is not sound (all 0 and Free ..)"
 abbrev pub emptyState : State
@@ -51,7 +58,11 @@ openingOf o table = record { state = o .state; number = o .refusal; table = tabl
 
 -- "a refused book .. returns an empty state .., and 20 leaves the table filled"
 abbrev pub refusedBook : Line → List ℕ → ℕ → Opening
-refusedBook l table n = record { state = emptyState; number = n; table = cond (eqb n noWayThrough) (filled l table) table }
+refusedBook l table n = record {
+  state = emptyState;
+  number = n;
+  table = cond (eqb n noWayThrough) (filled l table) table;
+}
 
 -- with a journal of so many records, which is untouched
 unfoldable pub openingWith : List ℕ → List ℕ → ℕ → Opening

@@ -42,8 +42,8 @@ atEnd x = eqb (x .at .0) (x .route .end .0)
 abbrev pub nextOf : Train → ℕ
 nextOf x = nextPost (x .at .0) (x .route .end .0)
 
--- "A Running train, from its present post p to q, holds the section between them and a track at each of p and q. .. Another train holds a track
--- at its present post."
+-- "A Running train, from its present post p to q, holds the section between them and a track at each of p and q. ..
+-- Another train holds a track at its present post."
 abbrev pub locatedBy : Status → ℕ → ℕ → Whereabouts
 locatedBy Free p q = at p
 locatedBy (Asked n) p q = at p
@@ -91,8 +91,20 @@ arrivedNext x = record { route = x .route; at = record { 0 = nextOf x }; status 
 
 -- x as train t's record
 abbrev pub withTrain : State → ℕ → Train → State
-withTrain s t x = record { posts = s .posts; tracks = s .tracks; trains = s .trains; fleet = set (s .fleet) t x; logged = s .logged }
+withTrain s t x = record {
+  posts = s .posts;
+  tracks = s .tracks;
+  trains = s .trains;
+  fleet = set (s .fleet) t x;
+  logged = s .logged;
+}
 
 -- one record more in the journal
 abbrev pub oneLogged : State → State
-oneLogged s = record { posts = s .posts; tracks = s .tracks; trains = s .trains; fleet = s .fleet; logged = s .logged + 1 }
+oneLogged s = record {
+  posts = s .posts;
+  tracks = s .tracks;
+  trains = s .trains;
+  fleet = s .fleet;
+  logged = s .logged + 1;
+}

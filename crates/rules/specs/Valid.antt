@@ -15,7 +15,8 @@ use Rattle.rules.specs.State.{isFree, atEnd, trainOf, lineOf, located}
 abbrev pub trainValid : Train → Bool
 trainValid x = between (x .route .start .0) (x .at .0) (x .route .end .0) && (isFree (x .status) || not (atEnd x))
 
--- "sections and tracks are held as above": "No section has two holders. .. The number of trains that hold a post is never above its tracks."
+-- "sections and tracks are held as above": "No section has two holders. .. The number of trains that hold a post is
+-- never above its tracks."
 abbrev pub sectionsValid : State → Bool
 sectionsValid s = allBelow (s .posts) (λ i. leb (sectionHolders (s .trains) (located s) i) 1)
 
@@ -37,10 +38,11 @@ sameNumber Running v = false
 
 abbrev pub numberValid : State → ℕ → Bool
 numberValid s t =
-    numberBelow (trainOf s t .status) (s .logged) && allBelow t (λ u. not (sameNumber (trainOf s t .status) (trainOf s u .status)))
+    numberBelow (trainOf s t .status) (s .logged)
+    && allBelow t (λ u. not (sameNumber (trainOf s t .status) (trainOf s u .status)))
 
--- "A state is sound if P, T, the track counts and any other number kept are in their ranges and, for trains below T, starts and ends are below P",
--- then as above, and "the journal count is at most 176"
+-- "A state is sound if P, T, the track counts and any other number kept are in their ranges and, for trains below T,
+-- starts and ends are below P", then as above, and "the journal count is at most 176"
 unfoldable pub valid : State → Bool
 valid s =
     wellFormed (lineOf s)

@@ -31,7 +31,8 @@ module _ (u : Unit) (b : Button) where
       module _ (short : u .at .0 ≢ u .route .end .0) where
         carried-out : carriedOut u b ≡ pressButton u b
         unfolding pressButton
-        carried-out = accepted-by (carriedOut u b) (silent u) (pass good (pass fits (pass (rw (ne-eqb _ _ short)) none)))
+        carried-out = accepted-by (carriedOut u b) (silent u)
+            (pass good (pass fits (pass (rw (ne-eqb _ _ short)) none)))
 
         pub ask : b ≡ Ask → (v : Unit) (m : Move) → v ≡ inPhase u Asked → m ≡ ownMove u
             → sending v (Fa m) ≡ pressButton u b

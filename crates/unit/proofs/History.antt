@@ -11,16 +11,15 @@ use Rattle.common.specs.Check.{refusal, unlessRefused}
 use Rattle.frame.specs.Frame.{readFrame, bytesOf}
 use Rattle.frame.specs.RoundTrip.{IsMessage}
 use Rattle.frame.proofs.RoundTrip.{round-trip}
-use Rattle.unit.specs.Types.{Move, Message, Fa, Fe, Afe, Am, Unit, Pressed, Heard}
-use Rattle.unit.specs.Types.{Phase, Standing, Asked, Declined, Granted, UnderWay, Arrived}
-use Rattle.unit.specs.Types.{Button, Ask, Depart, Reached, Report}
+use Rattle.unit.specs.Types.{Move, Message, Fa, Fe, Afe, Am, Unit, Pressed, Heard, Phase, Standing, Asked}
+use Rattle.unit.specs.Types.{Declined, Granted, UnderWay, Arrived, Button, Ask, Depart, Reached, Report}
 use Rattle.unit.specs.State.{ownMove, inPhase, validUnit}
 use Rattle.unit.specs.Making.{makeUnit}
 use Rattle.unit.specs.Pressing.{phaseFor, carriedOut, movedOn}
 use Rattle.unit.specs.Hearing.{answered}
-use Rattle.unit.specs.History.{Input, press, frame, exchange, ofPress, ofFrame, after, run}
-use Rattle.unit.specs.History.{Event, fa, fe, am, other, acceptedEvent, heardEvent, eventOf, reported, place}
-use Rattle.unit.specs.History.{Onward, Requested, Authorised, History}
+use Rattle.unit.specs.History.{Input, press, frame, exchange, ofPress, ofFrame, after, run, Event, fa, fe, am}
+use Rattle.unit.specs.History.{other, acceptedEvent, heardEvent, eventOf, reported, place, Onward, Requested}
+use Rattle.unit.specs.History.{Authorised, History}
 use Rattle.unit.proofs.Validity.{carried-out-valid, heard-valid, fits-made, made-standing, standing-unit-valid}
 use Rattle.unit.proofs.Outcomes as outcomes
 use Rattle.unit.proofs.Events.{with, place-with}

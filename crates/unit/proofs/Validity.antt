@@ -10,8 +10,8 @@ use native.Mathlib.Omega.{arith}
 use borrow.Author.Tests.{eq-eqb, ne-eqb}
 use Rattle.common.proofs.Tests.{by-cases, by-equality, and-left, and-right}
 use Rattle.line.proofs.Travel.{between-of, of-between, start-between, next-between}
-use Rattle.unit.specs.Types.{Phase, Standing, Asked, Declined, Granted, UnderWay, Arrived}
-use Rattle.unit.specs.Types.{Button, Ask, Depart, Reached, Report, Unit, Made, Pressed, Heard}
+use Rattle.unit.specs.Types.{Phase, Standing, Asked, Declined, Granted, UnderWay, Arrived, Button, Ask, Depart}
+use Rattle.unit.specs.Types.{Reached, Report, Unit, Made, Pressed, Heard}
 use Rattle.unit.specs.State.{samePhase, numbersFit, inRanges, onRoute, inPhase, validUnit}
 use Rattle.unit.specs.Making.{standingUnit, emptyUnit, made, makeUnit}
 use Rattle.unit.specs.Pressing.{movedOn, carriedOut}

@@ -25,7 +25,8 @@ returns-2 : tie.Need-returns-2
 returns-2 c = search needs
 
 returns-3 : tie.Need-returns-3
-returns-3 c = c .lower .ensures ∙ elder-late _ _ _ _ _ (c .before .before .before .status .given .1) (c .before .if1 .left)
+returns-3 c = c .lower .ensures ∙ elder-late _ _ _ _ _ (c .before .before .before .status .given .1)
+    (c .before .if1 .left)
 
 returns-4 : tie.Need-returns-4
 returns-4 c = search needs

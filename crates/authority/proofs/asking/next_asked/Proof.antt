@@ -33,8 +33,11 @@ loop-less c = omega arith
 
 loop-again : tie.Need-loop-again Inv-loop μ-loop
 loop-again c =
-    let at = c .before .before .before .before in
-    (omega arith, rw (c .elder .ensures, add-one) (next-more (at .before .args .state) (at .before .args .from) (at .loop .t) _ _ (sym (c .before .status-of .ensures)) (at .loop .inv .1)))
+    let at = c .before .before .before .before in (
+      omega arith,
+      rw (c .elder .ensures, add-one) (next-more (at .before .args .state) (at .before .args .from)
+          (at .loop .t) _ _ (sym (c .before .status-of .ensures)) (at .loop .inv .1)),
+    )
 
 returns : tie.Need-returns Inv-loop μ-loop
 returns c =

@@ -50,7 +50,8 @@ section-free-requires c κs = few-trains _ (from (c .before .before) .pre .0)
 returns-2 : tie.Need-returns-2
 returns-2 c =
     let e = c .before .before .before .before in
-    section-held _ _ _ (asks e) _ (c .before .before .before .next-move .ensures) _ (c .before .before .section .ensures)
+    section-held _ _ _ (asks e) _ (c .before .before .before .next-move .ensures) _
+    (c .before .before .section .ensures)
     (sym (c .before .section-free .ensures) ∙ not-true _ (c .if2 .taken))
 
 -- its next section is free
@@ -58,7 +59,8 @@ module _ (c : tie.Else2) where
   abbrev asked : tie.Else1
   asked = c .before .before .before .before
 
-  free : eqb (sectionHolders (from asked .args .state .trains) (located (from asked .args .state)) (c .before .before .section .result .0)) 0 ≡ true
+  free : eqb (sectionHolders (from asked .args .state .trains) (located (from asked .args .state))
+      (c .before .before .section .result .0)) 0 ≡ true
   free = sym (c .before .section-free .ensures) ∙ not-false _ (c .if2 .left)
 
 post-free-requires : tie.Need-post-free-requires
@@ -67,7 +69,8 @@ post-free-requires c κs = few-trains _ (from (asked c) .pre .0)
 returns-3 : tie.Need-returns-3
 returns-3 c =
     let e = c .before .before in
-    post-full _ _ _ (asks (asked e)) _ (e .before .before .before .next-move .ensures) _ (e .before .before .section .ensures) (free e)
+    post-full _ _ _ (asks (asked e)) _ (e .before .before .before .next-move .ensures) _
+    (e .before .before .section .ensures) (free e)
     (sym (c .before .post-free .ensures) ∙ not-true _ (c .if3 .taken))
 
 reached-with-requires : tie.Need-reached-with-requires
@@ -86,7 +89,8 @@ returns-4 c =
     let code = c .before .code .ensures
     ∙ padded-code _ _ _ (few-trains _ (from (asked e) .pre .0)) (c .before .before .reached-with .ensures) in
     c .bit .ensures
-    ∙ bit-decides _ _ _ (asks (asked e)) _ (e .before .before .before .next-move .ensures) _ (e .before .before .section .ensures) (free e)
+    ∙ bit-decides _ _ _ (asks (asked e)) _ (e .before .before .before .next-move .ensures) _
+    (e .before .before .section .ensures) (free e)
     (sym (room .before .post-free .ensures) ∙ not-false _ (room .if3 .left)) _ code
 
 pub grantable-spec : {M : Type 1} → statement M

@@ -1,4 +1,5 @@
--- `reached_with` meets its contract. The loop's invariant: the posts of the trains passed are stored, and 0 stands at the other places.
+-- `reached_with` meets its contract. The loop's invariant: the posts of the trains passed are stored, and 0 stands at
+-- the other places.
 -- Assumes nothing.
 use mathlib.Core.Path.{_≡_}
 use Prim.Native.Nat.{_≤_, _-_}
@@ -12,7 +13,8 @@ use Rattle.authority.proofs.grantable.reached_with.Statement.{statement
 use Rattle.authority.proofs.grantable.reached_with.Tie as tie
 
 abbrev Inv-loop : tie.InvT-loop
-Inv-loop state t travelled₀ u₀ travelled u = (u ≤ state .trains) × (travelled ≡ padded 6 u (moved (reached state) (t .0)) 0)
+Inv-loop state t travelled₀ u₀ travelled u = (u ≤ state .trains)
+    × (travelled ≡ padded 6 u (moved (reached state) (t .0)) 0)
 
 abbrev μ-loop : tie.MeasureT-loop
 μ-loop state t travelled₀ u₀ travelled u = state .trains - u

@@ -25,7 +25,12 @@ module _ (c : tie.After-reached) where
 add-result : tie.Need-add-result
 add-result c =
     let r = c .before .before .before in
-    omega (arith, r .reached .ensures, few-reached _ (start r .pre .0) _ (start r .pre .1) _ (r .before .train-of .ensures))
+    omega (
+      arith,
+      r .reached .ensures,
+      few-reached _ (start r .pre .0) _ (start r .pre .1) _
+          (r .before .train-of .ensures),
+    )
 
 returns : tie.Need-returns
 returns c = let r = c .before .before .before in travelled-own (start r .args .state) _ _ _ (posts r) (c .if1 .taken)

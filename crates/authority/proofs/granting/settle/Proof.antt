@@ -1,5 +1,5 @@
--- `settle` meets its contract. Outer loop: the work is one that ends as the work it began with, and each turn has one Asked train fewer. Inner
--- loop: nothing is changed, and nobody whose request has a number below `from` can be granted.
+-- `settle` meets its contract. Outer loop: the work is one that ends as the work it began with, and each turn has one
+-- Asked train fewer. Inner loop: nothing is changed, and nobody whose request has a number below `from` can be granted.
 -- Assumes nothing.
 use mathlib.Core.Path.{_≡_, refl, sym, ap, subst, _∙_}
 use mathlib.Core.Bool.{true}
@@ -67,7 +67,8 @@ module _ (c : tie.At-loop Inv-loop μ-loop Inv-again μ-again) where
   begun =
       working-start table (start .args .state) (start .args .message) _ (start .pre .0) (start .pre .1)
       (c .before .before .logged .ensures
-      ∙ ap (λ (b : Batch). progressWith (start .args .state) b (start .args .message)) (c .before .before .before .empty .ensures))
+      ∙ ap (λ (b : Batch). progressWith (start .args .state) b (start .args .message))
+      (c .before .before .before .empty .ensures))
 
   -- the inner loop has changed nothing
   kept : (w : Work) → Working table w (c .before .before .logged .result) → Working table w (c .loop .work)
@@ -91,7 +92,8 @@ enum-told c = search needs
 returns : tie.Need-returns Inv-loop μ-loop Inv-again μ-again
 returns c =
     let at = c .before .before .before .before in
-    let none = subst (λ (a : Asker). NextAsked (state at) (at .loop .from) (state at .trains) a) (c .enum-told .given .1) (c .before .before .next-asked .ensures) in
+    let none = subst (λ (a : Asker). NextAsked (state at) (at .loop .from) (state at .trains) a)
+    (c .enum-told .given .1) (c .before .before .next-asked .ensures) in
     working-end (table at) (first at) _ (on at) (tried-all (table at) (state at) _ (at .loop .inv .1) none)
 
 -- the next Asked train, and the number of its request
@@ -107,7 +109,8 @@ module _ (c : tie.After-known-told Inv-loop μ-loop Inv-again μ-again) where
 
   next : Next (state at) (at .loop .from) t number
   next = next-found (state at) (at .loop .from) t number
-      (subst (λ (a : Asker). NextAsked (state at) (at .loop .from) (state at .trains) a) (c .before .t .given .1) (c .before .before .before .next-asked .ensures))
+      (subst (λ (a : Asker). NextAsked (state at) (at .loop .from) (state at .trains) a) (c .before .t .given .1)
+      (c .before .before .before .next-asked .ensures))
 
 grantable-requires : tie.Need-grantable-requires Inv-loop μ-loop Inv-again μ-again
 grantable-requires c κs = (valid-state (at c), next c .known)
@@ -143,13 +146,18 @@ add-from : tie.Need-add-from Inv-loop μ-loop Inv-again μ-again
 add-from c = let n = c .before .before in omega (arith, next-small (state (at n)) _ _ _ (valid-state (at n)) (next n))
 
 loop-less : tie.Need-loop-less Inv-loop μ-loop Inv-again μ-again
-loop-less c = let n = c .before .before in omega (arith, next-small (state (at n)) _ _ _ (valid-state (at n)) (next n), next n .low)
+loop-less c = let n = c .before .before in omega (
+  arith,
+  next-small (state (at n)) _ _ _ (valid-state (at n)) (next n),
+  next n .low,
+)
 
 loop-again : tie.Need-loop-again Inv-loop μ-loop Inv-again μ-again
 loop-again c =
     let n = c .before .before in (
       at n .loop .inv .0,
-      tried-more (table (at n)) (state (at n)) _ (at n .loop .inv .1) _ _ (next n) (valid-state (at n)) (sym (c .before .grantable .ensures) ∙ c .if1 .left),
+      tried-more (table (at n)) (state (at n)) _ (at n .loop .inv .1) _ _ (next n) (valid-state (at n))
+          (sym (c .before .grantable .ensures) ∙ c .if1 .left),
     )
 
 pub settle-spec : {M : Type 1} → statement M

@@ -27,7 +27,11 @@ returns-3 : tie.Need-returns-3
 returns-3 c = simp (c .before .before .before .enum-told3 .given .1, eq-eqb _ _ (c .if1 .taken))
 
 returns-4 : tie.Need-returns-4
-returns-4 c = simp (c .before .before .before .before .before .before .enum-told3 .given .1, ne-eqb _ _ (c .before .before .before .if1 .left), c .before .before .next-post .ensures)
+returns-4 c = simp (
+  c .before .before .before .before .before .before .enum-told3 .given .1,
+  ne-eqb _ _ (c .before .before .before .if1 .left),
+  c .before .before .next-post .ensures,
+)
 
 pub holds-post-spec : {M : Type 1} → statement M
 holds-post-spec =

@@ -29,7 +29,8 @@ returns-2 c = search needs
 returns-3 : tie.Need-returns-3
 returns-3 c =
     let told = c .before .before .before .before in
-    running-section (told .before .before .args .train) _ _ _ (told .enum-told3 .given .1) (c .before .before .before .next-post .ensures) (c .before .before .section .ensures)
+    running-section (told .before .before .args .train) _ _ _ (told .enum-told3 .given .1)
+    (c .before .before .before .next-post .ensures) (c .before .before .section .ensures)
 
 pub holds-section-spec : {M : Type 1} → statement M
 holds-section-spec =

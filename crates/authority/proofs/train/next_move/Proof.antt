@@ -12,7 +12,8 @@ next-post-requires : tie.Need-next-post-requires
 next-post-requires c κs = search needs
 
 returns : tie.Need-returns
-returns c = move-next (c .before .before .before .args .state) _ _ _ (c .before .before .train-of .ensures) (c .next-post .ensures)
+returns c = move-next (c .before .before .before .args .state) _ _ _ (c .before .before .train-of .ensures)
+    (c .next-post .ensures)
 
 pub next-move-spec : {M : Type 1} → statement M
 next-move-spec =

@@ -29,7 +29,8 @@ number-below-requires c κs = search needs
 returns : tie.Need-returns Inv-loop μ-loop
 returns c =
     let a = c .before .before .before .args in
-    number-late (a .state) (a .t .0) _ (c .before .before .status-of .ensures) (sym (c .before .number-below .ensures) ∙ not-true _ (c .if1 .taken))
+    number-late (a .state) (a .t .0) _ (c .before .before .status-of .ensures) (sym (c .before .number-below .ensures)
+    ∙ not-true _ (c .if1 .taken))
 
 loop-holds : tie.Need-loop-holds Inv-loop μ-loop
 loop-holds c = passing-none _ _
@@ -53,8 +54,10 @@ module _ (c : tie.After-same-number Inv-loop μ-loop) where
   abbrev status : Status
   status = here .before .before .before .status-of .result
 
-  tested : not (sameNumber status (trainOf (here .before .before .before .before .args .state) (here .loop .u) .status)) ≡ not (c .same-number .result)
-  tested = ap (λ (w : Status). not (sameNumber status w)) (sym (c .before .status-of2 .ensures)) ∙ ap not (sym (c .same-number .ensures))
+  tested : not (sameNumber status (trainOf (here .before .before .before .before .args .state)
+      (here .loop .u) .status)) ≡ not (c .same-number .result)
+  tested = ap (λ (w : Status). not (sameNumber status w)) (sym (c .before .status-of2 .ensures))
+      ∙ ap not (sym (c .same-number .ensures))
 
 returns-2 : tie.Need-returns-2 Inv-loop μ-loop
 returns-2 c =
@@ -76,7 +79,8 @@ returns-3 : tie.Need-returns-3 Inv-loop μ-loop
 returns-3 c =
     let at = c .before .before in
     let a = at .before .before .before .before .args in
-    number-decides (a .state) (a .t .0) _ (at .before .before .before .status-of .ensures) (below (at .before)) _ (passing-all (at .loop .inv) (omega arith))
+    number-decides (a .state) (a .t .0) _ (at .before .before .before .status-of .ensures) (below (at .before)) _
+    (passing-all (at .loop .inv) (omega arith))
 
 pub number-valid-spec : {M : Type 1} → statement M
 number-valid-spec =

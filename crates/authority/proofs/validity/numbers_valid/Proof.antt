@@ -22,7 +22,8 @@ number-valid-requires : tie.Need-number-valid-requires Inv-loop μ-loop
 number-valid-requires c κs = omega arith
 
 returns : tie.Need-returns Inv-loop μ-loop
-returns c = passing-fails (c .before .before .before .before .loop .inv) (omega arith) (sym (c .before .number-valid .ensures) ∙ not-true _ (c .if2 .taken))
+returns c = passing-fails (c .before .before .before .before .loop .inv) (omega arith)
+    (sym (c .before .number-valid .ensures) ∙ not-true _ (c .if2 .taken))
 
 add-t : tie.Need-add-t Inv-loop μ-loop
 add-t c = omega arith
@@ -31,7 +32,8 @@ loop-less : tie.Need-loop-less Inv-loop μ-loop
 loop-less c = omega arith
 
 loop-again : tie.Need-loop-again Inv-loop μ-loop
-loop-again c = passing-more (c .before .before .before .before .loop .inv) (omega arith) (sym (c .before .number-valid .ensures) ∙ not-false _ (c .if2 .left))
+loop-again c = passing-more (c .before .before .before .before .loop .inv) (omega arith)
+    (sym (c .before .number-valid .ensures) ∙ not-false _ (c .if2 .left))
 
 returns-2 : tie.Need-returns-2 Inv-loop μ-loop
 returns-2 c = passing-all (c .before .before .loop .inv) (omega arith)

@@ -13,7 +13,8 @@ use Rattle.authority.proofs.validity.posts_valid.Statement.{statement}
 use Rattle.authority.proofs.validity.posts_valid.Tie as tie
 
 abbrev Inv-loop : tie.InvT-loop
-Inv-loop state p₀ p = Passing (state .posts) (λ q. leb (postHolders (state .trains) (located state) q) (getD (state .tracks) q 0)) p
+Inv-loop state p₀ p = Passing (state .posts)
+    (λ q. leb (postHolders (state .trains) (located state) q) (getD (state .tracks) q 0)) p
 
 abbrev μ-loop : tie.MeasureT-loop
 μ-loop state p₀ p = state .posts - p

@@ -25,7 +25,8 @@ section-holders-requires : tie.Need-section-holders-requires Inv-loop μ-loop
 section-holders-requires c κs = search needs
 
 returns : tie.Need-returns Inv-loop μ-loop
-returns c = passing-fails (c .before .before .before .before .loop .inv) (omega arith) (too-many _ _ (c .before .section-holders .ensures) refl (c .if2 .taken))
+returns c = passing-fails (c .before .before .before .before .loop .inv) (omega arith)
+    (too-many _ _ (c .before .section-holders .ensures) refl (c .if2 .taken))
 
 add-i : tie.Need-add-i Inv-loop μ-loop
 add-i c = omega arith
@@ -34,7 +35,8 @@ loop-less : tie.Need-loop-less Inv-loop μ-loop
 loop-less c = omega arith
 
 loop-again : tie.Need-loop-again Inv-loop μ-loop
-loop-again c = passing-more (c .before .before .before .before .loop .inv) (omega arith) (few-enough _ _ (c .before .section-holders .ensures) refl (c .if2 .left))
+loop-again c = passing-more (c .before .before .before .before .loop .inv) (omega arith)
+    (few-enough _ _ (c .before .section-holders .ensures) refl (c .if2 .left))
 
 returns-2 : tie.Need-returns-2 Inv-loop μ-loop
 returns-2 c = passing-all (c .before .before .loop .inv) (omega arith)

@@ -45,7 +45,8 @@ loop-less : tie.Need-loop-less Inv-loop μ-loop
 loop-less c = omega arith
 
 loop-again : tie.Need-loop-again Inv-loop μ-loop
-loop-again c = passing-more (here (c .before) .loop .inv) (omega arith) (tested (c .before) ∙ not-false _ (c .if2 .left))
+loop-again c = passing-more (here (c .before) .loop .inv) (omega arith)
+    (tested (c .before) ∙ not-false _ (c .if2 .left))
 
 returns-2 : tie.Need-returns-2 Inv-loop μ-loop
 returns-2 c = passing-all (c .before .before .loop .inv) (omega arith)

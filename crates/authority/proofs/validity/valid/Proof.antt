@@ -44,7 +44,8 @@ trains-valid-requires : tie.Need-trains-valid-requires
 trains-valid-requires c κs = few c
 
 returns-2 : tie.Need-returns-2
-returns-2 c = let e = c .before .before in trains-fail (given e) (line e) (sym (c .before .trains-valid .ensures) ∙ not-true _ (c .if2 .taken))
+returns-2 c = let e = c .before .before in trains-fail (given e) (line e) (sym (c .before .trains-valid .ensures)
+    ∙ not-true _ (c .if2 .taken))
 
 -- and so are the trains' records
 module _ (c : tie.Else2) where
@@ -60,7 +61,8 @@ sections-valid-requires c κs = few (one c)
 returns-3 : tie.Need-returns-3
 returns-3 c =
     let e = c .before .before in
-    sections-fail (given (one e)) (line (one e)) (trains e) (sym (c .before .sections-valid .ensures) ∙ not-true _ (c .if3 .taken))
+    sections-fail (given (one e)) (line (one e)) (trains e) (sym (c .before .sections-valid .ensures)
+    ∙ not-true _ (c .if3 .taken))
 
 -- the sections
 module _ (c : tie.Else3) where
@@ -104,7 +106,8 @@ returns-6 c =
     let e = c .before .before .before in
     let t = three e in
     c .numbers-valid .ensures
-    ∙ numbers-decide (given (one (two t))) (line (one (two t))) (trains (two t)) (sections t) (posts e) (c .before .if5 .left)
+    ∙ numbers-decide (given (one (two t))) (line (one (two t))) (trains (two t)) (sections t) (posts e)
+    (c .before .if5 .left)
 
 pub valid-spec : {M : Type 1} → statement M
 valid-spec =

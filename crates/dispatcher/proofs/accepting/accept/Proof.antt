@@ -14,7 +14,8 @@ enum-known-message : tie.Need-enum-known-message
 enum-known-message c = search needs
 
 request-requires : tie.Need-request-requires
-request-requires c κs = let start = c .before .before .before .before in subst (λ (a : Message). Acceptable (start .args .state) a) (c .before .message .given .1) (start .pre)
+request-requires c κs = let start = c .before .before .before .before in subst
+    (λ (a : Message). Acceptable (start .args .state) a) (c .before .message .given .1) (start .pre)
 
 enum-told : tie.Need-enum-told
 enum-told c = search needs
@@ -32,7 +33,8 @@ enum-known-message-2 : tie.Need-enum-known-message-2
 enum-known-message-2 c = search needs
 
 arrival-requires : tie.Need-arrival-requires
-arrival-requires c κs = let start = c .before .before .before .before in subst (λ (a : Message). Acceptable (start .args .state) a) (c .before .message2 .given .1) (start .pre)
+arrival-requires c κs = let start = c .before .before .before .before in subst
+    (λ (a : Message). Acceptable (start .args .state) a) (c .before .message2 .given .1) (start .pre)
 
 enum-told-3 : tie.Need-enum-told-3
 enum-told-3 c = search needs
@@ -42,11 +44,13 @@ untouched-requires-3 c κs = search needs
 
 -- what holds of the message that was told holds of the one that was handed in
 module _ (start : tie.Start) where
-  same : {a b : Message} → a ≡ b → progressOf (accepted (now (start .args .table)) (start .args .state) b) ≡ progressOf (accepted (now (start .args .table)) (start .args .state) a)
+  same : {a b : Message} → a ≡ b → progressOf (accepted (now (start .args .table)) (start .args .state) b) ≡ progressOf
+      (accepted (now (start .args .table)) (start .args .state) a)
   same e = ap (λ (a : Message). progressOf (accepted (now (start .args .table)) (start .args .state) a)) (sym e)
 
 returns : tie.Need-returns
-returns c = c .request .ensures ∙ same (c .before .before .before .before .before) (c .before .before .message .given .1)
+returns c = c .request .ensures ∙ same (c .before .before .before .before .before)
+    (c .before .before .message .given .1)
 
 returns-2 : tie.Need-returns-2
 unfolding accepted
@@ -57,7 +61,8 @@ unfolding accepted
 returns-3 c = c .untouched2 .ensures ∙ same (c .before .before .before .before) (c .before .enum-told2 .given .1)
 
 returns-4 : tie.Need-returns-4
-returns-4 c = c .arrival .ensures ∙ same (c .before .before .before .before .before) (c .before .before .message2 .given .1)
+returns-4 c = c .arrival .ensures ∙ same (c .before .before .before .before .before)
+    (c .before .before .message2 .given .1)
 
 returns-5 : tie.Need-returns-5
 unfolding accepted

@@ -26,7 +26,8 @@ module _ (c : tie.After-is-asked) where
   tested = ap (λ (w : Status). isAsked w) (sym (c .before .status-of .ensures)) ∙ sym (c .is-asked .ensures)
 
 returns : tie.Need-returns
-returns c = λ w held. c .logged .ensures ∙ declined-asker _ w _ held (tested (c .before .before) ∙ c .before .if1 .taken)
+returns c = λ w held. c .logged .ensures
+    ∙ declined-asker _ w _ held (tested (c .before .before) ∙ c .before .if1 .taken)
 
 returns-2 : tie.Need-returns-2
 returns-2 c = λ w held. granted-asker _ w _ held (tested (c .before) ∙ c .if1 .left)

@@ -1,19 +1,16 @@
--- `request` meets its contract: the train's record is changed as the definition has it, and then the granting is its own.
+-- `request` meets its contract: the train's new record is the definition's, then the granting is, and then its AFE.
 -- Assumes nothing.
 use mathlib.Core.Path.{_≡_, ap, subst⁻¹, _∙_}
-use mathlib.Core.Bool.{true}
-use mathlib.Core.List.{[]}
-use Prim.Native.Nat.{_+_, _≤_}
+use Prim.Native.Nat.{_≤_}
 use denote.Ref.{now}
 use borrow.Author.Needs.{needs}
 use Rattle.journal.specs.Journal.{journalLength}
-use Rattle.dispatcher.specs.Types.{Move, Fa, Asked, Train, State, Progress}
-use Rattle.rules.specs.State.{trainOf, withStatus, withTrain, oneLogged}
-use Rattle.rules.specs.Valid.{valid}
-use Rattle.rules.specs.Granting.{log, settled}
-use Rattle.rules.specs.Answer.{mostLogged, taken, accepted}
+use Rattle.dispatcher.specs.Types.{Fa, Asked, Train, Progress}
+use Rattle.rules.specs.State.{trainOf, withStatus}
+use Rattle.rules.specs.Granting.{settled}
+use Rattle.rules.specs.Answer.{taken, accepted}
 use Rattle.authority.specs.Progress.{progressOf}
-use Rattle.dispatcher.proofs.Declining.{ready-train, ready-logged}
+use Rattle.dispatcher.proofs.Declining.{ready-train, ready-take, taken-with, ready-logged}
 use Rattle.dispatcher.proofs.accepting.request.Statement.{statement}
 use Rattle.dispatcher.proofs.accepting.request.Tie as tie
 
@@ -23,60 +20,48 @@ train-of-requires c κs = let a = c .before .args in ready-train (a .state) (Fa 
 with-status-requires : tie.Need-with-status-requires
 with-status-requires c κs = search needs
 
-with-train-requires : tie.Need-with-train-requires
-with-train-requires c κs = let a = c .before .before .before .args in ready-train (a .state) (Fa (a .m)) _ (c .before .before .before .pre)
+-- the train's new record
+abbrev asked : tie.Start → Train
+asked s = withStatus (trainOf (s .args .state) (s .args .m .train .0)) (Asked (s .args .state .logged))
 
--- the state with the train's new record
-module _ (c : tie.After-with-train) where
+record-made : (c : tie.After-with-status) → c .with-status .result ≡ asked (c .before .before .before)
+record-made c =
+    let s = c .before .before .before in
+    c .with-status .ensures
+    ∙ ap (λ (y : Train). withStatus y (Asked (s .args .state .logged))) (c .before .train-of .ensures)
+
+take-requires : tie.Need-take-requires
+take-requires c κs =
+    let s = c .before .before .before in
+    let ready = s .pre in (
+      (ready-train (s .args .state) (Fa (s .args .m)) _ ready, ready .1),
+      ready-take (s .args .state) (Fa (s .args .m)) _ ready _ (record-made c),
+    )
+
+-- what the granting leaves
+module _ (c : tie.After-take) where
   abbrev start : tie.Start
   start = c .before .before .before .before
 
-  abbrev s : State
-  s = start .args .state
-
-  abbrev m : Move
-  m = start .args .m
-
-  abbrev x : Train
-  x = withStatus (trainOf s (m .train .0)) (Asked (s .logged))
-
-  changed : c .with-train .result ≡ withTrain s (m .train .0) x
-  changed = c .with-train .ensures ∙ ap (withTrain s (m .train .0)) (c .before .with-status .ensures ∙ ap (λ (y : Train). withStatus y (Asked (s .logged))) (c .before .before .train-of .ensures))
-
-settle-requires : tie.Need-settle-requires
-settle-requires c κs =
-    subst⁻¹ (λ (t : State). (valid (oneLogged t) ≡ true) × (t .logged + mostLogged ≤ journalLength)) (changed c)
-    (start c .pre .2, start c .pre .1)
-
--- and after the granting
-module _ (c : tie.After-settle) where
-  abbrev begun : tie.After-with-train
-  begun = c .before
-
-  ended : c .settle .result ≡ progressOf (settled (now (start begun .args .table)) (taken (s begun) (Fa (m begun)) (x begun)))
-  ended =
-      c .settle .ensures
-      ∙ ap (λ (t : State). progressOf (settled (now (start begun .args .table)) (log t [] (Fa (m begun))))) (changed begun)
+  settles : c .take .result
+      ≡ progressOf (settled (now (start .args .table)) (taken (start .args .state) (Fa (start .args .m)) (asked start)))
+  settles = c .take .ensures
+      ∙ taken-with (start .args .state) (Fa (start .args .m)) _ (start .pre) (now (start .args .table)) _
+      (record-made (c .before))
 
 decline-requires : tie.Need-decline-requires
 decline-requires c κs =
-    let b = begun c in
-    let ready = start b .pre in (
-      ready-train (s b) (Fa (m b)) (x b) ready,
-      subst⁻¹ (λ (p : Progress). p .state .logged ≤ journalLength) (ended c) (ready-logged (s b) (Fa (m b)) (x b) ready (now (start b .args .table))),
+    let s = start c in (
+      ready-train (s .args .state) (Fa (s .args .m)) (asked s) (s .pre),
+      subst⁻¹ (λ (p : Progress). p .state .logged ≤ journalLength) (settles c)
+          (ready-logged (s .args .state) (Fa (s .args .m)) (asked s) (s .pre) (now (s .args .table))),
     )
 
 returns : tie.Need-returns
 unfolding accepted
-returns c = c .decline .ensures _ (ended (c .before))
+returns c = c .decline .ensures _ (settles (c .before))
 
 pub request-spec : {M : Type 1} → statement M
 request-spec =
     tie.close
-    (tie.spec
-    train-of-requires
-    with-status-requires
-    with-train-requires
-    settle-requires
-    decline-requires
-    returns)
+    (tie.spec train-of-requires with-status-requires take-requires decline-requires returns)

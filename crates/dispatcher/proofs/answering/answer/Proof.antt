@@ -1,9 +1,9 @@
--- `answering::answer` meets its contract: a walk of its MIR, by hand.
--- `step` is called on the plain parameters and the journal's length, and `append` on the journal and the records that `step`
--- hands back. Each `&mut` is given up for good to its call, so that nothing has to come back; the table and the frame go to
--- `step` as copies of their `&`. What `step` says of the out buffer, and `append` of the journal, is the answer.
--- Places: of the thirteen locals, _i stands at 2 · (12 − i) after what a comment names in front of them, and is followed by
--- what frees it, shown as "…". A comment before a step gives the context in brackets.
+-- `answering::answer` meets its contract: a walk of its MIR, by hand. `step` is called on the plain parameters and the
+-- journal's length, and `append` on the journal and the records that `step` hands back. Each `&mut` is given up for
+-- good to its call, so that nothing has to come back; the table and the frame go to `step` as copies of their `&`. What
+-- `step` says of the out buffer, and `append` of the journal, is the answer. Places: of the thirteen locals, _i stands
+-- at 2 · (12 − i) after what a comment names in front of them, and is followed by what frees it, shown as "…". A
+-- comment before a step gives the context in brackets.
 -- Assumes nothing.
 use mathlib.Core.Path.{_≡_, refl, sym, ap, subst, _∙_}
 use mathlib.Core.List.{[], _∷_, List}
@@ -94,8 +94,10 @@ module _ {M : Type 1} (𝓤 : URA M) (H : Heap 𝓤) (A : Atoms 𝓤) (mem : Mem
   Append = tripleOf 𝓤 H A append.signature (append.spec 𝓤 H A mem run)
 
 -- the lifetimes' shares, and the arguments: the state, the table, the journal, the frame, the out buffer
-module _ {M : Type 1} (𝓤 : URA M) (H : Heap 𝓤) (A : Atoms 𝓤) (W : Given 𝓤 H A) (mem : Memory → SProp 𝓤) (run : Routine → Fun 𝓤)
-    (κ₀ κ₁ κ₂ κ₃ : Lft) (q₀ q₁ q₂ q₃ : Share) (s : State) (t : RefT (List ℕ)) (j : RefT (List Record)) (f u : RefT (List ℕ)) where
+module _ {M : Type 1} (𝓤 : URA M) (H : Heap 𝓤) (A : Atoms 𝓤) (W : Given 𝓤 H A) (mem : Memory → SProp 𝓤)
+    (run : Routine → Fun 𝓤)
+    (κ₀ κ₁ κ₂ κ₃ : Lft) (q₀ q₁ q₂ q₃ : Share) (s : State) (t : RefT (List ℕ)) (j : RefT (List Record))
+    (f u : RefT (List ℕ)) where
   -- ---- machine values, what the triple binds outside, and what stands at exit
 
   abbrev ms : Val
@@ -140,7 +142,8 @@ module _ {M : Type 1} (𝓤 : URA M) (H : Heap 𝓤) (A : Atoms 𝓤) (W : Given
   abbrev Entry : SProp 𝓤
   Entry = onEntry 𝓤 H A answer′.signature (bound .0 .0) (bound .0 .1) (bound .0 .3) (bound .0 .4)
 
-  -- ---- items of the context: the tokens that `step` borrows, what the parameters own, and what is kept beside the call
+  -- ---- items of the context: the tokens that `step` borrows, what the parameters own, and what is kept beside
+  -- the call
 
   abbrev Three : Item 𝓤
   Three = ‵ (flft κ₀ q₀) ⊛ ‵ (flft κ₂ q₂) ⊛ ‵ (flft κ₃ q₃) ⊛ ‵ ftrue
@@ -214,19 +217,22 @@ module _ {M : Type 1} (𝓤 : URA M) (H : Heap 𝓤) (A : Atoms 𝓤) (W : Given
     tt,
   )
 
-  asks-append : (r : Outcome) → Is O.the-row r (mo r ∷ []) → ent 𝓤 (⋆ 𝓤 H A (Journal ∷ [])) (Append 𝓤 H A mem run .pre (to-append r))
+  asks-append : (r : Outcome) → Is O.the-row r (mo r ∷ [])
+      → ent 𝓤 (⋆ 𝓤 H A (Journal ∷ [])) (Append 𝓤 H A mem run .pre (to-append r))
   asks-append r is =
       let parts = LL.owed O.the-type O′.the-laws r _ is in
       qed W (Journal ∷ []) ∵ split ! $ nothing ! $ move ! (2 ∷ 0 ∷ []) $ join ! $
       -- [the token; journal]
       nothing ! $
-      owned ! B.the-row (Is B.the-row) (LL.makes B.the-type B′.the-plain 𝓤 H A) (r .batch) _ (parts .1 .1 .0) $ fjoin ! $
+      owned ! B.the-row (Is B.the-row) (LL.makes B.the-type B′.the-plain 𝓤 H A) (r .batch) _
+      (parts .1 .1 .0) $ fjoin ! $
       owned ! usize (Is usize) (uint-makes 𝓤 H A W w64) (r .at) _ (parts .1 .0) $ fjoin ! $
       move ! (2 ∷ 0 ∷ []) $ fjoin ! $
       -- [what the arguments own; the token]
       move ! (1 ∷ 0 ∷ []) $
       use2 W (raw (Append 𝓤 H A mem run .pre (to-append r)))
-      (qed W (One ∷ ‵ (owns (MutSlice (named 0) κ₁ R.the-row ∷ usize ∷ B.the-row ∷ []) (to-append r .0 .3) (to-append r .0 .4)) ∷ []) ∵
+      (qed W (One ∷ ‵ (owns (MutSlice (named 0) κ₁ R.the-row ∷ usize ∷ B.the-row ∷ []) (to-append r .0 .3)
+      (to-append r .0 .4)) ∷ []) ∵
       join ! $ frame ! $ done !) $
       done !
 
@@ -263,7 +269,8 @@ module _ {M : Type 1} (𝓤 : URA M) (H : Heap 𝓤) (A : Atoms 𝓤) (W : Given
 
   module _ (𝓣 : Tables 𝓤 H) (known-step : Triple 𝓤 (𝓣 .C #step) (Step 𝓤 H A mem run))
       (known-append : Triple 𝓤 (𝓣 .C #append) (Append 𝓤 H A mem run)) where
-    walk : Is S.the-row s (ms ∷ []) → length (now t) < 2 ^ 64 → length (now j) < 2 ^ 64 → length (now f) < 2 ^ 64 → length (now u) < 2 ^ 64
+    walk : Is S.the-row s (ms ∷ []) → length (now t) < 2 ^ 64 → length (now j) < 2 ^ 64 → length (now f) < 2 ^ 64
+        → length (now u) < 2 ^ 64
         → ent 𝓤 Entry (WpFn 𝓤 H (𝓣 .C) (𝓣 .Λ) code.function (ms ∷ mt ∷ mj ∷ mf ∷ mu ∷ []) Post)
     walk is-s ft fj ff fu =
         qed W (raw Entry ∷ []) ∵ enter ! (𝓣 .C) (𝓣 .Λ) code.function (ms ∷ mt ∷ mj ∷ mf ∷ mu ∷ []) _ $
@@ -290,10 +297,12 @@ module _ {M : Type 1} (𝓤 : URA M) (H : Heap 𝓤) (A : Atoms 𝓤) (W : Given
         (and-then ! (load ! (from ! (stop !)) (look ! 12 refl)) (and-then ! (load ! (from ! (stop !)) (look ! 18 refl))
         (and-then ! (load ! (from ! (stop !)) (look ! 8 refl)) (no-more !)))))) (λ v.
         use1 W (later (some (λ (r : Outcome). (Three ⊛ ‵ (O.the-row .own r (v ∷ [])))
-        ⊛ raw (ensured 𝓤 H A step′.ended (step′.clauses 𝓤 H A mem run) (to-step .0 .0) (to-step .0 .3) tt r)))) (id⊢ 𝓤 _) $
+        ⊛ raw (ensured 𝓤 H A step′.ended (step′.clauses 𝓤 H A mem run) (to-step .0 .0) (to-step .0 .3) tt r))))
+        (id⊢ 𝓤 _) $
         await ! tt $ pick ! (λ r. split ! $ move ! (1 ∷ []) $
         use1 W (some (λ (ws : Unit {0} × (Unit {0} × (Unit {0} × (Unit {0} × (List ℕ × Unit {0}))))).
-        ‵ (lasts step′.ended (to-step .0 .0) (to-step .0 .3) ws) ⊛ raw (fact 𝓤 (Said r (ws .1 .1 .1 .1 .0))))) (id⊢ 𝓤 _) $
+        ‵ (lasts step′.ended (to-step .0 .0) (to-step .0 .3) ws) ⊛ raw (fact 𝓤 (Said r (ws .1 .1 .1 .1 .0)))))
+        (id⊢ 𝓤 _) $
         pick ! (λ ws. split ! $ move ! (1 ∷ []) $ heard ! (Said r (ws .1 .1 .1 .1 .0)) (λ e.
         fsplit ! $ drop ! $ fsplit ! $ drop ! $ fsplit ! $ drop ! $ fsplit ! $ drop ! $ fsplit ! $ fsplit ! $
         move ! (1 ∷ []) $ feqL ! (λ lu.
@@ -312,25 +321,32 @@ module _ {M : Type 1} (𝓤 : URA M) (H : Heap 𝓤) (A : Atoms 𝓤) (W : Given
         (from ! (stop !)) (init ! 4 refl (tt, (tt, (record { fits = fj }, tt)))) $
         move ! (3 ∷ []) $ split ! $ move ! (1 ∷ []) $ split ! $ move ! (1 ∷ []) $
         use1 W (raw (Append 𝓤 H A mem run .pre (to-append r))) (asks-append r is) $
-        -- _10 = append(_12, _6.at, _6.batch): [what the call asks; frame; table; the three; out's last list; true; _12; …]
+        -- _10 = append(_12, _6.at, _6.batch): [what the call asks; frame; table; the three; out's last list; true; _12;
+        -- …]
         calls-at ! (fmOf 𝓤 H (W .laws) 𝓣) (Append 𝓤 H A mem run) known-append (to-append r)
         (and-then ! (load ! (from ! (stop !)) (look ! 6 refl))
         (and-then ! (load ! (from ! (fld ! refl (stop !))) (look-in ! 18 (sub ! 1 refl (whole !))))
         (and-then ! (load ! (from ! (fld ! refl (stop !))) (look-in ! 18 (sub ! 2 refl (whole !)))) (no-more !)))) (λ w.
         use1 W (later (some (λ (x : Unit {0}). (One ⊛ ‵ (unit .own x (w ∷ [])))
-        ⊛ raw (ensured 𝓤 H A append.ended (append.clauses 𝓤 H A mem run) (κ₁, tt) (to-append r .0 .3) tt x)))) (id⊢ 𝓤 _) $
+        ⊛ raw (ensured 𝓤 H A append.ended (append.clauses 𝓤 H A mem run) (κ₁, tt) (to-append r .0 .3) tt x))))
+        (id⊢ 𝓤 _) $
         await ! tt $ pick ! (λ x. split ! $ move ! (1 ∷ []) $
         use1 W (some (λ (zs : List Record × (Unit {0} × (Unit {0} × Unit {0}))).
         ‵ (lasts append.ended (κ₁, tt) (to-append r .0 .3) zs) ⊛ raw (fact 𝓤 (Appended r (zs .0))))) (id⊢ 𝓤 _) $
         pick ! (λ zs. split ! $ move ! (1 ∷ []) $ heard ! (Appended r (zs .0)) (λ e′.
         fsplit ! $ fsplit ! $ move ! (1 ∷ []) $ feqL ! (λ lj.
-        -- [the journal's last list; true; the token and the result; frame; table; the three; out's last list; true; _12; …]
+        -- [the journal's last list; true; the token and the result; frame; table; the three; out's last list; true;
+        -- _12; …]
         move ! (2 ∷ []) $ split ! $ move ! (1 ∷ []) $ feqL ! (λ is-unit.
-        land ! (from ! (stop !)) (init ! 12 refl (subst (λ (z : Val). Holds (hasTy tyUnit z) × WT z) (sym (ap only is-unit)) (tt, tt))) $
-        assigns ! (of-opd ! (load ! (from ! (fld ! refl (stop !))) (look-in ! 20 (sub ! 0 refl (whole !))))) (from ! (stop !))
-        (init ! 32 refl (LL.lawful Y.the-type Y′.the-laws 𝓤 H A W .typed (r .reply) _ (LL.owed O.the-type O′.the-laws r _ is .0) .0)) $
+        land ! (from ! (stop !)) (init ! 12 refl
+        (subst (λ (z : Val). Holds (hasTy tyUnit z) × WT z) (sym (ap only is-unit)) (tt, tt))) $
+        assigns ! (of-opd ! (load ! (from ! (fld ! refl (stop !))) (look-in ! 20 (sub ! 0 refl (whole !)))))
+        (from ! (stop !))
+        (init ! 32 refl (LL.lawful Y.the-type Y′.the-laws 𝓤 H A W .typed (r .reply) _
+        (LL.owed O.the-type O′.the-laws r _ is .0) .0)) $
         returns ! (look ! 32 refl) $ forget ! 8 refl $ forget ! 10 refl $ forget ! 12 refl $ forget ! 14 refl $
-        forget ! 16 refl $ forget ! 18 refl $ forget ! 20 refl $ forget ! 22 refl $ forget ! 24 refl $ forget ! 26 refl $
+        forget ! 16 refl $ forget ! 18 refl $ forget ! 20 refl $ forget ! 22 refl $ forget ! 24 refl $ forget ! 26 refl
+        $
         forget ! 28 refl $ forget ! 30 refl $ forget ! 32 refl $
         move ! (32 ∷ 33 ∷ []) $ free1 ! $ move ! (30 ∷ 31 ∷ []) $ free1 ! $ move ! (28 ∷ 29 ∷ []) $ free1 ! $
         move ! (26 ∷ 27 ∷ []) $ free1 ! $ move ! (24 ∷ 25 ∷ []) $ free1 ! $ move ! (22 ∷ 23 ∷ []) $ free1 ! $
@@ -342,11 +358,13 @@ module _ {M : Type 1} (𝓤 : URA M) (H : Heap 𝓤) (A : Atoms 𝓤) (W : Given
 
 -- ---- the walk is taken to the contract
 
-module _ {M : Type 1} (𝓤 : URA M) (H : Heap 𝓤) (A : Atoms 𝓤) (W : Given 𝓤 H A) (mem : Memory → SProp 𝓤) (run : Routine → Fun 𝓤)
+module _ {M : Type 1} (𝓤 : URA M) (H : Heap 𝓤) (A : Atoms 𝓤) (W : Given 𝓤 H A) (mem : Memory → SProp 𝓤)
+    (run : Routine → Fun 𝓤)
     (𝓣 : Tables 𝓤 H) (known-step : Triple 𝓤 (𝓣 .C #step) (Step 𝓤 H A mem run))
     (known-append : Triple 𝓤 (𝓣 .C #append) (Append 𝓤 H A mem run)) where
   answer-walks : Walks 𝓤 H A answer′.ended stayed (WpFn 𝓤 H (𝓣 .C) (𝓣 .Λ) code.function) (answer′.clauses 𝓤 H A mem run)
-  answer-walks = walked 𝓤 H A answer′.ended stayed (answer′.clauses 𝓤 H A mem run) (WpFn 𝓤 H (𝓣 .C) (𝓣 .Λ) code.function)
+  answer-walks = walked 𝓤 H A answer′.ended stayed (answer′.clauses 𝓤 H A mem run)
+      (WpFn 𝓤 H (𝓣 .C) (𝓣 .Λ) code.function)
       (λ κs. (LL.vals S.the-type S′.the-laws, (slice-vals, (slice-vals, (slice-vals, (slice-vals, tt))))))
       (λ κs. (
         LL.tells S.the-type S′.the-laws,
@@ -359,7 +377,8 @@ module _ {M : Type 1} (𝓤 : URA M) (H : Heap 𝓤) (A : Atoms 𝓤) (W : Given
         ),
       ))
       (λ κs qs bounds a g are. via 𝓤 _ (fst∗ 𝓤 _ (emp 𝓤))
-      (walk 𝓤 H A W mem run (κs .0) (κs .1 .0) (κs .1 .1 .0) (κs .1 .1 .1 .0) (qs .0) (qs .1 .0) (qs .1 .1 .0) (qs .1 .1 .1 .0)
+      (walk 𝓤 H A W mem run (κs .0) (κs .1 .0) (κs .1 .1 .0) (κs .1 .1 .1 .0) (qs .0) (qs .1 .0) (qs .1 .1 .0)
+      (qs .1 .1 .1 .0)
       (a .0) (a .1 .0) (a .1 .1 .0) (a .1 .1 .1 .0) (a .1 .1 .1 .1 .0) 𝓣 known-step known-append
       (are .0) (are .1 .0 .0 .1 .0) (are .1 .1 .0 .0 .1 .0) (are .1 .1 .1 .0 .0 .1 .0) (are .1 .1 .1 .1 .0 .0 .1 .0)))
 

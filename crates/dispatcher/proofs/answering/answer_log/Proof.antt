@@ -23,7 +23,8 @@ same-length c = search needs
 returns : tie.Need-returns
 returns c =
     let done = c .before .before .before .before .before in
-    ap (λ (l : List Record). answerOf (done .step .result .reply) l (done .step .last .1 .1 .1 .1 .0)) (c .appended .ensures)
+    ap (λ (l : List Record). answerOf (done .step .result .reply) l (done .step .last .1 .1 .1 .1 .0))
+    (c .appended .ensures)
     ∙ done .step .ensures .answers _ (sym (done .before .before .log-length .ensures))
 
 pub answer-log-spec : {M : Type 1} → statement M

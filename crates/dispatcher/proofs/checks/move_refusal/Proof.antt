@@ -41,7 +41,8 @@ module _ (c : tie.After-train-of) where
   own = c .train-of .ensures
 
 returns-2 : tie.Need-returns-2
-returns-2 c = let r = c .before .before in train-ended (s r) (asks r) (m r) (known r) (x r) (own r) (sym (c .before .at-end .ensures) ∙ c .if2 .taken)
+returns-2 c = let r = c .before .before in train-ended (s r) (asks r) (m r) (known r) (x r) (own r)
+    (sym (c .before .at-end .ensures) ∙ c .if2 .taken)
 
 -- it is short of its end
 module _ (c : tie.Else2) where
@@ -72,7 +73,8 @@ returns-4 : tie.Need-returns-4
 returns-4 c =
     let e = c .before .before .before in
     let r = read (on e) in
-    other-to (s r) (asks r) (m r) (known r) (x r) (own r) (short (on e)) (from e) _ (e .next-post .ensures) (c .if4 .taken)
+    other-to (s r) (asks r) (m r) (known r) (x r) (own r) (short (on e)) (from e) _ (e .next-post .ensures)
+    (c .if4 .taken)
 
 status-refusal-requires : tie.Need-status-refusal-requires
 status-refusal-requires c κs = search needs
@@ -87,7 +89,8 @@ returns-5 c =
     let f = c .before in
     let e = next f in
     let r = read (on e) in
-    status-refuses (s r) (asks r) (m r) (known r) (x r) (own r) (short (on e)) (from e) _ (e .next-post .ensures) (f .before .if4 .left) _
+    status-refuses (s r) (asks r) (m r) (known r) (x r) (own r) (short (on e)) (from e) _ (e .next-post .ensures)
+    (f .before .if4 .left) _
     (f .status-refusal .ensures) (c .if5 .taken)
 
 cast-if6 : tie.Need-cast-if6
@@ -101,7 +104,8 @@ returns-6 c =
     let f = c .before .before .before in
     let e = next f in
     let r = read (on e) in
-    journal-full (s r) (asks r) (m r) (known r) (x r) (own r) (short (on e)) (from e) _ (e .next-post .ensures) (f .before .if4 .left) _
+    journal-full (s r) (asks r) (m r) (known r) (x r) (own r) (short (on e)) (from e) _ (e .next-post .ensures)
+    (f .before .if4 .left) _
     (f .status-refusal .ensures) (c .before .before .if5 .left) (c .if6 .taken)
 
 returns-7 : tie.Need-returns-7
@@ -109,7 +113,8 @@ returns-7 c =
     let f = c .before .before .before in
     let e = next f in
     let r = read (on e) in
-    move-passes (s r) (asks r) (m r) (known r) (x r) (own r) (short (on e)) (from e) _ (e .next-post .ensures) (f .before .if4 .left) _
+    move-passes (s r) (asks r) (m r) (known r) (x r) (own r) (short (on e)) (from e) _ (e .next-post .ensures)
+    (f .before .if4 .left) _
     (f .status-refusal .ensures) (c .before .before .if5 .left) (c .if6 .left)
 
 pub move-refusal-spec : {M : Type 1} → statement M

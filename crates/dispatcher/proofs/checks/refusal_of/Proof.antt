@@ -17,7 +17,8 @@ valid-requires c κs = search needs
 returns : tie.Need-returns
 returns c =
     let a = c .before .before .before .args in
-    strange (a .state) (a .table) (a .records) (now (a .frame)) (a .room) (sym (c .before .valid .ensures) ∙ not-true _ (c .if1 .taken))
+    strange (a .state) (a .table) (a .records) (now (a .frame)) (a .room) (sym (c .before .valid .ensures)
+    ∙ not-true _ (c .if1 .taken))
 
 long-enough-requires : tie.Need-long-enough-requires
 long-enough-requires c κs = search needs
@@ -26,7 +27,8 @@ returns-2 : tie.Need-returns-2
 returns-2 c =
     let e = c .before .before in
     let a = e .before .before .before .args in
-    short-stores (a .state) (a .table) (a .records) (now (a .frame)) (a .room) (sym (e .before .valid .ensures) ∙ not-false _ (e .if1 .left))
+    short-stores (a .state) (a .table) (a .records) (now (a .frame)) (a .room) (sym (e .before .valid .ensures)
+    ∙ not-false _ (e .if1 .left))
     (sym (c .before .long-enough .ensures) ∙ not-true _ (c .if2 .taken))
 
 read-requires : tie.Need-read-requires
@@ -44,7 +46,8 @@ returns-3 c =
     let a = e .before .before .before .args in
     c .message-refusal .ensures
     ∙ ap (λ (x : Message). messageRefusal (a .state) x) (c .before .read .ensures)
-    ∙ message-decides (a .state) (a .table) (a .records) (now (a .frame)) (a .room) (sym (e .before .valid .ensures) ∙ not-false _ (e .if1 .left))
+    ∙ message-decides (a .state) (a .table) (a .records) (now (a .frame)) (a .room) (sym (e .before .valid .ensures)
+    ∙ not-false _ (e .if1 .left))
     (sym (long .before .long-enough .ensures) ∙ not-false _ (long .if2 .left))
 
 pub refusal-of-spec : {M : Type 1} → statement M

@@ -1,4 +1,5 @@
--- `with_items` meets its contract. The loop's invariant: the first k items are in their places, and the rest is as it was.
+-- `with_items` meets its contract. The loop's invariant: the first k items are in their places, and the rest is as it
+-- was.
 -- Assumes nothing.
 use mathlib.Core.Path.{_≡_}
 use Prim.Native.Nat.{_+_, _<_, _≤_, _-_}
@@ -57,8 +58,11 @@ loop-again c =
     let at = c .before .before in
     let a = at .before .args in
     let pre = at .before .pre in
-    let seven : length (a .t3) ≡ 7 = search needs in
-    (omega arith, rw (at .loop .inv .1, add-one) (paste-suc (a .records) (a .at) (a .t3) (at .loop .k) blank (place (c .before)) (omega arith)))
+    let seven : length (a .t3) ≡ 7 = search needs in (
+      omega arith,
+      rw (at .loop .inv .1, add-one)
+          (paste-suc (a .records) (a .at) (a .t3) (at .loop .k) blank (place (c .before)) (omega arith)),
+    )
 
 returns : tie.Need-returns Inv-loop μ-loop
 returns c =

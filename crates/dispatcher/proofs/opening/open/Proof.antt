@@ -1,8 +1,7 @@
--- `opening::open` meets its contract: a walk of its MIR, by hand.
--- The journal's length is read off its own machine value, and `open_with` is called on it. The table is given up for good
--- to the call; the book goes there as a copy of its `&`; the journal stays.
--- Places: of the seven locals, _i stands at 2 · (6 − i) after what a comment names in front of them, and is followed by what
--- frees it, shown as "…". A comment before a step gives the context in brackets.
+-- `opening::open` meets its contract: a walk of its MIR, by hand. The journal's length is read off its own machine
+-- value, and `open_with` is called on it. The table is given up for good to the call; the book goes there as a copy of
+-- its `&`; the journal stays. Places: of the seven locals, _i stands at 2 · (6 − i) after what a comment names in front
+-- of them, and is followed by what frees it, shown as "…". A comment before a step gives the context in brackets.
 -- Assumes nothing.
 use mathlib.Core.Path.{_≡_, refl}
 use mathlib.Core.List.{[], _∷_, List}
@@ -65,11 +64,13 @@ stayed = (
 )
 
 -- the contract of `open_with`
-abbrev With : {M : Type 1} (𝓤 : URA M) (H : Heap 𝓤) (A : Atoms 𝓤) (mem : Memory → SProp 𝓤) (run : Routine → Fun 𝓤) → Contract 𝓤
+abbrev With : {M : Type 1} (𝓤 : URA M) (H : Heap 𝓤) (A : Atoms 𝓤) (mem : Memory → SProp 𝓤) (run : Routine → Fun 𝓤)
+    → Contract 𝓤
 With 𝓤 H A mem run = tripleOf 𝓤 H A with′.signature (with′.spec 𝓤 H A mem run)
 
 -- the lifetimes' shares, and the arguments: the book, the table, the journal
-module _ {M : Type 1} (𝓤 : URA M) (H : Heap 𝓤) (A : Atoms 𝓤) (W : Given 𝓤 H A) (mem : Memory → SProp 𝓤) (run : Routine → Fun 𝓤)
+module _ {M : Type 1} (𝓤 : URA M) (H : Heap 𝓤) (A : Atoms 𝓤) (W : Given 𝓤 H A) (mem : Memory → SProp 𝓤)
+    (run : Routine → Fun 𝓤)
     (κ₀ κ₁ κ₂ : Lft) (q₀ q₁ q₂ : Share) (b t : RefT (List ℕ)) (j : RefT (List Record)) where
   -- ---- machine values, what the triple binds outside, and what stands at exit
 
@@ -136,7 +137,8 @@ module _ {M : Type 1} (𝓤 : URA M) (H : Heap 𝓤) (A : Atoms 𝓤) (W : Given
       -- [what the arguments own; the two tokens; κ₂; journal; book]
       move ! (1 ∷ 0 ∷ []) $
       use2 W (raw (With 𝓤 H A mem run .pre to))
-      (qed W (Tokens ∷ ‵ (owns (ShrSlice (named 0) κ₀ u8 ∷ MutSlice (named 1) κ₁ u8 ∷ usize ∷ []) (to .0 .3) (to .0 .4)) ∷ []) ∵
+      (qed W (Tokens ∷ ‵ (owns (ShrSlice (named 0) κ₀ u8 ∷ MutSlice (named 1) κ₁ u8 ∷ usize ∷ []) (to .0 .3) (to .0 .4))
+      ∷ []) ∵
       join ! $ frame ! $ done !) $
       frame ! $ move ! (2 ∷ 1 ∷ 0 ∷ []) $ done !
 
@@ -154,7 +156,8 @@ module _ {M : Type 1} (𝓤 : URA M) (H : Heap 𝓤) (A : Atoms 𝓤) (W : Given
       qed W (Result r v ∷ Tokens ∷ ‵ (finally u8 (name t) ts) ∷ Kept ∷ []) ∵
       suffices ! _ (ends-at 𝓤 H A open′.ended stayed (open′.clauses 𝓤 H A mem run) W bound v r
       (tt, (ts, (tt, tt))) (tt, (lt, (tt, tt)))) $
-      says ! e $ move ! (3 ∷ []) $ split ! $ move ! (1 ∷ []) $ split ! $ move ! (4 ∷ []) $ split ! $ move ! (1 ∷ []) $ split ! $
+      says ! e $ move ! (3 ∷ []) $ split ! $ move ! (1 ∷ []) $ split ! $ move ! (4 ∷ []) $ split ! $ move !
+      (1 ∷ []) $ split ! $
       move ! (4 ∷ 1 ∷ []) $ join ! $ move ! (1 ∷ 0 ∷ []) $ join ! $ move ! (1 ∷ 0 ∷ []) $ join ! $ frame ! $
       -- [journal; book; the result; the table's last list]
       nothing ! $ move ! (1 ∷ 0 ∷ []) $ fjoin ! $ move ! (3 ∷ 0 ∷ []) $ fjoin ! $ move ! (1 ∷ 0 ∷ []) $ fjoin ! $
@@ -193,7 +196,8 @@ module _ {M : Type 1} (𝓤 : URA M) (H : Heap 𝓤) (A : Atoms 𝓤) (W : Given
         split ! $ move ! (1 ∷ []) $ heard ! (Said r (ws .1 .0)) (λ e.
         fsplit ! $ drop ! $ fsplit ! $ fsplit ! $ move ! (1 ∷ []) $ feqL ! (λ lt.
         -- [the table's last list; true; the tokens and the result; what is kept; _6; …]
-        move ! (2 ∷ []) $ split ! $ move ! (1 ∷ []) $ peeks ! O.the-row (Is O.the-row) (shows 𝓤 H A O.the-row) r (v ∷ []) (λ is.
+        move ! (2 ∷ []) $ split ! $ move ! (1 ∷ []) $ peeks ! O.the-row (Is O.the-row) (shows 𝓤 H A O.the-row) r
+        (v ∷ []) (λ is.
         land ! (from ! (stop !)) (init ! 17 refl (LL.lawful O.the-type O′.the-laws 𝓤 H A W .typed r _ is .0)) $
         returns ! (look ! 17 refl) $ forget ! 5 refl $ forget ! 7 refl $ forget ! 9 refl $ forget ! 11 refl $
         forget ! 13 refl $ forget ! 15 refl $ forget ! 17 refl $
@@ -204,7 +208,8 @@ module _ {M : Type 1} (𝓤 : URA M) (H : Heap 𝓤) (A : Atoms 𝓤) (W : Given
 
 -- ---- the walk is taken to the contract
 
-module _ {M : Type 1} (𝓤 : URA M) (H : Heap 𝓤) (A : Atoms 𝓤) (W : Given 𝓤 H A) (mem : Memory → SProp 𝓤) (run : Routine → Fun 𝓤)
+module _ {M : Type 1} (𝓤 : URA M) (H : Heap 𝓤) (A : Atoms 𝓤) (W : Given 𝓤 H A) (mem : Memory → SProp 𝓤)
+    (run : Routine → Fun 𝓤)
     (𝓣 : Tables 𝓤 H) (known : Triple 𝓤 (𝓣 .C #open-with) (With 𝓤 H A mem run)) where
   open-walks : Walks 𝓤 H A open′.ended stayed (WpFn 𝓤 H (𝓣 .C) (𝓣 .Λ) code.function) (open′.clauses 𝓤 H A mem run)
   open-walks = walked 𝓤 H A open′.ended stayed (open′.clauses 𝓤 H A mem run) (WpFn 𝓤 H (𝓣 .C) (𝓣 .Λ) code.function)

@@ -14,8 +14,8 @@ use Rattle.journal.specs.Journal.{journalLength}
 use Rattle.completion.specs.Configuration.{start, code, feasible}
 use Rattle.completion.specs.Table.{tableLength, bitOf}
 use Rattle.dispatcher.specs.Types.{Line}
-use Rattle.dispatcher.proofs.OpeningCases.{start-code, read-as, handed, table-short, journal-short, book-refused}
-use Rattle.dispatcher.proofs.OpeningCases.{start-overfull, no-way, opens}
+use Rattle.rules.proofs.OpeningCases.{start-code, read-as, handed, table-short, journal-short, book-refused}
+use Rattle.rules.proofs.OpeningCases.{start-overfull, no-way, opens}
 use Rattle.dispatcher.proofs.opening.open_with.Statement.{statement}
 use Rattle.dispatcher.proofs.opening.open_with.Tie as tie
 

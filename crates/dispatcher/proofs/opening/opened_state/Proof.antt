@@ -9,7 +9,7 @@ use Rattle.common.proofs.Tabulate.{padded-none, padded-more}
 use Rattle.line.specs.Line.{routeOf}
 use Rattle.rules.specs.State.{noTrain}
 use Rattle.rules.specs.Opening.{fresh}
-use Rattle.dispatcher.proofs.OpeningCases.{opened-fleet}
+use Rattle.rules.proofs.OpeningCases.{opened-fleet}
 use Rattle.dispatcher.proofs.opening.opened_state.Statement.{statement}
 use Rattle.dispatcher.proofs.opening.opened_state.Tie as tie
 

@@ -1,4 +1,5 @@
--- `send` meets its contract. The loop's invariant: the frames of the answers passed are in their places, and the rest of the buffer is as it was.
+-- `send` meets its contract. The loop's invariant: the frames of the answers passed are in their places, and the rest
+-- of the buffer is as it was.
 -- Assumes nothing.
 use mathlib.Core.Path.{_≡_, refl}
 use Prim.Native.Nat.{_≤_, _-_}
@@ -19,7 +20,8 @@ sub-answers : tie.Need-sub-answers Inv-loop μ-loop
 sub-answers c = c .before .pre .0
 
 loop-holds : tie.Need-loop-holds Inv-loop μ-loop
-loop-holds c = let seven : length (c .before .args .t1) ≡ 7 = search needs in (omega arith, written-none _ _ (c .before .pre .2) seven)
+loop-holds c = let seven : length (c .before .args .t1) ≡ 7 =
+    search needs in (omega arith, written-none _ _ (c .before .pre .2) seven)
 
 add-entry : tie.Need-add-entry Inv-loop μ-loop
 add-entry c = omega (arith, c .before .loop .inv .1 .few)
@@ -49,8 +51,11 @@ loop-again : tie.Need-loop-again Inv-loop μ-loop
 loop-again c =
     let place = c .before .before in
     let at = place .before .before .before .before .before in
-    let pre = at .before .before .pre in
-    (omega arith, written-more _ _ _ _ (at .loop .inv .1) (omega arith) _ (place .before .before .frame-of .ensures) _ (place .place .ensures .1))
+    let pre = at .before .before .pre in (
+      omega arith,
+      written-more _ _ _ _ (at .loop .inv .1) (omega arith) _ (place .before .before .frame-of .ensures) _
+          (place .place .ensures .1),
+    )
 
 cast-result : tie.Need-cast-result Inv-loop μ-loop
 cast-result c = let pre = c .before .before .before .pre in omega arith

@@ -49,7 +49,8 @@ module _ (c : tie.After-refusal-of) where
   number = c .refusal-of .ensures
 
 returns : tie.Need-returns
-returns c = let r = c .before .before in step-refused (s r) (table r) (count r) (bytes r) (buffer r) _ (number r) (c .before .if1 .taken) _ (c .refused .ensures)
+returns c = let r = c .before .before in step-refused (s r) (table r) (count r) (bytes r) (buffer r) _ (number r)
+    (c .before .if1 .taken) _ (c .refused .ensures)
 
 read-requires : tie.Need-read-requires
 read-requires c κs = search needs
@@ -60,7 +61,8 @@ module _ (c : tie.After-read) where
   checked = c .before .before
 
   passed : Passed (s checked) (table checked) (replicate (count checked) blank) (bytes checked) (buffer checked)
-  passed = step-passed (s checked) (table checked) (count checked) (bytes checked) (buffer checked) _ (number checked) (c .before .if1 .left)
+  passed = step-passed (s checked) (table checked) (count checked) (bytes checked) (buffer checked) _ (number checked)
+      (c .before .if1 .left)
 
 accept-requires : tie.Need-accept-requires
 accept-requires c κs =

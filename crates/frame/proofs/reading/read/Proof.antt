@@ -11,8 +11,8 @@ use Rattle.common.specs.Word.{word}
 use Rattle.line.specs.Refusal.{unknownKind}
 use Rattle.frame.specs.Types.{Refused}
 use Rattle.frame.specs.Frame.{readFrame, messageOf}
-use Rattle.frame.proofs.Cases.{namedMove, other-size, other-length, other-version, other-kind}
-use Rattle.frame.proofs.Cases.{known-kind, not-a-kind}
+use Rattle.frame.proofs.Cases.{namedMove, other-size, other-length, other-version, other-kind, known-kind}
+use Rattle.frame.proofs.Cases.{not-a-kind}
 use Rattle.frame.proofs.reading.read.Statement.{statement}
 use Rattle.frame.proofs.reading.read.Tie as tie
 

@@ -25,8 +25,9 @@ use contract.Monad.{Fun, fact}
 use contract.Running.{givenOf, tables, tablesOf}
 use types.Kit.{Given, Item, Sq, runs, ‵, raw, _⊛_, ⋆, some, later, atRet, _$_, _∵_, !, qed, by, move, keep, drop, use1}
 use types.Kit.{split, join, pick, await, rewrite, fsplit, fjoin, suffices, frame, done}
-use types.Run.{look, look-raw, init, forget, stop, hop, fld, from, load, lit, of-opd, bin, no-more, assigns, assigns-last}
-use types.Run.{land-last, first, branches, exec, returns, enter, alloc1, alloc0, params1, pass1, pass0, free1, free0}
+use types.Run.{look, look-raw, init, forget, stop, hop, fld, from, load, lit, of-opd, bin, no-more, assigns}
+use types.Run.{assigns-last, land-last, first, branches, exec, returns, enter, alloc1, alloc0, params1, pass1, pass0}
+use types.Run.{free1, free0}
 use types.Part.{whole, sub, look-in}
 use sound.WpLaws.{fmOf, WpFn-mono}
 use denote.RattleType.{owns}
@@ -46,8 +47,8 @@ use denote.Triple.Clauses.{ensured, lasts}
 use denote.Triple.Entry.{onEntry}
 use denote.Triple.Spec.{Meets, tripleOf}
 use denote.Triple.Table.{entered, cited}
-use denote.Triple.Walked.{says, Stays, stay-none, stay-none-slice, walkOf, goes-none, goes-none-slice, Walks, ends-at, walked}
-use denote.Triple.Walked.{walk-meets}
+use denote.Triple.Walked.{says, Stays, stay-none, stay-none-slice, walkOf, goes-none, goes-none-slice, Walks, ends-at}
+use denote.Triple.Walked.{walked, walk-meets}
 use denote.Exit.{yes}
 use Rattle.journal.specs.Types.{Record}
 use Rattle.journal.specs.Journal.{blank, recordAt}
@@ -92,7 +93,8 @@ module _ {M : Type 1} (𝓤 : URA M) (H : Heap 𝓤) (A : Atoms 𝓤) (mem : Mem
   blank-says r = exE 𝓤 _ (λ ws. snd∗ 𝓤 (sem 𝓤 H A (lasts blank′.ended tt tt ws)) (fact 𝓤 (r ≡ blank)))
 
 -- the journal at the pointer (b, o) has the records ys
-module _ {M : Type 1} (𝓤 : URA M) (H : Heap 𝓤) (A : Atoms 𝓤) (W : Given 𝓤 H A) (mem : Memory → SProp 𝓤) (run : Routine → Fun 𝓤)
+module _ {M : Type 1} (𝓤 : URA M) (H : Heap 𝓤) (A : Atoms 𝓤) (W : Given 𝓤 H A) (mem : Memory → SProp 𝓤)
+    (run : Routine → Fun 𝓤)
     (κ : Lft) (q : Share) (b o : ℕ) (γ : GName) (ys : List Record) (i : ℕ)
     (i-fits : i < 2 ^ 64) (room : Room R.the-row (length ys)) where
   -- ---- the arguments, their machine values, and what stands at exit
@@ -139,13 +141,15 @@ module _ {M : Type 1} (𝓤 : URA M) (H : Heap 𝓤) (A : Atoms 𝓤) (W : Given
 
   -- ---- the exit
 
-  exits : (r : Record) (v : Val) → Is R.the-row r (v ∷ []) → r ≡ elem → ent 𝓤 (⋆ 𝓤 H A (‵ (flft κ q) ∷ Journal ∷ [])) (Post v)
+  exits : (r : Record) (v : Val) → Is R.the-row r (v ∷ []) → r ≡ elem → ent 𝓤 (⋆ 𝓤 H A (‵ (flft κ q) ∷ Journal ∷ []))
+      (Post v)
   exits r v is e =
       qed W (‵ (flft κ q) ∷ Journal ∷ []) ∵
       suffices ! _ (ends-at 𝓤 H A at′.ended stayed (at′.clauses 𝓤 H A mem run) W (((κ, tt), (q, tt), tt, a, vals), tt)
       v r (tt, (tt, tt)) (tt, (tt, tt))) $
       says ! e $ nothing ! $ move ! (1 ∷ 0 ∷ []) $ join ! $
-      nothing ! $ owned ! usize (Is usize) (uint-makes 𝓤 H A W w64) i _ (refl, i-fits) $ fjoin ! $ move ! (2 ∷ 0 ∷ []) $ fjoin ! $
+      nothing ! $ owned ! usize (Is usize) (uint-makes 𝓤 H A W w64) i _ (refl, i-fits) $ fjoin ! $ move !
+      (2 ∷ 0 ∷ []) $ fjoin ! $
       move ! (1 ∷ 0 ∷ []) $ frame ! $ frame ! $
       owned ! R.the-row (Is R.the-row) (LL.makes R.the-type R′.the-plain 𝓤 H A) r _ is $ done !
 
@@ -160,7 +164,8 @@ module _ {M : Type 1} (𝓤 : URA M) (H : Heap 𝓤) (A : Atoms 𝓤) (W : Given
       abbrev Here : Item 𝓤 → List (Item 𝓤)
       Here fifth =
           ‵ (flft κ q) ∷ Journal ∷ space R′.mir l₈ ∷ dies R′.mir l₈ ∷ space tyPtr l₇ ∷ dies tyPtr l₇
-          ∷ space word l₆ ∷ dies word l₆ ∷ fifth ∷ dies R′.mir l₅ ∷ cell tyBool l₄ (vbool (ltb i (length ys))) ∷ dies tyBool l₄
+          ∷ space word l₆ ∷ dies word l₆ ∷ fifth ∷ dies R′.mir l₅ ∷ cell tyBool l₄ (vbool (ltb i (length ys)))
+          ∷ dies tyBool l₄
           ∷ cell word l₃ (vint w64 (length ys)) ∷ dies word l₃ ∷ cell word l₂ (vint w64 i) ∷ dies word l₂
           ∷ cell slice l₁ s ∷ dies slice l₁ ∷ space R′.mir l₀ ∷ dies R′.mir l₀ ∷ []
 
@@ -168,9 +173,11 @@ module _ {M : Type 1} (𝓤 : URA M) (H : Heap 𝓤) (A : Atoms 𝓤) (W : Given
           → Sq W (Here (cell R′.mir l₅ v)) (runs (𝓣 .C) (𝓣 .Λ) En code-mir.t-4 (atRet En Post))
       tail r v is e =
           -- _0 = _5: [the token; the `&`; _8; …]
-          assigns ! (of-opd ! (load ! (from ! (stop !)) (look ! 8 refl))) (from ! (stop !)) (init ! 18 refl (typed r v is)) $
+          assigns ! (of-opd ! (load ! (from ! (stop !)) (look ! 8 refl))) (from ! (stop !))
+          (init ! 18 refl (typed r v is)) $
           returns ! (look ! 18 refl) $
-          forget ! 8 refl $ forget ! 10 refl $ forget ! 12 refl $ forget ! 14 refl $ forget ! 16 refl $ forget ! 18 refl $
+          forget ! 8 refl $ forget ! 10 refl $ forget ! 12 refl $ forget ! 14 refl $ forget ! 16 refl $ forget ! 18 refl
+          $
           move ! (18 ∷ 19 ∷ []) $ free1 ! $ move ! (16 ∷ 17 ∷ []) $ free1 ! $ move ! (14 ∷ 15 ∷ []) $ free1 ! $
           move ! (12 ∷ 13 ∷ []) $ free1 ! $ move ! (10 ∷ 11 ∷ []) $ free1 ! $ move ! (8 ∷ 9 ∷ []) $ free1 ! $
           move ! (6 ∷ 7 ∷ []) $ free1 ! $ move ! (4 ∷ 5 ∷ []) $ free1 ! $ move ! (2 ∷ 3 ∷ []) $ free1 ! $ free0 ! $
@@ -210,7 +217,8 @@ module _ {M : Type 1} (𝓤 : URA M) (H : Heap 𝓤) (A : Atoms 𝓤) (W : Given
           -- _5 = blank(): [the token; the `&`; _8; …]
           nothing ! $ use1 W (raw (Blank 𝓤 H A mem run .pre (to-blank 𝓤 H A mem run))) (goes-blank 𝓤 H A mem run W) $
           calls-at-last ! (fmOf 𝓤 H (W .laws) 𝓣) (Blank 𝓤 H A mem run) known (to-blank 𝓤 H A mem run) (no-more !)
-          (λ v. use1 W (later (some (λ (r : Record). (‵ ftrue ⊛ ‵ (R.the-row .own r (v ∷ []))) ⊛ raw (BlankEnsures 𝓤 H A mem run r))))
+          (λ v. use1 W (later (some (λ (r : Record). (‵ ftrue ⊛ ‵ (R.the-row .own r (v ∷ []))) ⊛ raw
+          (BlankEnsures 𝓤 H A mem run r))))
           (id⊢ 𝓤 _) $ await ! tt $ pick ! (λ r. split ! $ move ! (1 ∷ []) $
           use1 W (raw (fact 𝓤 (r ≡ blank))) (blank-says 𝓤 H A mem run r) $ heard ! (r ≡ blank) (λ e.
           split ! $ drop ! $ peeks ! R.the-row (Is R.the-row) (shows 𝓤 H A R.the-row) r (v ∷ []) (λ is.
@@ -238,11 +246,13 @@ module _ {M : Type 1} (𝓤 : URA M) (H : Heap 𝓤) (A : Atoms 𝓤) (W : Given
 
 -- ---- the walk is taken to the contract
 
-module _ {M : Type 1} (𝓤 : URA M) (H : Heap 𝓤) (A : Atoms 𝓤) (W : Given 𝓤 H A) (mem : Memory → SProp 𝓤) (run : Routine → Fun 𝓤)
+module _ {M : Type 1} (𝓤 : URA M) (H : Heap 𝓤) (A : Atoms 𝓤) (W : Given 𝓤 H A) (mem : Memory → SProp 𝓤)
+    (run : Routine → Fun 𝓤)
     (𝓣 : Tables 𝓤 H) (known : Triple 𝓤 (𝓣 .C #blank) (Blank 𝓤 H A mem run)) where
   at-walks : Walks 𝓤 H A at′.ended stayed (WpFn 𝓤 H (𝓣 .C) (𝓣 .Λ) code.function) (at′.clauses 𝓤 H A mem run)
   at-walks = walked 𝓤 H A at′.ended stayed (at′.clauses 𝓤 H A mem run) (WpFn 𝓤 H (𝓣 .C) (𝓣 .Λ) code.function)
-      (λ κs. (slice-vals, (uint-vals w64, tt))) (λ κs. (shr-slice-tells (named 0) (κs .0) R.the-row, (uint-tells w64, tt)))
+      (λ κs. (slice-vals, (uint-vals w64, tt)))
+      (λ κs. (shr-slice-tells (named 0) (κs .0) R.the-row, (uint-tells w64, tt)))
       (λ κs qs bounds a g are. via 𝓤 _ (fst∗ 𝓤 _ (emp 𝓤))
       (walk 𝓤 H A W mem run (κs .0) (qs .0) (a .0 .ptr .0) (a .0 .ptr .1) (a .0 .name) (a .0 .now) (a .1 .0)
       (are .1 .0 .1) (are .0 .0 .1) 𝓣 known))

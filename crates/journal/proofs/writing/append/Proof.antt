@@ -1,10 +1,10 @@
--- `journal::append` meets its contract: a walk of its MIR, by hand.
--- `fitting` answers how many records are written, `count`, and the loop turns that often. The borrow is opened once,
--- before the loop, and closed once, after it. At the loop's head the first k records of the batch stand in their places
--- (`written`). A turn has the k-th from `nth`, of which the walk knows only that it meets its contract, and stores it.
--- After the last turn the list is `appended`. The laws of these lists are those of `Appended`.
--- Places: of the twelve locals, _i stands at 2 · (11 − i) after what a comment names in front of them, and is followed by
--- what frees it, shown as "…". A comment before a step gives its statement and, in brackets, the context.
+-- `journal::append` meets its contract: a walk of its MIR, by hand. `fitting` answers how many records are written,
+-- `count`, and the loop turns that often. The borrow is opened once, before the loop, and closed once, after it. At the
+-- loop's head the first k records of the batch stand in their places (`written`). A turn has the k-th from `nth`, of
+-- which the walk knows only that it meets its contract, and stores it. After the last turn the list is `appended`. The
+-- laws of these lists are those of `Appended`. Places: of the twelve locals, _i stands at 2 · (11 − i) after what a
+-- comment names in front of them, and is followed by what frees it, shown as "…". A comment before a step gives its
+-- statement and, in brackets, the context.
 -- Assumes nothing.
 use mathlib.Core.Path.{_≡_, refl, sym, ap, subst, _∙_}
 use mathlib.Core.Bool.{Bool, true, false}
@@ -28,11 +28,11 @@ use prog.Wp.{Heap, Env, Wp, WpFn, Tables, afterTurn, afterBlock, afterSeq, atRet
 use ghost.Atoms.{Atoms, sem}
 use contract.Monad.{Fun, fact}
 use contract.Running.{givenOf, tables, tablesOf}
-use types.Kit.{Given, Item, Sq, runs, anyQ, ‵, raw, _⊛_, ⋆, given, some, later, atRet, _$_, _∵_, !, qed, by, move, keep, drop}
-use types.Kit.{use1, split, join, pick, learn, await, rewrite, fsplit, fjoin, feqI, suffices, frame, done}
-use types.Run.{look, init, store, store-raw, forget, stop, hop, fld, from, load, lit, unit-lit, of-opd, bin, and-then, no-more}
-use types.Run.{assigns, assigns-last, land, first, blocks, loops, again, Below, stays, leaves-loop, exec, returns, enter}
-use types.Run.{alloc1, alloc0, params1, pass1, pass0, free1, free0}
+use types.Kit.{Given, Item, Sq, runs, anyQ, ‵, raw, _⊛_, ⋆, given, some, later, atRet, _$_, _∵_, !, qed, by, move, keep}
+use types.Kit.{drop, use1, split, join, pick, learn, await, rewrite, fsplit, fjoin, feqI, suffices, frame, done}
+use types.Run.{look, init, store, store-raw, forget, stop, hop, fld, from, load, lit, unit-lit, of-opd, bin, and-then}
+use types.Run.{no-more, assigns, assigns-last, land, first, blocks, loops, again, Below, stays, leaves-loop, exec}
+use types.Run.{returns, enter, alloc1, alloc0, params1, pass1, pass0, free1, free0}
 use types.Part.{whole, sub, look-in}
 use sound.WpLaws.{fmOf, WpFn-mono}
 use denote.RattleType.{owns}
@@ -54,14 +54,15 @@ use denote.Triple.Clauses.{ensured, lasts}
 use denote.Triple.Entry.{onEntry}
 use denote.Triple.Spec.{Meets, tripleOf}
 use denote.Triple.Table.{entered, cited}
-use denote.Triple.Walked.{says, Stays, stay-none, stay-slice, walkOf, goes-none, goes-slice, Walks, ends-at, walked, walk-meets}
+use denote.Triple.Walked.{says, Stays, stay-none, stay-slice, walkOf, goes-none, goes-slice, Walks, ends-at, walked}
+use denote.Triple.Walked.{walk-meets}
 use denote.Exit.{yes}
 use borrow.Author.Tests.{ltb-true, ltb-false}
 use Rattle.common.proofs.Tests.{by-cases}
 use Rattle.journal.specs.Types.{Record, Batch}
 use Rattle.journal.specs.Journal.{blank, recordAt, batchLength, appended}
-use Rattle.journal.proofs.Appended.{written, count, fitting-few, fitting-room, written-length, written-more, all-written}
-use Rattle.journal.proofs.Appended.{length-appended}
+use Rattle.journal.proofs.Appended.{written, count, fitting-few, fitting-room, written-length, written-more}
+use Rattle.journal.proofs.Appended.{all-written, length-appended}
 use Rattle.journal.proofs.record.Record as R
 use Rattle.journal.proofs.record.Record.Laws as R′
 use Rattle.journal.proofs.batch.Batch as B
@@ -82,7 +83,10 @@ use Rattle.journal.proofs.writing.append.Code.Mir as code-mir
 
 -- what is had of each parameter at exit
 abbrev stayed : Stays (append.ended .signature .params) (append.ended .kept)
-stayed = (stay-slice (0 ∷ []) tt (plain (λ _. R.the-row)), (stay-none (λ _. usize) yes, (stay-none (λ _. B.the-row) yes, tt)))
+stayed = (
+  stay-slice (0 ∷ []) tt (plain (λ _. R.the-row)),
+  (stay-none (λ _. usize) yes, (stay-none (λ _. B.the-row) yes, tt)),
+)
 
 -- the locals' types
 abbrev slice : Ty
@@ -100,7 +104,8 @@ module _ {M : Type 1} (𝓤 : URA M) (H : Heap 𝓤) (A : Atoms 𝓤) (mem : Mem
   Nth = tripleOf 𝓤 H A nth.signature (nth.spec 𝓤 H A mem run)
 
 -- the journal at the pointer (b, o) has the records ys; `at` and the batch h are the other arguments
-module _ {M : Type 1} (𝓤 : URA M) (H : Heap 𝓤) (A : Atoms 𝓤) (W : Given 𝓤 H A) (mem : Memory → SProp 𝓤) (run : Routine → Fun 𝓤)
+module _ {M : Type 1} (𝓤 : URA M) (H : Heap 𝓤) (A : Atoms 𝓤) (W : Given 𝓤 H A) (mem : Memory → SProp 𝓤)
+    (run : Routine → Fun 𝓤)
     (κ : Lft) (q : Share) (b o : ℕ) (γ : GName) (ys : List Record) (at : ℕ) (h : Batch) (at-fits : at < 2 ^ 64) where
   -- ---- the arguments, their machine values, and what stands at exit
 
@@ -135,7 +140,8 @@ module _ {M : Type 1} (𝓤 : URA M) (H : Heap 𝓤) (A : Atoms 𝓤) (W : Given
   abbrev zs : List Record
   zs = appended ys at h
 
-  -- ---- items of the context: the records in memory, what is observed of the list, and a local with a value, without, and its end
+  -- ---- items of the context: the records in memory, what is observed of the list, and a local with a value,
+  -- without, and its end
 
   abbrev Row : List Record → Item 𝓤
   Row l = ‵ (row R.the-row fullShare l b o)
@@ -161,10 +167,14 @@ module _ {M : Type 1} (𝓤 : URA M) (H : Heap 𝓤) (A : Atoms 𝓤) (W : Given
   abbrev Closed : List (Item 𝓤)
   Closed = Seen zs ∷ ‵ (fbor κ (Held R.the-row (length zs) b o γ)) ∷ ‵ (flft κ q) ∷ []
 
-  exits : Is B.the-row h (mach ∷ []) → Room R.the-row (length ys) → length zs ≡ length ys → ent 𝓤 (⋆ 𝓤 H A Closed) (Post vunit)
+  exits : Is B.the-row h (mach ∷ []) → Room R.the-row (length ys) → length zs ≡ length ys
+      → ent 𝓤 (⋆ 𝓤 H A Closed) (Post vunit)
   exits is room long =
       qed W Closed ∵
-      suffices ! _ (ends-at 𝓤 H A append.ended stayed (append.clauses 𝓤 H A mem run) W (((κ, tt), (q, tt), tt, a, vals), tt)
+      suffices ! _ (ends-at 𝓤 H A append.ended stayed (append.clauses 𝓤 H A mem run) W (
+        ((κ, tt), (q, tt), tt, a, vals),
+        tt,
+      )
       vunit tt (zs, (tt, (tt, tt))) (long, (tt, (tt, tt)))) $
       says ! refl $ nothing ! $ move ! (3 ∷ 0 ∷ []) $ join ! $ frame ! $
       fjoin ! $ pureI ! (at-slice R.the-row (journal zs) (s ∷ [])) (tt, (tt, tt))
@@ -176,12 +186,21 @@ module _ {M : Type 1} (𝓤 : URA M) (H : Heap 𝓤) (A : Atoms 𝓤) (W : Given
   -- ---- the calls: what the callee's triple binds outside, what it asks, and what it says
 
   abbrev to-fitting : Fitting 𝓤 H A mem run .Ghost
-  to-fitting =
-      ((tt, tt, tt, (length ys, (at, (h .n, tt))), (vint w64 (length ys) ∷ [], (vint w64 at ∷ [], (vint w64 (h .n) ∷ [], tt)))), tt)
+  to-fitting = (
+    (
+      tt,
+      tt,
+      tt,
+      (length ys, (at, (h .n, tt))),
+      (vint w64 (length ys) ∷ [], (vint w64 at ∷ [], (vint w64 (h .n) ∷ [], tt))),
+    ),
+    tt,
+  )
 
   goes-fitting : length ys < 2 ^ 64 → h .n < 2 ^ 64 → ent 𝓤 (sem 𝓤 H A ftrue) (Fitting 𝓤 H A mem run .pre to-fitting)
   goes-fitting len-fits n-fits =
-      qed W (‵ ftrue ∷ []) ∵ nothing ! $ owned ! usize (Is usize) (uint-makes 𝓤 H A W w64) (h .n) _ (refl, n-fits) $ fjoin ! $
+      qed W (‵ ftrue ∷ []) ∵ nothing ! $ owned ! usize (Is usize) (uint-makes 𝓤 H A W w64) (h .n) _
+      (refl, n-fits) $ fjoin ! $
       owned ! usize (Is usize) (uint-makes 𝓤 H A W w64) at _ (refl, at-fits) $ fjoin ! $
       owned ! usize (Is usize) (uint-makes 𝓤 H A W w64) (length ys) _ (refl, len-fits) $ fjoin ! $
       move ! (1 ∷ 0 ∷ []) $ join ! $ frame ! $ done !
@@ -190,12 +209,14 @@ module _ {M : Type 1} (𝓤 : URA M) (H : Heap 𝓤) (A : Atoms 𝓤) (W : Given
   FittingEnsures r = ensured 𝓤 H A fitting.ended (fitting.clauses 𝓤 H A mem run) tt (length ys, (at, (h .n, tt))) tt r
 
   fitting-says : (r : ℕ) → ent 𝓤 (FittingEnsures r) (fact 𝓤 (r ≡ m))
-  fitting-says r = exE 𝓤 _ (λ ws. snd∗ 𝓤 (sem 𝓤 H A (lasts fitting.ended tt (length ys, (at, (h .n, tt))) ws)) (fact 𝓤 (r ≡ m)))
+  fitting-says r = exE 𝓤 _ (λ ws. snd∗ 𝓤 (sem 𝓤 H A (lasts fitting.ended tt (length ys, (at, (h .n, tt))) ws))
+      (fact 𝓤 (r ≡ m)))
 
   abbrev to-nth : ℕ → Nth 𝓤 H A mem run .Ghost
   to-nth k = ((tt, tt, tt, (h, (k, tt)), (mach ∷ [], (vint w64 k ∷ [], tt))), tt)
 
-  goes-nth : Is B.the-row h (mach ∷ []) → (k : ℕ) → k < batchLength → ent 𝓤 (sem 𝓤 H A ftrue) (Nth 𝓤 H A mem run .pre (to-nth k))
+  goes-nth : Is B.the-row h (mach ∷ []) → (k : ℕ) → k < batchLength
+      → ent 𝓤 (sem 𝓤 H A ftrue) (Nth 𝓤 H A mem run .pre (to-nth k))
   goes-nth is k small =
       qed W (‵ ftrue ∷ []) ∵ says ! small $ frame ! $ nothing ! $
       owned ! usize (Is usize) (uint-makes 𝓤 H A W w64) k _ (refl, omega arith) $ fjoin ! $
@@ -205,13 +226,16 @@ module _ {M : Type 1} (𝓤 : URA M) (H : Heap 𝓤) (A : Atoms 𝓤) (W : Given
   NthEnsures k r = ensured 𝓤 H A nth.ended (nth.clauses 𝓤 H A mem run) tt (h, (k, tt)) tt r
 
   nth-says : (k : ℕ) (r : Record) → ent 𝓤 (NthEnsures k r) (fact 𝓤 (r ≡ recordAt (h .items) k))
-  nth-says k r = exE 𝓤 _ (λ ws. snd∗ 𝓤 (sem 𝓤 H A (lasts nth.ended tt (h, (k, tt)) ws)) (fact 𝓤 (r ≡ recordAt (h .items) k)))
+  nth-says k r = exE 𝓤 _ (λ ws. snd∗ 𝓤 (sem 𝓤 H A (lasts nth.ended tt (h, (k, tt)) ws))
+      (fact 𝓤 (r ≡ recordAt (h .items) k)))
 
   module _ (𝓣 : Tables 𝓤 H) (known-fitting : Triple 𝓤 (𝓣 .C #fitting) (Fitting 𝓤 H A mem run))
-      (known-nth : Triple 𝓤 (𝓣 .C #nth) (Nth 𝓤 H A mem run)) (is : Is B.the-row h (mach ∷ [])) (room : Room R.the-row (length ys)) where
+      (known-nth : Triple 𝓤 (𝓣 .C #nth) (Nth 𝓤 H A mem run)) (is : Is B.the-row h (mach ∷ []))
+      (room : Room R.the-row (length ys)) where
     -- the batch has seven places, and its number fits
     seven : length (h .items) ≡ batchLength
-    seven = sym (length-map (h .items) (R.the-field .into)) ∙ LL.owed B.the-type B′.the-laws h (mach ∷ []) is .0 .1 .0 .1
+    seven = sym (length-map (h .items) (R.the-field .into))
+        ∙ LL.owed B.the-type B′.the-laws h (mach ∷ []) is .0 .1 .0 .1
 
     n-fits : h .n < 2 ^ 64
     n-fits = LL.owed B.the-type B′.the-laws h (mach ∷ []) is .1 .0 .1
@@ -246,7 +270,8 @@ module _ {M : Type 1} (𝓤 : URA M) (H : Heap 𝓤) (A : Atoms 𝓤) (W : Given
 
       -- the k-th turn, from a context
       abbrev Turn : ℕ → List (Item 𝓤) → Type 1
-      Turn k Γ = Sq W Γ (runs (𝓣 .C) (𝓣 .Λ) En code-mir.turn-1 (anyQ (afterTurn 𝓤 H (Below 𝓤 H A fewer Inv k) (afterBlock 𝓤 H
+      Turn k Γ = Sq W Γ (runs (𝓣 .C) (𝓣 .Λ) En code-mir.turn-1
+          (anyQ (afterTurn 𝓤 H (Below 𝓤 H A fewer Inv k) (afterBlock 𝓤 H
           (afterSeq 𝓤 H (Wp 𝓤 H (𝓣 .C) (𝓣 .Λ) En code-mir.t-5 (atReturn 𝓤 H En Post)) (atReturn 𝓤 H En Post))))))
 
       -- the k-th record is written
@@ -261,27 +286,34 @@ module _ {M : Type 1} (𝓤 : URA M) (H : Heap 𝓤) (A : Atoms 𝓤) (W : Given
           -- _7 = _5 < _4
           assigns ! (bin ! (load ! (from ! (stop !)) (look ! 16 refl)) (load ! (from ! (stop !)) (look ! 18 refl)) tt)
           (from ! (stop !)) (init ! 12 refl (tt, tt)) $
-          rewrite ! 12 (λ (t : Bool). cell tyBool l₇ (vbool t)) more refl $ stays ! (load ! (from ! (stop !)) (look ! 12 refl)) $
+          rewrite ! 12 (λ (t : Bool). cell tyBool l₇ (vbool t)) more refl $ stays !
+          (load ! (from ! (stop !)) (look ! 12 refl)) $
           -- _8 = nth(_3, _5)
           nothing ! $ use1 W (raw (Nth 𝓤 H A mem run .pre (to-nth k))) (goes-nth is k (omega arith)) $
           calls-at ! (fmOf 𝓤 H (W .laws) 𝓣) (Nth 𝓤 H A mem run) known-nth (to-nth k)
-          (and-then ! (load ! (from ! (stop !)) (look ! 21 refl)) (and-then ! (load ! (from ! (stop !)) (look ! 17 refl)) (no-more !)))
-          (λ v. use1 W (later (some (λ (r : Record). (‵ ftrue ⊛ ‵ (R.the-row .own r (v ∷ []))) ⊛ raw (NthEnsures k r)))) (id⊢ 𝓤 _) $
+          (and-then ! (load ! (from ! (stop !)) (look ! 21 refl))
+          (and-then ! (load ! (from ! (stop !)) (look ! 17 refl)) (no-more !)))
+          (λ v. use1 W (later (some (λ (r : Record). (‵ ftrue ⊛ ‵ (R.the-row .own r (v ∷ []))) ⊛ raw (NthEnsures k r))))
+          (id⊢ 𝓤 _) $
           await ! tt $ pick ! (λ r. split ! $ move ! (1 ∷ []) $
           use1 W (raw (fact 𝓤 (r ≡ recordAt (h .items) k))) (nth-says k r) $ heard ! (r ≡ recordAt (h .items) k) (λ e.
           split ! $ drop ! $ peeks ! R.the-row (Is R.the-row) (shows 𝓤 H A R.the-row) r (v ∷ []) (λ ok.
           land ! (from ! (stop !)) (init ! 11 refl (typed r v ok)) $
-          -- _9 = _2 + _5, _10 = _9 * 4, _11 = _1.0 offset by _10: [what r owns; the row; the open borrow; two facts; _11; …]
+          -- _9 = _2 + _5, _10 = _9 * 4, _11 = _1.0 offset by _10: [what r owns; the row; the open borrow; two facts;
+          -- _11; …]
           assigns ! (bin ! (load ! (from ! (stop !)) (look ! 23 refl)) (load ! (from ! (stop !)) (look ! 17 refl))
-          (record { fits = omega (arith, room .0) })) (from ! (stop !)) (init ! 9 refl (tt, record { fits = omega (arith, room .0) })) $
+          (record { fits = omega (arith, room .0) })) (from ! (stop !))
+          (init ! 9 refl (tt, record { fits = omega (arith, room .0) })) $
           assigns ! (bin ! (load ! (from ! (stop !)) (look ! 9 refl)) (lit ! tt)
-          (record { fits = omega (arith, room .1) })) (from ! (stop !)) (init ! 7 refl (tt, record { fits = omega (arith, room .1) })) $
+          (record { fits = omega (arith, room .1) })) (from ! (stop !))
+          (init ! 7 refl (tt, record { fits = omega (arith, room .1) })) $
           assigns ! (bin ! (load ! (from ! (fld ! refl (stop !))) (look-in ! 25 (sub ! 0 refl (whole !))))
           (load ! (from ! (stop !)) (look ! 7 refl)) tt) (from ! (stop !)) (init ! 5 refl (tt, tt)) $
           rewrite ! 5 (λ (p : ℕ). cell tyPtr l₁₁ (vptr b p)) (sym (place-is 4 o (at + k))) refl $
           move ! (1 ∷ []) $ elem-out ! R.the-row (Is R.the-row) (shows 𝓤 H A R.the-row) (LL.vals R.the-type R′.the-laws)
           (LL.tells R.the-type R′.the-laws) fullShare (upto k) (at + k) blank b o here (λ _.
-          -- *_11 = _8: [journal[at + k]; what it owns; the other records; what r owns; the open borrow; two facts; _11; …]
+          -- *_11 = _8: [journal[at + k]; what it owns; the other records; what r owns; the open borrow; two facts; _11;
+          -- …]
           assigns ! (of-opd ! (load ! (from ! (stop !)) (look ! 13 refl))) (from ! (hop ! (look ! 7 refl) (stop !)))
           (store-raw ! 0 refl (typed r v ok)) $
           move ! (1 ∷ []) $ drop ! $ move ! (0 ∷ 2 ∷ 1 ∷ []) $
@@ -303,7 +335,8 @@ module _ {M : Type 1} (𝓤 : URA M) (H : Heap 𝓤) (A : Atoms 𝓤) (W : Given
           -- _7 = _5 < _4
           assigns ! (bin ! (load ! (from ! (stop !)) (look ! 16 refl)) (load ! (from ! (stop !)) (look ! 18 refl)) tt)
           (from ! (stop !)) (init ! 12 refl (tt, tt)) $
-          rewrite ! 12 (λ (t : Bool). cell tyBool l₇ (vbool t)) none refl $ leaves-loop ! (load ! (from ! (stop !)) (look ! 12 refl)) $
+          rewrite ! 12 (λ (t : Bool). cell tyBool l₇ (vbool t)) none refl $ leaves-loop !
+          (load ! (from ! (stop !)) (look ! 12 refl)) $
           exec ! (𝓣 .C) (𝓣 .Λ) En code-mir.t-5 (atRet En Post) $
           rewrite ! 0 Row (ap upto end ∙ all-written ys at h) refl $ closes-slice ! tt R.the-row ys zs long b o $
           -- _0 = (): [what is seen; the borrow; the token; _11; …]
@@ -324,10 +357,12 @@ module _ {M : Type 1} (𝓤 : URA M) (H : Heap 𝓤) (A : Atoms 𝓤) (W : Given
     walk : ent 𝓤 (onEntry 𝓤 H A append.signature (κ, tt) (q, tt) a vals)
         (WpFn 𝓤 H (𝓣 .C) (𝓣 .Λ) code.function (s ∷ vint w64 at ∷ mach ∷ []) Post)
     walk =
-        qed W ((‵ (flft κ q) ⊛ ‵ ftrue) ∷ ‵ (owns (MutSlice (named 0) κ R.the-row ∷ usize ∷ B.the-row ∷ []) a vals) ∷ []) ∵
+        qed W ((‵ (flft κ q) ⊛ ‵ ftrue) ∷ ‵ (owns (MutSlice (named 0) κ R.the-row ∷ usize ∷ B.the-row ∷ []) a vals)
+        ∷ []) ∵
         enter ! (𝓣 .C) (𝓣 .Λ) code.function (s ∷ vint w64 at ∷ mach ∷ []) _ $
         alloc1 ! (λ l₀. alloc1 ! (λ l₁. alloc1 ! (λ l₂. alloc1 ! (λ l₃. alloc1 ! (λ l₄. alloc1 ! (λ l₅.
-        alloc1 ! (λ l₆. alloc1 ! (λ l₇. alloc1 ! (λ l₈. alloc1 ! (λ l₉. alloc1 ! (λ l₁₀. alloc1 ! (λ l₁₁. alloc0 ! $ params1 ! $
+        alloc1 ! (λ l₆. alloc1 ! (λ l₇. alloc1 !
+        (λ l₈. alloc1 ! (λ l₉. alloc1 ! (λ l₁₀. alloc1 ! (λ l₁₁. alloc0 ! $ params1 ! $
         pass1 ! (init ! 20 refl (tt, (tt, (record { fits = room .0 }, tt)))) $
         pass1 ! (init ! 18 refl (tt, record { fits = at-fits })) $
         pass1 ! (init ! 16 refl (LL.lawful B.the-type B′.the-laws 𝓤 H A W .typed h _ is .0)) $ pass0 ! $
@@ -339,16 +374,19 @@ module _ {M : Type 1} (𝓤 : URA M) (H : Heap 𝓤) (A : Atoms 𝓤) (W : Given
         calls-at ! (fmOf 𝓤 H (W .laws) 𝓣) (Fitting 𝓤 H A mem run) known-fitting to-fitting
         (and-then ! (load ! (from ! (stop !)) (look ! 11 refl)) (and-then ! (load ! (from ! (stop !)) (look ! 19 refl))
         (and-then ! (load ! (from ! (fld ! refl (stop !))) (look-in ! 17 (sub ! 1 refl (whole !)))) (no-more !))))
-        (λ v. use1 W (later (some (λ (r : ℕ). (‵ ftrue ⊛ ‵ (usize .own r (v ∷ []))) ⊛ raw (FittingEnsures r)))) (id⊢ 𝓤 _) $
+        (λ v. use1 W (later (some (λ (r : ℕ). (‵ ftrue ⊛ ‵ (usize .own r (v ∷ []))) ⊛ raw (FittingEnsures r))))
+        (id⊢ 𝓤 _) $
         await ! tt $ pick ! (λ r. split ! $ move ! (1 ∷ []) $
         use1 W (raw (fact 𝓤 (r ≡ m))) (fitting-says r) $ heard ! (r ≡ m) (λ e.
         split ! $ drop ! $ peeks ! usize (Is usize) (shows 𝓤 H A usize) r (v ∷ []) (λ ok.
         land ! (from ! (stop !)) (init ! 15 refl (uint-lawful 𝓤 H A W w64 .typed r _ ok .0)) $
-        rewrite ! 15 (λ (u : Val). cell word l₄ u) (ap only (ok .0) ∙ ap (vint w64) e) refl $ drop ! $ forget ! 10 refl $
+        rewrite ! 15 (λ (u : Val). cell word l₄ u) (ap only (ok .0) ∙ ap (vint w64) e) refl $ drop ! $ forget ! 10 refl
+        $
         -- _5 = 0: [_11; …; the token; what the parameters own]
         assigns ! (of-opd ! (lit ! tt)) (from ! (stop !)) (init ! 12 refl (tt, record { fits = lit< tt })) $
         -- what the slice owns is taken apart, and the borrow opened with the token
-        move ! (25 ∷ []) $ fsplit ! $ fsplit ! $ move ! (1 ∷ []) $ fsplit ! $ move ! (28 ∷ []) $ split ! $ move ! (2 ∷ 3 ∷ 0 ∷ []) $
+        move ! (25 ∷ []) $ fsplit ! $ fsplit ! $ move ! (1 ∷ []) $ fsplit ! $ move ! (28 ∷ []) $ split ! $ move !
+        (2 ∷ 3 ∷ 0 ∷ []) $
         opens-slice ! tt R.the-row ys b o $ rewrite ! 0 Row (paste-zero ys at (h .items)) refl $
         use1 W (given (0 ≤ m) (Row (upto 0))) (guardI 𝓤 (0 ≤ m) _ zero-le) $
         keep ! (0 ∷ 1 ∷ 2 ∷ 3 ∷ 7 ∷ 8 ∷ 9 ∷ 10 ∷ 11 ∷ 12 ∷ 13 ∷ 14 ∷ 15 ∷ 16 ∷ 17 ∷ 18 ∷ 19 ∷ 20
@@ -357,7 +395,8 @@ module _ {M : Type 1} (𝓤 : URA M) (H : Heap 𝓤) (A : Atoms 𝓤) (W : Given
 
 -- ---- the walk is taken to the contract
 
-module _ {M : Type 1} (𝓤 : URA M) (H : Heap 𝓤) (A : Atoms 𝓤) (W : Given 𝓤 H A) (mem : Memory → SProp 𝓤) (run : Routine → Fun 𝓤)
+module _ {M : Type 1} (𝓤 : URA M) (H : Heap 𝓤) (A : Atoms 𝓤) (W : Given 𝓤 H A) (mem : Memory → SProp 𝓤)
+    (run : Routine → Fun 𝓤)
     (𝓣 : Tables 𝓤 H) (known-fitting : Triple 𝓤 (𝓣 .C #fitting) (Fitting 𝓤 H A mem run))
     (known-nth : Triple 𝓤 (𝓣 .C #nth) (Nth 𝓤 H A mem run)) where
   append-walks : Walks 𝓤 H A append.ended stayed (WpFn 𝓤 H (𝓣 .C) (𝓣 .Λ) code.function) (append.clauses 𝓤 H A mem run)
@@ -365,7 +404,8 @@ module _ {M : Type 1} (𝓤 : URA M) (H : Heap 𝓤) (A : Atoms 𝓤) (W : Given
       (λ κs. (slice-vals, (uint-vals w64, (LL.vals B.the-type B′.the-laws, tt))))
       (λ κs. (mut-slice-tells (named 0) (κs .0) R.the-row, (uint-tells w64, (LL.tells B.the-type B′.the-laws, tt))))
       (λ κs qs bounds a g are. via 𝓤 _ (fst∗ 𝓤 _ (emp 𝓤))
-      (walk 𝓤 H A W mem run (κs .0) (qs .0) (a .0 .ptr .0) (a .0 .ptr .1) (a .0 .name) (a .0 .now) (a .1 .0) (a .1 .1 .0)
+      (walk 𝓤 H A W mem run (κs .0) (qs .0) (a .0 .ptr .0) (a .0 .ptr .1) (a .0 .name) (a .0 .now) (a .1 .0)
+      (a .1 .1 .0)
       (are .1 .0 .1) 𝓣 known-fitting known-nth (are .1 .1 .0) (are .0 .0 .1)))
 
   append-meets : Meets 𝓤 H A append.signature (WpFn 𝓤 H (𝓣 .C) (𝓣 .Λ) code.function) (append.spec 𝓤 H A mem run)

@@ -7,8 +7,8 @@ use native.Mathlib.Omega.{arith}
 use denote.Ref.{now}
 use borrow.Author.Needs.{needs}
 use Rattle.line.proofs.InOrder.{Left, afterTracks, PostsRead, TrainsRead, posts-refused, posts-read}
-use Rattle.line.proofs.InOrder.{tracks-refused, tracks-read, trains-refused, trains-read}
-use Rattle.line.proofs.InOrder.{routes-refused, routes-read}
+use Rattle.line.proofs.InOrder.{tracks-refused, tracks-read, trains-refused, trains-read, routes-refused}
+use Rattle.line.proofs.InOrder.{routes-read}
 use Rattle.line.proofs.book.read.Statement.{statement}
 use Rattle.line.proofs.book.read.Tie as tie
 

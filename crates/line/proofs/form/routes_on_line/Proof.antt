@@ -13,7 +13,8 @@ use Rattle.line.proofs.form.routes_on_line.Statement.{statement}
 use Rattle.line.proofs.form.routes_on_line.Tie as tie
 
 abbrev Inv-loop : tie.InvT-loop
-Inv-loop line t₀ t = Passing (line .trains) (λ u. ltb (routeOf line u .start .0) (line .posts) && ltb (routeOf line u .end .0) (line .posts)) t
+Inv-loop line t₀ t = Passing (line .trains) (λ u. ltb (routeOf line u .start .0) (line .posts)
+    && ltb (routeOf line u .end .0) (line .posts)) t
 
 abbrev μ-loop : tie.MeasureT-loop
 μ-loop line t₀ t = line .trains - t
@@ -34,7 +35,8 @@ returns : tie.Need-returns Inv-loop μ-loop
 returns c = passing-fails (c .before .before .before .before .loop .inv) (omega arith) (off-start _ _ _ (c .if1 .taken))
 
 returns-2 : tie.Need-returns-2 Inv-loop μ-loop
-returns-2 c = passing-fails (c .before .before .before .before .before .before .loop .inv) (omega arith) (off-end _ _ _ (c .if2 .taken))
+returns-2 c = passing-fails (c .before .before .before .before .before .before .loop .inv) (omega arith)
+    (off-end _ _ _ (c .if2 .taken))
 
 add-t : tie.Need-add-t Inv-loop μ-loop
 add-t c = omega arith

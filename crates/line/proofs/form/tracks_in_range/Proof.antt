@@ -27,7 +27,8 @@ returns : tie.Need-returns Inv-loop μ-loop
 returns c = passing-fails (c .before .before .before .loop .inv) (omega arith) (below-range 1 4 _ (c .if1 .taken))
 
 returns-2 : tie.Need-returns-2 Inv-loop μ-loop
-returns-2 c = passing-fails (c .before .before .before .before .loop .inv) (omega arith) (above-range 1 4 _ (c .if2 .taken))
+returns-2 c = passing-fails (c .before .before .before .before .loop .inv) (omega arith)
+    (above-range 1 4 _ (c .if2 .taken))
 
 add-p : tie.Need-add-p Inv-loop μ-loop
 add-p c = omega arith
@@ -36,7 +37,8 @@ loop-less : tie.Need-loop-less Inv-loop μ-loop
 loop-less c = omega arith
 
 loop-again : tie.Need-loop-again Inv-loop μ-loop
-loop-again c = passing-more (c .before .before .before .before .loop .inv) (omega arith) (ranged 1 4 _ (c .before .if1 .left) (c .if2 .left))
+loop-again c = passing-more (c .before .before .before .before .loop .inv) (omega arith)
+    (ranged 1 4 _ (c .before .if1 .left) (c .if2 .left))
 
 returns-3 : tie.Need-returns-3 Inv-loop μ-loop
 returns-3 c = passing-all (c .before .loop .inv) (omega arith)

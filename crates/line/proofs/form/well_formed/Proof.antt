@@ -24,7 +24,8 @@ tracks-in-range-requires c κs = search needs
 returns-3 : tie.Need-returns-3
 returns-3 c =
     let line = c .before .before .before .before .before .before .args .line in
-    tracks-fail line (ranged 2 8 (line .posts) (omega arith) (omega arith)) (sym (c .before .tracks-in-range .ensures) ∙ not-true _ (c .if3 .taken))
+    tracks-fail line (ranged 2 8 (line .posts) (omega arith) (omega arith)) (sym (c .before .tracks-in-range .ensures)
+    ∙ not-true _ (c .if3 .taken))
 
 -- posts and tracks are in range
 module _ (c : tie.Else3) where
@@ -41,7 +42,8 @@ returns-4 : tie.Need-returns-4
 returns-4 c = let p = c .before .before in trains-fail (line p) (posts p) (tracks p) (below-range 1 6 _ (c .if4 .taken))
 
 returns-5 : tie.Need-returns-5
-returns-5 c = let p = c .before .before .before .before in trains-fail (line p) (posts p) (tracks p) (above-range 1 6 _ (c .if5 .taken))
+returns-5 c = let p = c .before .before .before .before in trains-fail (line p) (posts p) (tracks p)
+    (above-range 1 6 _ (c .if5 .taken))
 
 routes-on-line-requires : tie.Need-routes-on-line-requires
 routes-on-line-requires c κs = search needs
@@ -49,7 +51,8 @@ routes-on-line-requires c κs = search needs
 returns-6 : tie.Need-returns-6
 returns-6 c =
     let p = c .before .before .before .before .before in
-    c .routes-on-line .ensures ∙ routes-decide (line p) (posts p) (tracks p) (ranged 1 6 (line p .trains) (omega arith) (omega arith))
+    c .routes-on-line .ensures ∙ routes-decide (line p) (posts p) (tracks p)
+    (ranged 1 6 (line p .trains) (omega arith) (omega arith))
 
 pub well-formed-spec : {M : Type 1} → statement M
 well-formed-spec =

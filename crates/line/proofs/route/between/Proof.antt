@@ -16,7 +16,8 @@ in-order-requires-2 : tie.Need-in-order-requires-2
 in-order-requires-2 c κs = search needs
 
 returns-2 : tie.Need-returns-2
-returns-2 c = c .in-order2 .ensures ∙ between-down _ _ _ (sym (c .before .before .in-order .ensures) ∙ c .before .if1 .left)
+returns-2 c = c .in-order2 .ensures ∙ between-down _ _ _ (sym (c .before .before .in-order .ensures)
+    ∙ c .before .if1 .left)
 
 pub between-spec : {M : Type 1} → statement M
 between-spec = tie.close (tie.spec in-order-requires returns in-order-requires-2 returns-2)
