@@ -12,6 +12,16 @@
 
 static const uint8_t BOOK_X[] = {0x00, 0x0A, 1, 3, 1, 2, 1, 2, 0, 2, 2, 0};
 
+/* The journal of the run: kind, train, from, to. */
+#define RECORDS 13
+static const uint8_t RUN[RECORDS][QUANGEVIT_RECORD_BYTES] = {
+    {QUANGEVIT_FA, 0, 0, 1},  {QUANGEVIT_FE, 0, 0, 1}, {QUANGEVIT_FA, 1, 2, 1},
+    {QUANGEVIT_FE, 1, 2, 1},  {QUANGEVIT_AM, 0, 0, 1}, {QUANGEVIT_FA, 0, 1, 2},
+    {QUANGEVIT_AFE, 0, 1, 2}, {QUANGEVIT_AM, 1, 2, 1}, {QUANGEVIT_FE, 0, 1, 2},
+    {QUANGEVIT_FA, 1, 1, 0},  {QUANGEVIT_FE, 1, 1, 0}, {QUANGEVIT_AM, 0, 1, 2},
+    {QUANGEVIT_AM, 1, 1, 0},
+};
+
 static uint8_t state[QUANGEVIT_STATE_BYTES];
 static uint8_t table[QUANGEVIT_TABLE_BYTES];
 static uint8_t journal[QUANGEVIT_JOURNAL_BYTES];
@@ -101,7 +111,8 @@ int main(void) {
     travel(0);
     travel(1);
     print_journal();
-    expect(state[QUANGEVIT_STATE_BYTES - 1] == 13, "not 13 records");
+    expect(state[QUANGEVIT_STATE_BYTES - 1] == RECORDS, "not 13 records");
+    expect(memcmp(journal, RUN, sizeof RUN) == 0, "other records");
     expect(refused_frames == 0, "a frame is refused");
     return off;
 }
