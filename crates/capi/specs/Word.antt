@@ -1,0 +1,6 @@
+-- What every entry point answers.
+use Prim.Native.Nat.{ℕ, _+_, _*_}
+
+-- the number of a refusal, or 0, in the low byte; the number of frames written in the next
+abbrev pub wordOf : ℕ → ℕ → ℕ
+wordOf refusal sent = refusal + 256 * sent

@@ -1,0 +1,118 @@
+/*
+ * The run of 01 from C: opens book X, answers eight frames that two drivers' units give, and prints
+ * the journal. Exit status 0 where all went as the paper says, else 1.
+ *
+ *   rt staticlib capi
+ *   cc -Wall -Wextra -I crates/capi tests/c/example.c target/staticlib/libcapi.a -o example
+ */
+#include <stdio.h>
+#include <string.h>
+
+#include "quangevit.h"
+
+static const uint8_t BOOK_X[] = {0x00, 0x0A, 1, 3, 1, 2, 1, 2, 0, 2, 2, 0};
+
+/* The journal of the run: kind, train, from, to. */
+#define RECORDS 13
+static const uint8_t RUN[RECORDS][QUANGEVIT_RECORD_BYTES] = {
+    {QUANGEVIT_FA, 0, 0, 1},  {QUANGEVIT_FE, 0, 0, 1}, {QUANGEVIT_FA, 1, 2, 1},
+    {QUANGEVIT_FE, 1, 2, 1},  {QUANGEVIT_AM, 0, 0, 1}, {QUANGEVIT_FA, 0, 1, 2},
+    {QUANGEVIT_AFE, 0, 1, 2}, {QUANGEVIT_AM, 1, 2, 1}, {QUANGEVIT_FE, 0, 1, 2},
+    {QUANGEVIT_FA, 1, 1, 0},  {QUANGEVIT_FE, 1, 1, 0}, {QUANGEVIT_AM, 0, 1, 2},
+    {QUANGEVIT_AM, 1, 1, 0},
+};
+
+static uint8_t state[QUANGEVIT_STATE_BYTES];
+static uint8_t table[QUANGEVIT_TABLE_BYTES];
+static uint8_t journal[QUANGEVIT_JOURNAL_BYTES];
+static uint8_t out[QUANGEVIT_OUT_BYTES];
+static uint8_t units[2][QUANGEVIT_UNIT_BYTES];
+
+static unsigned refused_frames;
+static int off;
+
+/* Something is not as the paper says. */
+static void expect(int held, const char *what) {
+    if (!held) {
+        fprintf(stderr, "off: %s\n", what);
+        off = 1;
+    }
+}
+
+/* Presses a button of a unit, which must be accepted; answers how many frames it gave. */
+static uint32_t press(unsigned t, enum quangevit_button button, uint8_t *frame) {
+    uint32_t r = quangevit_press(units[t], QUANGEVIT_UNIT_BYTES, (uint8_t)button, frame,
+                                 QUANGEVIT_FRAME_BYTES);
+    expect(QUANGEVIT_REFUSAL(r) == QUANGEVIT_ACCEPTED, "a press is refused");
+    return QUANGEVIT_SENT(r);
+}
+
+/* Sends a frame to the dispatcher; every unit hears the answers. */
+static void send(const uint8_t *frame) {
+    uint32_t r = quangevit_answer(state, sizeof state, table, sizeof table, journal, sizeof journal,
+                                  frame, QUANGEVIT_FRAME_BYTES, out, sizeof out);
+    uint32_t k, t;
+    if (QUANGEVIT_REFUSAL(r) != QUANGEVIT_ACCEPTED)
+        refused_frames++;
+    for (k = 0; k < QUANGEVIT_SENT(r); k++)
+        for (t = 0; t < 2; t++)
+            expect(quangevit_hear(units[t], QUANGEVIT_UNIT_BYTES, out + QUANGEVIT_FRAME_BYTES * k,
+                                  QUANGEVIT_FRAME_BYTES) == QUANGEVIT_ACCEPTED,
+                   "an answer is not heard");
+}
+
+/* The driver of train t asks for the next move. */
+static void ask(unsigned t) {
+    uint8_t frame[QUANGEVIT_FRAME_BYTES];
+    expect(press(t, QUANGEVIT_ASK, frame) == 1, "no FA");
+    send(frame);
+}
+
+/* The driver of train t goes under authority to the next post and reports it. */
+static void travel(unsigned t) {
+    uint8_t frame[QUANGEVIT_FRAME_BYTES];
+    expect(press(t, QUANGEVIT_DEPART, frame) == 0, "a frame at departure");
+    expect(press(t, QUANGEVIT_REACHED, frame) == 0, "a frame at the post");
+    expect(press(t, QUANGEVIT_REPORT, frame) == 1, "no AM");
+    send(frame);
+}
+
+static void print_journal(void) {
+    static const char *const kinds[] = {"?", "FA", "FE", "AFE", "AM"};
+    unsigned count = state[QUANGEVIT_STATE_BYTES - 1];
+    unsigned i;
+    for (i = 0; i < count; i++) {
+        const uint8_t *r = journal + QUANGEVIT_RECORD_BYTES * i;
+        printf("%u %s %u %u %u\n", i, kinds[r[0] <= 4 ? r[0] : 0], r[1], r[2], r[3]);
+    }
+    printf("end %u %u\n", count, refused_frames);
+}
+
+int main(void) {
+    static uint8_t line[QUANGEVIT_LINE_BYTES];
+    static const uint8_t line_x[QUANGEVIT_LINE_BYTES] = {3, 1, 2, 1, 0, 0, 0, 0, 0, 2, 0, 2, 2, 0};
+    unsigned t;
+    expect(quangevit_read_book(BOOK_X, sizeof BOOK_X, line, sizeof line) == QUANGEVIT_ACCEPTED,
+           "book X is not read");
+    expect(memcmp(line, line_x, sizeof line) == 0, "book X is another line");
+    expect(quangevit_open(BOOK_X, sizeof BOOK_X, state, sizeof state, table, sizeof table, journal,
+                          sizeof journal) == QUANGEVIT_ACCEPTED,
+           "book X does not open");
+    for (t = 0; t < 2; t++)
+        expect(quangevit_make_unit((uint8_t)t, line[10 + 2 * t], line[11 + 2 * t], units[t],
+                                   QUANGEVIT_UNIT_BYTES) == QUANGEVIT_ACCEPTED,
+               "a unit is not made");
+    ask(0);
+    ask(1);
+    travel(0);
+    ask(0);
+    travel(1);
+    ask(1);
+    travel(0);
+    travel(1);
+    print_journal();
+    expect(state[QUANGEVIT_STATE_BYTES - 1] == RECORDS, "not 13 records");
+    expect(memcmp(journal, RUN, sizeof RUN) == 0, "other records");
+    expect(refused_frames == 0, "a frame is refused");
+    return off;
+}
