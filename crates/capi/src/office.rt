@@ -1,6 +1,5 @@
 // The dispatcher's end: a book is read or opened, a frame answered.
 ghost use mathlib.Core.Path.{_≡_};
-ghost use Rattle.line.specs.Book.{outcomeNumber};
 ghost use Rattle.capi.specs.BoxCalls.{bookCall, readBookCall, openCallOf, openCall};
 ghost use Rattle.capi.specs.BoxCalls.{answerCallOf, verdictWord, answerCall};
 use crate::journal_bytes::RECORD_LENGTH;
@@ -12,7 +11,6 @@ use crate::state_bytes::encodes_state;
 use crate::state_bytes::put_state;
 use crate::state_bytes::state_in;
 use crate::word::word_of;
-use line::Outcome;
 use line::refusal::STRANGE_STATE;
 use rules::Verdict;
 
@@ -28,17 +26,7 @@ pub extern "C" fn quangevit_read_book(book: &[u8], line: &mut [u8]) -> u32
     let found = reading.line;
     put_line(found, line);
     let outcome = reading.outcome;
-    word_of(number_of(outcome), 0)
-}
-
-// The number that a book is refused by; 0 of one that is read.
-fn number_of(outcome: Outcome) -> u8
-    ensures { λ r. ⌜ r ≡ outcomeNumber outcome ⌝ }
-{
-    match outcome {
-        Outcome::Read => 0,
-        Outcome::Refused(n) => n,
-    }
+    word_of(line::book::number_of(outcome), 0)
 }
 
 // Opens a book: fills the table and writes the state. Of the journal only the length is looked at.

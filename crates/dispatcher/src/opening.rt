@@ -1,6 +1,5 @@
 // The opening of a book: the table is filled, and every train stands at its start.
 ghost use mathlib.Core.Path.{_≡_};
-ghost use Rattle.line.specs.Book.{outcomeNumber};
 ghost use Rattle.rules.specs.State.{noTrain};
 ghost use Rattle.rules.specs.Opening.{fresh, openedState, emptyState, openingOf, openingWith, opening};
 use crate::log::Log;
@@ -52,7 +51,7 @@ pub fn open_with(book: &[u8], table: &mut [u8], records: usize) -> Opened
     let reading = line::book::read(book);
     let outcome = reading.outcome;
     let Outcome::Read = outcome else {
-        return refused(number_of(outcome));
+        return refused(line::book::number_of(outcome));
     };
     let line = reading.line;
     if !completion::feasible_start(line) {
@@ -66,16 +65,6 @@ pub fn open_with(book: &[u8], table: &mut [u8], records: usize) -> Opened
     }
     let state = opened_state(line);
     Opened { state, refusal: 0 }
-}
-
-// The number that a book is refused by; 0 of one that is read.
-fn number_of(outcome: Outcome) -> u8
-    ensures { λ r. ⌜ r ≡ outcomeNumber outcome ⌝ }
-{
-    match outcome {
-        Outcome::Read => 0,
-        Outcome::Refused(n) => n,
-    }
 }
 
 fn refused(number: u8) -> Opened

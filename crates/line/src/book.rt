@@ -6,7 +6,7 @@ ghost use lib.ListN.{length};
 ghost use Rattle.common.specs.Tabulate.{padded};
 ghost use Rattle.line.specs.Line.{noRoute, inRange};
 ghost use Rattle.line.specs.Book.{byteAt, postsOf, countAt, routeIn, emptyLine, refusedBy, readBook};
-ghost use Rattle.line.specs.Book.{numberOf, postsStage, tracksStage, trainsStage, routesStage};
+ghost use Rattle.line.specs.Book.{outcomeNumber, numberOf, postsStage, tracksStage, trainsStage, routesStage};
 use crate::form::routes_on_line;
 use crate::form::tracks_in_range;
 use crate::refusal;
@@ -27,6 +27,16 @@ pub struct Line {
 pub enum Outcome {
     Read,
     Refused(u8),
+}
+
+// The number that a book is refused by; 0 of one that is read.
+pub fn number_of(outcome: Outcome) -> u8
+    ensures { λ r. ⌜ r ≡ outcomeNumber outcome ⌝ }
+{
+    match outcome {
+        Outcome::Read => 0,
+        Outcome::Refused(n) => n,
+    }
 }
 
 // What reading a book gives. The line of a refused book is the empty one, all 0.
