@@ -2,29 +2,40 @@
 -- own, so that both read back.
 -- Assumes nothing.
 use mathlib.Core.Path.{_≡_, refl, ap, _∙_}
+use mathlib.Core.Logic.{_≢_}
 use mathlib.Core.Bool.{true}
 use mathlib.Core.List.{List}
 use Prim.Native.Nat.{ℕ, zero, suc, _+_, _≤_}
 use native.Mathlib.Omega.{arith}
 use lib.ListN.{length, length-map}
 use borrow.Author.Tests.{eq-eqb}
-use Rattle.common.specs.Check.{unlessRefused}
+use Rattle.common.specs.Check.{refusal, unlessRefused}
+use Rattle.common.proofs.Check.{accepts, refuses}
+use Rattle.common.proofs.Tests.{by-cases, by-equality}
 use Rattle.common.proofs.Part.{length-replaced}
 use Rattle.common.proofs.Tabulate.{length-tabulate, length-padded}
 use Rattle.frame.specs.Frame.{readFrame}
 use Rattle.journal.specs.Journal.{journalLength}
+use Rattle.unit.specs.Pressing.{carriedOut, pressButton}
+use Rattle.unit.specs.Hearing.{hearFrame}
+use Rattle.unit.proofs.Outcomes as outcomes
+use Rattle.unit.proofs.Validity.{validity}
 use Rattle.rules.specs.Answer.{Answer, answer, mostLogged}
 use Rattle.rules.specs.Opening.{Opening, openingWith}
 use Rattle.rules.proofs.Acceptance.{Taken, request, arrival, by-verdict, accepted-facts}
+use Rattle.capi.specs.Types.{Button, Ask, Depart, Reached, Report, Pressed}
 use Rattle.capi.specs.Types.{Line, Message, Record, State, RefusedBy}
-use Rattle.capi.specs.Word.{wordOf}
+use Rattle.capi.specs.Word.{wordOf, refusalIn}
+use Rattle.capi.specs.UnitBytes.{encodesUnit, unitIn, buttonOf}
+use Rattle.capi.specs.UnitCalls.{hearCall, pressed, pressCallChecks, pressAfter, pressCall}
 use Rattle.capi.specs.StateBytes.{stateLength, stateBytes, encodesState, stateIn}
 use Rattle.capi.specs.JournalBytes.{recordCount, recordsIn}
 use Rattle.capi.specs.BoxCalls.{openCall, answerCallOf, answerCall}
 use Rattle.capi.specs.RoundTrip.{Shaped}
 use Rattle.capi.specs.HandedOn.{ReadAs, LeftAs, ruled, HandedOn}
+use Rattle.capi.proofs.UnitSteps.{is-unit}
 use Rattle.capi.proofs.Journals.{record-count, own-records}
-use Rattle.capi.proofs.RoundTrip.{state-back, state-encoded, state-only, records-back}
+use Rattle.capi.proofs.RoundTrip.{unit-only, state-back, state-encoded, state-only, records-back}
 
 -- ---- the state
 
@@ -102,5 +113,49 @@ module _ (state table journal frame out : List ℕ) (h : encodesState state ≡ 
       let same = refused-answer (stateIn state) table (recordsIn journal) frame out n e in
       rw (h, same, state-only state h, own-records journal)
 
+-- ---- units
+
+hearing-refused : (unit frame : List ℕ) → refusalIn (hearCall unit frame .answer) ≢ 0 → hearCall unit frame .unit ≡ unit
+unfolding hearCall
+hearing-refused unit frame h = by-cases (encodesUnit unit)
+    (λ e.
+    let z : refusalIn (wordOf (hearFrame (unitIn unit) frame .refusal) 0) ≢ 0 = rw e at h in
+    let n : hearFrame (unitIn unit) frame .refusal ≢ 0 = λ o. z (rw o) in
+    rw (e, validity .hearing-refused (unitIn unit) frame n) (unit-only unit e))
+    (λ e. rw e)
+
+-- a press that is carried out is no refusal
+no-refusal : (b f : List ℕ) (x : Button) → refusalIn (pressAfter (carriedOut (unitIn b) x) f .answer) ≡ 0
+unfolding carriedOut
+no-refusal b f Ask = refl
+no-refusal b f Depart = refl
+no-refusal b f Reached = refl
+no-refusal b f Report = refl
+
+-- by the unit's outcome: a refusal leaves it, and what is carried out is no refusal
+pressed-unit : (b f : List ℕ) → encodesUnit b ≡ true → (x : Button) (p : Pressed) → outcomes.PressOutcome (unitIn b) x p
+    → refusalIn (pressAfter p f .answer) ≢ 0 → pressAfter p f ≡ pressed (pressAfter p f .answer) b f
+pressed-unit b f is x p (outcomes.refused n) h = rw (unit-only b is)
+pressed-unit b f is x p (outcomes.accepted e o) h = absurd (h (no-refusal b f x))
+
+press-refused : (unit : List ℕ) (button : ℕ) (frame : List ℕ) → refusalIn (pressCall unit button frame .answer) ≢ 0
+    → pressCall unit button frame ≡ pressed (pressCall unit button frame .answer) unit frame
+unfolding pressCall
+press-refused unit button frame =
+    let n = refusal (pressCallChecks unit button (length frame)) in
+    let done = pressAfter (pressButton (unitIn unit) (buttonOf button)) frame in
+    let outcome = outcomes.press-outcome (unitIn unit) (buttonOf button) in
+    by-equality n 0
+    (λ e.
+    rw (accepts done (λ n. pressed (wordOf n 0) unit frame) e)
+    (pressed-unit unit frame (is-unit unit button frame e) (buttonOf button) _ outcome))
+    (λ e. rw (refuses {n = n} done (λ n. pressed (wordOf n 0) unit frame) (omega arith)) (λ h. refl))
+
 pub handed-on : HandedOn
-handed-on = record { opened = opened; answered = answered; refused = refused }
+handed-on = record {
+  opened = opened;
+  answered = answered;
+  refused = refused;
+  hearing-refused = hearing-refused;
+  press-refused = press-refused;
+}

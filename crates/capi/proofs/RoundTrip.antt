@@ -83,7 +83,7 @@ module _ (b : List ℕ) (h : encodesUnit b ≡ true) where
       phase-only (byteAt b 4) (leb-true (byteAt b 4) 5 (units.by-phase b (units.encoded-length b h) ∙ h))
   unit-byte (suc (suc (suc (suc (suc k))))) l = absurd (omega arith)
 
-  unit-only : unitBytes (unitIn b) ≡ b
+  pub unit-only : unitBytes (unitIn b) ≡ b
   unit-only =
       let five = units.five-bytes (unitIn b) in
       ext-getD 0 (unitBytes (unitIn b)) b (five ∙ sym (units.encoded-length b h)) (λ k l. unit-byte k (rw five at l))

@@ -1,6 +1,7 @@
 -- The claims on calls that follow one another. A caller keeps the bytes that a call left, and the next call reads from
 -- them just what the rules gave: so a run of calls is a run of the rules, of which crate `assurance` shows the rest.
 use mathlib.Core.Path.{_≡_}
+use mathlib.Core.Logic.{_≢_}
 use mathlib.Core.Bool.{true}
 use mathlib.Core.List.{List}
 use Prim.Native.Nat.{ℕ}
@@ -8,9 +9,10 @@ use lib.ListN.{length}
 use Rattle.rules.specs.Answer.{Answer, answer}
 use Rattle.rules.specs.Opening.{openingWith}
 use Rattle.capi.specs.Types.{State, RefusedBy}
-use Rattle.capi.specs.Word.{wordOf}
+use Rattle.capi.specs.Word.{wordOf, refusalIn}
 use Rattle.capi.specs.StateBytes.{stateLength, encodesState, stateIn}
 use Rattle.capi.specs.JournalBytes.{recordCount, recordsIn}
+use Rattle.capi.specs.UnitCalls.{hearCall, pressed, pressCall}
 use Rattle.capi.specs.BoxCalls.{AnswerCall, openCall, answerCallOf, answerCall}
 
 -- the bytes are read as the state s
@@ -36,3 +38,9 @@ pub record HandedOn : Type 0 where
   pub refused : (state table journal frame out : List ℕ) → encodesState state ≡ true
       → (n : ℕ) → ruled state table journal frame out .verdict ≡ RefusedBy n
       → answerCall state table journal frame out ≡ answerCallOf (wordOf n 0) state journal out
+  -- the same of a unit: a refusal is a low byte other than 0
+  pub hearing-refused : (unit frame : List ℕ) → refusalIn (hearCall unit frame .answer) ≢ 0
+      → hearCall unit frame .unit ≡ unit
+  pub press-refused : (unit : List ℕ) (button : ℕ) (frame : List ℕ)
+      → refusalIn (pressCall unit button frame .answer) ≢ 0
+      → pressCall unit button frame ≡ pressed (pressCall unit button frame .answer) unit frame
