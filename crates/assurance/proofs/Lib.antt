@@ -11,6 +11,8 @@ pub mod Ran
 pub mod Told
 pub mod WholeList
 pub mod OneFrame
+pub mod Alike
+pub mod Unread
 pub mod Records
 pub mod NeverRefused
 pub mod Homecoming

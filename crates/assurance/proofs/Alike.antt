@@ -1,0 +1,221 @@
+-- Alike states: the same tests pass, the same trains are granted, and a train's new record leaves them alike.
+-- Assumes nothing.
+use mathlib.Core.Path.{_≡_, refl, sym, ap, _∙_}
+use mathlib.Core.Bool.{Bool, true, cond}
+use mathlib.Core.Option.{Option, none, some}
+use mathlib.Core.List.{List, [], _∷_, _++_}
+use Prim.Native.Nat.{ℕ, zero, suc, _+_, _≤_, _<_}
+use native.Mathlib.Omega.{arith}
+use lib.Dec.{ltb, eqb}
+use lib.ListN.{length, drop}
+use borrow.Author.Tests.{ltb-true}
+use Rattle.common.specs.Update.{update}
+use Rattle.common.specs.Check.{Check, check, refusal}
+use Rattle.common.proofs.Tests.{by-cases, by-equality, same-test}
+use Rattle.common.proofs.Below.{count-cong}
+use Rattle.common.proofs.Check.{check-passes, check-fails}
+use Rattle.line.specs.Route.{sectionOf}
+use Rattle.line.specs.Refusal.{unknownTrain}
+use Rattle.line.specs.Line.{routeOf}
+use Rattle.line.specs.Holding.{holdsPost, holdsSection, postHolders, sectionHolders}
+use Rattle.completion.specs.Configuration.{moved, codeBelow}
+use Rattle.completion.specs.Table.{bitOf}
+use Rattle.completion.proofs.Codes.{code-cong}
+use Rattle.frame.specs.Frame.{readChecks, readFrame}
+use Rattle.rules.specs.declared.state.Train.{Train}
+use Rattle.rules.specs.declared.state.Status.the-variants.{Running}
+use Rattle.rules.specs.State.{isAsked, nextOf, locatedAt, reachedBy, trainOf, lineOf, located, reached, nextMove}
+use Rattle.rules.specs.State.{withStatus}
+use Rattle.rules.specs.Valid.{valid}
+use Rattle.rules.specs.Granting.{grantable, older, oldest, Work, granted, proceed, grants}
+use Rattle.rules.specs.Answer.{isFa, isAm, moveIn, moveChecks, frameChecks}
+use Rattle.rules.proofs.Trains.{route-of, in-fleet, changed, changed-own, changed-other}
+use Rattle.rules.proofs.Validity.{Valid, valid-facts, is-valid, asked-short, next-post-below}
+use Rattle.rules.proofs.Changes.{grantable-facts, is-grantable}
+use Rattle.rules.proofs.Oldest.{oldest-some}
+use Rattle.rules.proofs.Grants.{Turn, granted-place}
+use Rattle.rules.proofs.Settling.{Roomy, roomy-next}
+use Rattle.assurance.specs.Types.{Move, Message, Fe, State}
+use Rattle.assurance.specs.Unread.{Alike}
+
+-- ---- checks that are the same where those before them pass
+
+check-same : (c : Check) (cs ds : List Check) → (c .passes ≡ true → refusal cs ≡ refusal ds)
+    → refusal (c ∷ cs) ≡ refusal (c ∷ ds)
+check-same c cs ds h = by-cases (c .passes)
+    (λ e. check-passes c cs e ∙ h e ∙ sym (check-passes c ds e))
+    (λ e. check-fails c cs e ∙ sym (check-fails c ds e))
+
+after-same : (bs cs ds : List Check) → refusal cs ≡ refusal ds → refusal (bs ++ cs) ≡ refusal (bs ++ ds)
+after-same [] cs ds h = h
+after-same (b ∷ bs) cs ds h = check-same b (bs ++ cs) (bs ++ ds) (λ e. after-same bs cs ds h)
+
+-- ---- the tests
+
+alike-back : (s u : State) → Alike s u → Alike u s
+alike-back s u a = record {
+  posts = sym (a .posts);
+  trains = sym (a .trains);
+  logged = sym (a .logged);
+  tracks = λ p k. sym (a .tracks p (omega (arith, a .posts, a .trains)));
+  train = λ t k. sym (a .train t (omega (arith, a .trains)));
+}
+
+module _ (s u : State) (a : Alike s u) where
+  -- what is read of a train's record
+  of-train : {A : Type 0} (f : Train → A) (t : ℕ) → t < s .trains → f (trainOf u t) ≡ f (trainOf s t)
+  of-train f t k = ap f (a .train t k)
+
+  section-same : (i : ℕ) → sectionHolders (u .trains) (located u) i ≡ sectionHolders (s .trains) (located s) i
+  section-same i = rw (a .trains) (count-cong (s .trains) _ _ (of-train (λ x. holdsSection (locatedAt x) i)))
+
+  post-same : (p : ℕ) → postHolders (u .trains) (located u) p ≡ postHolders (s .trains) (located s) p
+  post-same p = rw (a .trains) (count-cong (s .trains) _ _ (of-train (λ x. holdsPost (locatedAt x) p)))
+
+  route-same : (t : ℕ) → t < s .trains → routeOf (lineOf u) t ≡ routeOf (lineOf s) t
+  route-same t k = route-of u t ∙ of-train (λ x. x .route) t k ∙ sym (route-of s t)
+
+  valid-alike : Valid s → Valid u
+  valid-alike d =
+      let posts : (p : ℕ) → p < u .posts → p < s .posts = λ p k. rw (sym (a .posts)) k in
+      let trains : (t : ℕ) → t < u .trains → t < s .trains = λ t k. rw (sym (a .trains)) k in
+      record {
+        line = record {
+          some-posts = rw (a .posts) (d .line .some-posts);
+          few-posts = rw (a .posts) (d .line .few-posts);
+          some-tracks = λ p k. rw (a .tracks p (posts p k)) (d .line .some-tracks p (posts p k));
+          few-tracks = λ p k. rw (a .tracks p (posts p k)) (d .line .few-tracks p (posts p k));
+          some-trains = rw (a .trains) (d .line .some-trains);
+          few-trains = rw (a .trains) (d .line .few-trains);
+          starts = λ t k. rw (a .posts, route-same t (trains t k)) (d .line .starts t (trains t k));
+          ends = λ t k. rw (a .posts, route-same t (trains t k)) (d .line .ends t (trains t k));
+        };
+        each = λ t k. rw (a .logged, a .train t (trains t k)) (d .each t (trains t k));
+        sections = λ i k. rw (section-same i) (d .sections i (posts i k));
+        posts = λ p k. rw (post-same p, a .tracks p (posts p k)) (d .posts p (posts p k));
+        few-logged = rw (a .logged) (d .few-logged);
+        distinct = λ t v kt kv. rw (a .train t (trains t kt), a .train v (trains v kv))
+            (d .distinct t v (trains t kt) (trains v kv));
+      }
+
+  code-same : (t : ℕ) → t < s .trains
+      → codeBelow (u .trains) (moved (reached u) t) ≡ codeBelow (s .trains) (moved (reached s) t)
+  unfolding update
+  code-same t k = rw (a .trains) (code-cong (s .trains) _ _ (λ v l.
+      ap (λ (x : Train). cond (eqb v t) (reachedBy x + 1) (reached u v)) (a .train t k)
+      ∙ ap (λ (x : Train). cond (eqb v t) (reached s t + 1) (reachedBy x)) (a .train v l)))
+
+  -- a train that can be granted is short of its end, so that its next post is below P
+  grantable-alike : (table : List ℕ) → Valid s → (t : ℕ) → t < s .trains → grantable table s t ≡ true
+      → grantable table u t ≡ true
+  grantable-alike table d t k e =
+      let g = grantable-facts table s t e in
+      let next = nextOf (trainOf s t) in
+      let below = next-post-below s d t k (asked-short s d t k (g .asks)) in
+      is-grantable table u t (record {
+        asks = of-train (λ x. isAsked (x .status)) t k ∙ g .asks;
+        section =
+            section-same _
+            ∙ of-train (λ x. sectionHolders (s .trains) (located s) (sectionOf (x .at .0) (nextOf x))) t k
+            ∙ g .section;
+        post = rw (a .train t k) (omega (arith, post-same next, a .tracks next below, g .post));
+        bit = ap (bitOf table) (code-same t k) ∙ g .bit;
+      })
+
+module _ (s u : State) (a : Alike s u) where
+  valid-same : valid u ≡ valid s
+  valid-same = same-test (valid u) (valid s)
+      (λ e. is-valid s (valid-alike u s (alike-back s u a) (valid-facts u e)))
+      (λ e. is-valid u (valid-alike s u a (valid-facts s e)))
+
+  -- the checks after 7 are reached with a train below T only
+  move-same : (asks arrives : Bool) (m : Move)
+      → refusal (moveChecks u asks arrives m) ≡ refusal (moveChecks s asks arrives m)
+  move-same asks arrives m =
+      let after : State → List Check = λ v. drop 1 (moveChecks v asks arrives m) in
+      rw (a .trains) (check-same (check unknownTrain (ltb (m .train .0) (s .trains))) (after u) (after s)
+      (λ e. rw (a .logged, a .train (m .train .0) (ltb-true (m .train .0) (s .trains) e))))
+
+  pub refusal-same : (table records : ℕ) (frame : List ℕ) (room : ℕ)
+      → refusal (frameChecks u table records frame room) ≡ refusal (frameChecks s table records frame room)
+  refusal-same table records frame room =
+      let b = readFrame frame in
+      rw valid-same (check-same _ _ _ (λ e₁. check-same _ _ _ (λ e₂. after-same (readChecks frame) _ _
+      (check-same _ _ _ (λ e₆. move-same (isFa b) (isAm b) (moveIn b))))))
+
+  -- ---- who can be granted
+
+  module _ (table : List ℕ) (d : Valid s) where
+    grantable-same : (t : ℕ) → t < s .trains → grantable table u t ≡ grantable table s t
+    grantable-same t k = same-test (grantable table u t) (grantable table s t)
+        (grantable-alike u s (alike-back s u a) table (valid-alike s u a d) t (rw (a .trains) k))
+        (grantable-alike s u a table d t k)
+
+    oldest-below : (n : ℕ) → n ≤ s .trains → oldest table u n ≡ oldest table s n
+    unfolding oldest
+    oldest-below zero k = refl
+    oldest-below (suc n) k = at (oldest-below n (omega arith))
+      where
+        older-same : (r : Option ℕ) → oldest table s n ≡ r → older u n r ≡ older s n r
+        older-same none e = refl
+        older-same (some v) e =
+            let f = oldest-some table s n v e .known in
+            rw (a .train n (omega arith), a .train v (omega arith))
+
+        at : oldest table u n ≡ oldest table s n → oldest table u (suc n) ≡ oldest table s (suc n)
+        at ih = rw (grantable-same n (omega arith), ih, older-same (oldest table s n) refl)
+
+    oldest-same : oldest table u (u .trains) ≡ oldest table s (s .trains)
+    oldest-same = ap (oldest table u) (a .trains) ∙ oldest-below (s .trains) (omega arith)
+
+  -- ---- a change of one train's record
+
+  pub changed-alike : (t : ℕ) (x y : Train) (m n : ℕ) → t < length (s .fleet) → t < length (u .fleet) → y ≡ x → n ≡ m
+      → Alike (changed s t x m) (changed u t y n)
+  changed-alike t x y m n ks ku e z = record {
+    posts = a .posts;
+    trains = a .trains;
+    logged = z;
+    tracks = a .tracks;
+    train = λ v k. by-equality v t
+        (λ q. rw q (changed-own u t y n ku ∙ e ∙ sym (changed-own s t x m ks)))
+        (λ h. changed-other u t y n v h ∙ a .train v k ∙ sym (changed-other s t x m v h));
+  }
+
+-- ---- the work
+
+pub record SameWork (w v : Work) : Type 0 where
+  pub state : Alike (w .state) (v .state)
+  pub logged : v .logged ≡ w .logged
+
+pub logged-same : (w v : Work) (m n : Message) → SameWork w v → n ≡ m → v .logged ++ n ∷ [] ≡ w .logged ++ m ∷ []
+logged-same w v m n k e = rw (k .logged, e)
+
+module _ (table : List ℕ) where
+  granted-same : (w v : Work) (t : ℕ) → SameWork w v → Turn table w t → SameWork (granted w t) (granted v t)
+  granted-same w v t k f =
+      let e = k .state .train t (f .known) in
+      let asks : isAsked (trainOf (v .state) t .status) ≡ true =
+      rw e (grantable-facts table (w .state) t (f .can) .asks) in
+      record {
+        state = changed-alike (w .state) (v .state) (k .state) t _ _ _ _ (granted-place table w t f)
+            (in-fleet (v .state) t (λ x. isAsked (x .status)) refl asks)
+            (ap (λ (x : Train). withStatus x Running) e) (ap (λ (n : ℕ). n + 1) (k .state .logged));
+        logged = logged-same w v (Fe (nextMove (w .state) t)) (Fe (nextMove (v .state) t)) k (rw e);
+      }
+
+  pub grants-same : (n : ℕ) (w v : Work) → Roomy w → SameWork w v → SameWork (grants table n w) (grants table n v)
+  unfolding grants
+  grants-same zero w v r k = k
+  grants-same (suc n) w v r k = rw (oldest-same (w .state) (v .state) (k .state) table (r .valid-state))
+      (at (oldest table (w .state) (w .state .trains)) refl
+      (λ t p q. grants-same n (granted w t) (granted v t) p q))
+    where
+      at : (o : Option ℕ) → oldest table (w .state) (w .state .trains) ≡ o
+          → ((t : ℕ) → Roomy (granted w t) → SameWork (granted w t) (granted v t)
+          → SameWork (grants table n (granted w t)) (grants table n (granted v t)))
+          → SameWork (proceed o w (λ t. grants table n (granted w t))) (proceed o v (λ t. grants table n (granted v t)))
+      at none e rest = k
+      at (some t) e rest =
+          let f = oldest-some table (w .state) (w .state .trains) t e in
+          rest t (roomy-next table w t r f) (granted-same w v t k f)

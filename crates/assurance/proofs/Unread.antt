@@ -1,0 +1,164 @@
+-- The claims of `specs/Unread.antt`, proved over the laws of alike states.
+-- Assumes nothing.
+use mathlib.Core.Path.{_≡_, refl, sym, ap, subst, _∙_}
+use mathlib.Core.Logic.{_≢_}
+use mathlib.Core.List.{List}
+use Prim.Native.Nat.{ℕ, _+_, _≤_, _<_}
+use native.Mathlib.Omega.{arith}
+use lib.ListN.{length, length-set}
+use Rattle.common.specs.Check.{refusal, unlessRefused}
+use Rattle.common.proofs.Tests.{by-cases, by-equality}
+use Rattle.common.proofs.Below.{count-le}
+use Rattle.common.proofs.Check.{refuses}
+use Rattle.frame.specs.Frame.{readFrame}
+use Rattle.journal.specs.Journal.{journalLength}
+use Rattle.rules.specs.declared.state.Train.{Train}
+use Rattle.rules.specs.declared.state.Status.the-variants.{Asked}
+use Rattle.rules.specs.State.{isAsked, trainOf, withStatus, arrivedNext}
+use Rattle.rules.specs.Granting.{Work, log, grants, settled}
+use Rattle.rules.specs.Answer.{mostLogged, moveIn, frameChecks, taken, declined, accepted, answered, refused, answer}
+use Rattle.rules.proofs.Trains.{changed, changed-other}
+use Rattle.rules.proofs.Validity.{Valid}
+use Rattle.rules.proofs.Changes.{short-place, valid-request, valid-arrival}
+use Rattle.rules.proofs.Grants.{grants-keep}
+use Rattle.rules.proofs.Settling.{Roomy, settled-settles}
+use Rattle.rules.proofs.Acceptance.{Taken, request, arrival, frame-passed, by-verdict}
+use Rattle.assurance.specs.Types.{Line, Move, Message, Fa, Afe, Am, Record, State}
+use Rattle.assurance.specs.Unread.{Alike, SameAnswer, Unread, Kept, LeftAlone}
+use Rattle.assurance.proofs.Alike.{SameWork, refusal-same, changed-alike, logged-same, grants-same}
+
+-- ---- the places are not read
+
+-- the frame's own change of its train's record, and the granting
+module _ (table : List ℕ) (s u : State) (a : Alike s u) (d : Valid s) (b : Message) (x y : Train)
+    (same : y ≡ x) (v : Valid (taken s b x .state)) (space : s .logged + mostLogged ≤ journalLength)
+    (known : moveIn b .train .0 < s .trains)
+    (short : trainOf s (moveIn b .train .0) .at .0 ≢ trainOf s (moveIn b .train .0) .route .end .0) where
+  taken-same : SameWork (taken s b x) (taken u b y)
+  taken-same = record {
+    state = changed-alike s u a (moveIn b .train .0) x y _ _ (short-place s (moveIn b .train .0) short)
+        (short-place u (moveIn b .train .0) (rw (a .train (moveIn b .train .0) known) short))
+        same (ap (λ (n : ℕ). n + 1) (a .logged));
+    logged = refl;
+  }
+
+  taken-roomy : Roomy (taken s b x)
+  taken-roomy = record {
+    valid-state = v;
+    room = omega (
+      arith,
+      count-le (s .trains) (λ t. isAsked (trainOf (taken s b x .state) t .status)),
+      d .line .few-trains,
+    );
+  }
+
+  settled-same : SameWork (settled table (taken s b x)) (settled table (taken u b y))
+  settled-same = subst
+      (λ (n : ℕ). SameWork (settled table (taken s b x)) (grants table n (taken u b y))) (sym (a .trains))
+      (grants-same table (s .trains) (taken s b x) (taken u b y) taken-roomy taken-same)
+
+-- "If the asker was not granted, its AFE comes last."
+declined-same : (m : Move) (w v : Work) → SameWork w v → m .train .0 < w .state .trains
+    → SameWork (declined m w) (declined m v)
+declined-same m w v k known = rw (k .state .train (m .train .0) known)
+    (by-cases (isAsked (trainOf (w .state) (m .train .0) .status)) (λ e. rw e more) (λ e. rw e k))
+  where
+    more : SameWork (log (w .state) (w .logged) (Afe m)) (log (v .state) (v .logged) (Afe m))
+    more = record {
+      state = record {
+        posts = k .state .posts;
+        trains = k .state .trains;
+        logged = ap (λ (n : ℕ). n + 1) (k .state .logged);
+        tracks = k .state .tracks;
+        train = k .state .train;
+      };
+      logged = logged-same w v (Afe m) (Afe m) k refl;
+    }
+
+accepted-same : (table : List ℕ) (s u : State) → Alike s u → Valid s → (b : Message) → Taken s b
+    → SameWork (accepted table s b) (accepted table u b)
+unfolding accepted
+accepted-same table s u a d b (request m n free idle) =
+    let x = withStatus (trainOf s (m .train .0)) (Asked (s .logged)) in
+    let y = withStatus (trainOf u (m .train .0)) (Asked (u .logged)) in
+    let same : y ≡ x = rw (a .train (m .train .0) (n .known), a .logged) in
+    let v = valid-request s d (m .train .0) (n .known) (omega (arith, n .space)) (n .short) idle in
+    let line = settled-settles table (taken s (Fa m) x) .line in
+    declined-same m _ _ (settled-same table s u a d (Fa m) x y same v (n .space) (n .known) (n .short))
+    (rw (ap (λ (l : Line). l .trains) line) (n .known))
+accepted-same table s u a d b (arrival m n runs) =
+    let x = arrivedNext (trainOf s (m .train .0)) in
+    let y = arrivedNext (trainOf u (m .train .0)) in
+    let v = valid-arrival s d (m .train .0) (n .known) (omega (arith, n .space)) (n .short) runs in
+    settled-same table s u a d (Am m) x y (ap arrivedNext (a .train (m .train .0) (n .known))) v (n .space) (n .known)
+    (n .short)
+
+answered-same : (s u : State) (journal : List Record) (out : List ℕ) (w v : Work) → Alike s u → SameWork w v
+    → SameAnswer (answered (s .logged) journal out w) (answered (u .logged) journal out v)
+answered-same s u journal out w v a k = record {
+  state = k .state;
+  verdict = rw (k .logged);
+  journal = rw (a .logged, k .logged);
+  out = rw (k .logged);
+}
+
+pub unread : Unread
+unfolding answer unlessRefused
+unread s u table journal frame out a =
+    let n = refusal (frameChecks s (length table) (length journal) frame (length out)) in
+    let same = refusal-same s u a (length table) (length journal) frame (length out) in
+    rw same (by-equality n 0
+    (λ e.
+    let p = frame-passed s table journal frame out e in
+    rw e (answered-same s u journal out _ _ a
+    (accepted-same table s u a (p .valid-state) (readFrame frame) (p .message))))
+    (λ h.
+    let positive : 0 < n = omega arith in
+    rw (refuses _ (refused s journal out) positive, refuses _ (refused u journal out) positive)
+    (record { state = a; verdict = refl; journal = refl; out = refl })))
+
+-- ---- nor written
+
+kept-changed : (s v : State) (t : ℕ) (x : Train) (n : ℕ) → Kept s v → t < s .trains → Kept s (changed v t x n)
+kept-changed s v t x n k known = record {
+  posts = k .posts;
+  tracks = k .tracks;
+  trains = k .trains;
+  size = length-set (v .fleet) t x ∙ k .size;
+  places = λ i h. changed-other v t x n i (λ e. omega arith) ∙ k .places i h;
+}
+
+unchanged : (s : State) → Kept s s
+unchanged s = record { posts = refl; tracks = refl; trains = refl; size = refl; places = λ t h. refl }
+
+settled-kept : (table : List ℕ) (s : State) (w : Work) → Kept s (w .state)
+    → Kept s (settled table w .state)
+settled-kept table s w = grants-keep table (λ (v : Work). Kept s (v .state))
+    (λ v t k f. kept-changed s (v .state) t _ _ k (omega (arith, f .known, k .trains)))
+    (w .state .trains) w
+
+declined-kept : (s : State) (m : Move) (w : Work) → Kept s (w .state) → Kept s (declined m w .state)
+declined-kept s m w k = by-cases (isAsked (trainOf (w .state) (m .train .0) .status))
+    (λ e. rw e (record {
+      posts = k .posts;
+      tracks = k .tracks;
+      trains = k .trains;
+      size = k .size;
+      places = k .places;
+    }))
+    (λ e. rw e k)
+
+accepted-kept : (table : List ℕ) (s : State) (b : Message) → Taken s b → Kept s (accepted table s b .state)
+unfolding accepted
+accepted-kept table s b (request m n free idle) =
+    let w = taken s (Fa m) (withStatus (trainOf s (m .train .0)) (Asked (s .logged))) in
+    declined-kept s m (settled table w)
+    (settled-kept table s w (kept-changed s s (m .train .0) _ _ (unchanged s) (n .known)))
+accepted-kept table s b (arrival m n runs) =
+    settled-kept table s (taken s (Am m) (arrivedNext (trainOf s (m .train .0))))
+    (kept-changed s s (m .train .0) _ _ (unchanged s) (n .known))
+
+pub left-alone : LeftAlone
+left-alone s table journal frame out = by-verdict s table journal frame out (λ a. Kept s (a .state))
+    (λ n q. unchanged s)
+    (λ p. accepted-kept table s (readFrame frame) (p .message))
