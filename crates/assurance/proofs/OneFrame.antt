@@ -16,15 +16,15 @@ use Rattle.completion.proofs.Rule.{bit-completable, completable-bit}
 use Rattle.rules.specs.State.{trainOf, lineOf, reached, nextMove, withStatus}
 use Rattle.rules.specs.Valid.{valid}
 use Rattle.rules.specs.Granting.{oldest, Work, granted, proceed, grants}
-use Rattle.rules.specs.Answer.{accepted, sent, refused, answer}
+use Rattle.rules.specs.Answer.{accepted, sent, answer}
 use Rattle.rules.proofs.Validity.{Distinct, valid-facts, is-valid}
 use Rattle.rules.proofs.Changes.{distinct-change, grantable-facts, is-grantable}
 use Rattle.rules.proofs.Reached.{moved-within, moved-code}
 use Rattle.rules.proofs.Oldest.{Oldest, oldest-none, oldest-some, earlier}
 use Rattle.rules.proofs.Grants.{askedCount, Turn, granted-fewer, granted-place, none-asked, few-asked, settled-next}
 use Rattle.rules.proofs.Settling.{settled-settles}
-use Rattle.rules.proofs.Acceptance.{by-verdict, accepted-facts}
-use Rattle.assurance.specs.Types.{Fe, Record, State, Sent, RefusedBy}
+use Rattle.rules.proofs.Acceptance.{by-verdict, refusal-leaves, accepted-facts}
+use Rattle.assurance.specs.Types.{Fe, Record, State, Sent}
 use Rattle.assurance.specs.OneFrame.{ValidKept, RefusalsChangeNothing, AtMostSix, BitInTable, NoneLeft, First}
 use Rattle.assurance.specs.OneFrame.{Granting, done, next, ExactGrant, OldestFirst, RightGrant}
 
@@ -34,10 +34,7 @@ valid-kept s table journal frame out e =
     (λ p. is-valid _ (accepted-facts table s (p .valid-state) (readFrame frame) (p .message) .valid-state))
 
 pub refusals-change-nothing : RefusalsChangeNothing
-refusals-change-nothing s table journal frame out n =
-    by-verdict s table journal frame out (λ a. a .verdict ≡ RefusedBy n → a ≡ refused s journal out n)
-    (λ k q e. let same : k ≡ n = cc in ap (refused s journal out) same)
-    (λ p e. absurd (let z : _≡_ {A = ℕ} 0 1 = cc in omega arith))
+refusals-change-nothing = refusal-leaves
 
 pub at-most-six : AtMostSix
 at-most-six s table journal frame out n =

@@ -18,8 +18,8 @@ use Rattle.rules.specs.Valid.{valid}
 use Rattle.rules.specs.Opening.{opening}
 use Rattle.assurance.specs.Types.{Line, Move, Fa, Fe, Record}
 use Rattle.assurance.specs.Run.{Input, Exchange, Ran, run}
-use Rattle.assurance.specs.Observer.{authority, Observer, atOpening, answersOf, observe, located}
-use Rattle.assurance.specs.Observer.{hasAuthority, hasAsked}
+use Rattle.assurance.specs.Observer.{authority, Observer, atOpening, answersOf, observe, located, hasAuthority}
+use Rattle.assurance.specs.Observer.{hasAsked}
 
 -- "An authority written, that is an FE, has its logged request if, below the journal count, the journal has that FE
 -- and, at a lower number, an FA of the same train, from and to."

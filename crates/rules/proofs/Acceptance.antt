@@ -19,6 +19,7 @@ use Rattle.frame.specs.RoundTrip.{IsMessage}
 use Rattle.journal.specs.Journal.{journalLength}
 use Rattle.completion.specs.Table.{tableLength}
 use Rattle.rules.specs.Types.{Line, Move, Message, Fa, Fe, Afe, Am, Refused, Record, Asked, Train, State}
+use Rattle.rules.specs.Types.{RefusedBy}
 use Rattle.rules.specs.State.{isAsked, isRunning, nextOf, trainOf, lineOf, withStatus, arrivedNext, oneLogged}
 use Rattle.rules.specs.Granting.{grantable, Work, log, settled}
 use Rattle.rules.specs.Answer.{outLength, mostLogged, isFa, isAm, moveIn, frameChecks, taken, declined, accepted}
@@ -104,6 +105,16 @@ by-verdict s table journal frame out P declines takes =
     by-equality n 0
     (λ e. rw (accepts a (refused s journal out) e) (takes (frame-passed s table journal frame out e)))
     (λ h. rw (refuses {n = n} a (refused s journal out) (omega arith)) (declines n refl))
+
+-- "A refusal returns its number and the state unchanged, and changes no buffer."
+pub refusal-leaves : (s : State) (table : List ℕ) (journal : List Record) (frame out : List ℕ) (n : ℕ)
+    → answer s table journal frame out .verdict ≡ RefusedBy n
+    → answer s table journal frame out ≡ record { state = s; verdict = RefusedBy n; journal = journal; out = out }
+refusal-leaves s table journal frame out n =
+    by-verdict s table journal frame out
+    (λ a. a .verdict ≡ RefusedBy n → a ≡ record { state = s; verdict = RefusedBy n; journal = journal; out = out })
+    (λ k q e. let same : k ≡ n = cc in rw same)
+    (λ p e. absurd (let z : _≡_ {A = ℕ} 0 1 = cc in omega arith))
 
 -- ---- what is left
 
