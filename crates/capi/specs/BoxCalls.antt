@@ -23,8 +23,8 @@ pub record BookCall : Type 0 where
 abbrev pub bookCall : ℕ → List ℕ → BookCall
 bookCall answer line = record { answer = answer; line = line }
 
--- "a `line` buffer that is not 22 bytes is 1, nothing changed. Else the line is written; a refused book writes 22
--- zeros."
+-- a `line` buffer that is not 22 bytes is 1, nothing changed. Else the line is written; a refused book writes 22
+-- zeros.
 unfoldable pub readBookCall : List ℕ → List ℕ → BookCall
 readBookCall book line =
     let r = readBook book in
@@ -42,8 +42,8 @@ pub record OpenCall : Type 0 where
 abbrev pub openCallOf : ℕ → List ℕ → List ℕ → OpenCall
 openCallOf answer state table = record { answer = answer; state = state; table = table }
 
--- "a `state` buffer that is not 41 bytes is 1, nothing changed, before every other check. Else as 01 .. What `state`
--- held is not looked at. The journal is not written."
+-- a `state` buffer that is not 41 bytes is 1, nothing changed, before every other check. Else as 01. What `state`
+-- held is not looked at. The journal is not written.
 unfoldable pub openCall : List ℕ → List ℕ → List ℕ → List ℕ → OpenCall
 openCall book state table journal =
     let o = openingWith book table (recordCount (length journal)) in
@@ -72,7 +72,7 @@ abbrev pub answerAfter : List ℕ → Answer → AnswerCall
 answerAfter journal a =
     answerCallOf (verdictWord (a .verdict)) (stateBytes (a .state)) (withRecords journal (a .journal)) (a .out)
 
--- "bytes that encode no state are 1, nothing changed. Else as 01; a refusal changes nothing."
+-- bytes that encode no state are 1, nothing changed. Else as 01; a refusal changes nothing.
 unfoldable pub answerCall : List ℕ → List ℕ → List ℕ → List ℕ → List ℕ → AnswerCall
 answerCall state table journal frame out =
     cond (encodesState state)

@@ -7,7 +7,7 @@ unfoldable pub each : {A : Type 0} → (A → List ℕ) → List A → List ℕ
 each f [] = []
 each f (x ∷ l) = f x ++ each f l
 
--- "posts; tracks of posts 0..7; trains; then" the rest
+-- posts; tracks of posts 0 to 7; trains; then the rest
 unfoldable pub headed : ℕ → List ℕ → ℕ → List ℕ → List ℕ
 headed posts tracks trains rest = posts ∷ (tracks ++ (trains ∷ rest))
 

@@ -34,7 +34,7 @@ pub record HandedOn : Type 0 where
       → ReadAs (openCall book state table journal .state) (openingWith book table (recordCount (length journal)) .state)
   pub answered : (state table journal frame out : List ℕ) → encodesState state ≡ true
       → LeftAs (answerCall state table journal frame out) (ruled state table journal frame out)
-  -- "a refusal changes nothing"
+  -- a refusal changes nothing
   pub refused : (state table journal frame out : List ℕ) → encodesState state ≡ true
       → (n : ℕ) → ruled state table journal frame out .verdict ≡ RefusedBy n
       → answerCall state table journal frame out ≡ answerCallOf (wordOf n 0) state journal out

@@ -1,5 +1,5 @@
--- The journal as bytes: "records of 4 bytes: kind, train, from, to. A buffer of n bytes has n / 4 records; the n % 4
--- bytes past them are never read or written."
+-- The journal as bytes. Records of 4 bytes: kind, train, from, to. A buffer of n bytes has n / 4 records; the n % 4
+-- bytes past them are never read or written.
 use mathlib.Core.List.{List, [], _∷_, _++_}
 use Prim.Native.Nat.{ℕ, _+_, _*_, _/_}
 use lib.ListN.{length, drop}

@@ -17,13 +17,13 @@ stateLength = 41
 
 -- ---- the bytes of a state
 
--- "status (0 Free, 1 Asked, 2 Running)"
+-- status (0 Free, 1 Asked, 2 Running)
 abbrev pub statusNo : Status → ℕ
 statusNo Free = 0
 statusNo (AskedAs n) = 1
 statusNo Running = 2
 
--- "number of its FA (0 unless Asked)"
+-- number of its FA (0 unless Asked)
 abbrev pub trainBytes : Train → List ℕ
 trainBytes x =
     x .route .start .0 ∷ x .route .end .0 ∷ x .at .0 ∷ statusNo (x .status) ∷ askedAs (x .status) ∷ []
@@ -47,8 +47,8 @@ encodesStatus k n = leb k 2 && (eqb k 1 || eqb n 0)
 abbrev pub encodesTrain : List ℕ → ℕ → Bool
 encodesTrain b i = encodesStatus (byteAt b (i + 3)) (byteAt b (i + 4))
 
--- "41 bytes with a status above 2, or with a number other than 0 where the status is not 1, encode no state; so does
--- any other length."
+-- 41 bytes with a status above 2, or with a number other than 0 where the status is not 1, encode no state; so does
+-- any other length.
 unfoldable pub encodesState : List ℕ → Bool
 encodesState b = eqb (length b) stateLength && allBelow 6 (λ t. encodesTrain b (trainAt t))
 

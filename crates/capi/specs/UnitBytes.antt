@@ -15,7 +15,7 @@ unitLength = 5
 unfoldable pub unitBytes : Unit → List ℕ
 unitBytes u = u .train .0 ∷ u .route .start .0 ∷ u .route .end .0 ∷ u .at .0 ∷ phaseNo (u .phase) ∷ []
 
--- "A phase above 5, or another length, encodes no unit."
+-- A phase above 5, or another length, encodes no unit.
 unfoldable pub encodesUnit : List ℕ → Bool
 encodesUnit b = eqb (length b) unitLength && leb (byteAt b 4) 5
 

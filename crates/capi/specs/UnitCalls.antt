@@ -28,13 +28,13 @@ unitCall answer unit = record { answer = answer; unit = unit }
 abbrev pub unitAfter : Unit → ℕ → UnitCall
 unitAfter u n = unitCall (wordOf n 0) (unitBytes u)
 
--- "a `unit` buffer that is not 5 bytes is 1, nothing changed"
+-- a `unit` buffer that is not 5 bytes is 1, nothing changed
 unfoldable pub makeUnitCall : ℕ → ℕ → ℕ → List ℕ → UnitCall
 makeUnitCall train start end unit =
     let m = makeUnit train start end in
     cond (eqb (length unit) unitLength) (unitAfter (m .unit) (m .refusal)) (unitCall (wordOf strangeState 0) unit)
 
--- "bytes that encode no unit are 1; then as 01"
+-- bytes that encode no unit are 1; then as 01
 unfoldable pub hearCall : List ℕ → List ℕ → UnitCall
 hearCall unit frame =
     let h = hearFrame (unitIn unit) frame in
@@ -50,7 +50,7 @@ pub record PressCall : Type 0 where
 abbrev pub pressed : ℕ → List ℕ → List ℕ → PressCall
 pressed answer unit frame = record { answer = answer; unit = unit; frame = frame }
 
--- "Order: encodes no unit 1; unit not valid 1; frame under 7 bytes 2; then 21, 8." A number that is no button's is 21.
+-- in order: encodes no unit 1; unit not valid 1; frame under 7 bytes 2; then 21, 8. A number that is no button's is 21.
 -- Of the lent frame only the length is looked at.
 abbrev pub pressCallChecks : List ℕ → ℕ → ℕ → List Check
 pressCallChecks unit button room =
@@ -60,7 +60,7 @@ pressCallChecks unit button room =
     ∷ check notNow (leb button 3)
     ∷ []
 
--- "A press that gives a frame writes its seven bytes at the beginning of `frame`, else `frame` is untouched."
+-- A press that gives a frame writes its seven bytes at the beginning of `frame`, else `frame` is untouched.
 abbrev pub pressAfter : Pressed → List ℕ → PressCall
 pressAfter p frame =
     pressed (wordOf (p .refusal) (ofBool (p .sent))) (unitBytes (p .unit))
