@@ -1,7 +1,6 @@
 // A unit as five bytes: train, start, end, present post, phase.
 ghost use mathlib.Core.Path.{_≡_};
 ghost use lib.ListN.{length};
-ghost use Rattle.unit.specs.State.{phaseNo};
 ghost use Rattle.capi.specs.UnitBytes.{unitLength, phaseOf, buttonOf, encodesUnit, unitIn, unitBytes};
 use crate::placing::put;
 use line::PostNo;
@@ -82,19 +81,6 @@ fn bytes_of(unit: Unit) -> [u8; UNIT_LENGTH]
 {
     let route = unit.route;
     let phase = unit.phase;
-    let number = phase_number(phase);
+    let number = unit::phase_number(phase);
     [unit.train.0, route.start.0, route.end.0, unit.at.0, number]
-}
-
-fn phase_number(phase: Phase) -> u8
-    ensures { λ r. ⌜ r ≡ phaseNo phase ⌝ }
-{
-    match phase {
-        Phase::Standing => 0,
-        Phase::Asked => 1,
-        Phase::Declined => 2,
-        Phase::Granted => 3,
-        Phase::UnderWay => 4,
-        Phase::Arrived => 5,
-    }
 }

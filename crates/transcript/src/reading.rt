@@ -1,5 +1,9 @@
 // Reading a book from a descriptor. A read that fails counts as the end of the input.
-ghost use Prim.Native.Nat.{_≤_};
+ghost use mathlib.Core.Path.{_≡_};
+ghost use mathlib.Core.Bool.{cond};
+ghost use Prim.Native.Nat.{_+_, _≤_};
+ghost use lib.Dec.{ltb};
+ghost use Rattle.common.specs.Word.{word};
 
 // The longest book: eight posts and six trains.
 const LONGEST_BOOK: usize = 25;
@@ -35,6 +39,7 @@ pub fn read_book(fd: i32) -> Book
 // Where a book ends whose first two bytes are these.
 fn book_end(high: u8, low: u8) -> usize
     ensures { λ r. ⌜ (2 ≤ r) × (r ≤ 25) ⌝ }
+    ensures { λ r. ⌜ r ≡ cond (ltb (word high low) 23) (2 + word high low) 25 ⌝ }
 {
     after_two(line::word::word(high, low) as usize)
 }
@@ -42,6 +47,7 @@ fn book_end(high: u8, low: u8) -> usize
 // So many bytes and the two before them, at most as many as the longest book has.
 fn after_two(n: usize) -> usize
     ensures { λ r. ⌜ (2 ≤ r) × (r ≤ 25) ⌝ }
+    ensures { λ r. ⌜ r ≡ cond (ltb n 23) (2 + n) 25 ⌝ }
 {
     if n < LONGEST_BOOK - 2 {
         2 + n

@@ -14,4 +14,5 @@ pub use pressing::press;
 pub use state::Button;
 pub use state::Phase;
 pub use state::Unit;
+pub use state::phase_number;
 pub use state::valid;

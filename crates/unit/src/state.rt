@@ -71,10 +71,11 @@ pub(crate) fn numbers_fit(train: TrainNo, start: PostNo, end: PostNo) -> bool
 pub(crate) fn same(a: Phase, b: Phase) -> bool
     ensures { λ r. ⌜ r ≡ samePhase a b ⌝ }
 {
-    number(a) == number(b)
+    phase_number(a) == phase_number(b)
 }
 
-fn number(phase: Phase) -> u8
+// Phases in their order, from 0.
+pub fn phase_number(phase: Phase) -> u8
     ensures { λ r. ⌜ r ≡ phaseNo phase ⌝ }
 {
     match phase {
