@@ -2,6 +2,7 @@
 // then the records of the journal on standard output.
 mod printing;
 mod reading;
+mod run;
 mod serving;
 
 pub use serving::serve;

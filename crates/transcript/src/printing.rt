@@ -1,33 +1,33 @@
 // What a run prints.
+ghost use mathlib.Core.Path.{_≡_};
+ghost use Prim.Native.Nat.{_≤_};
+ghost use Rattle.printout.specs.Text.{lineLength};
+ghost use Rattle.journal.specs.Journal.{recordAt};
 use dispatcher::Log;
 use journal::JOURNAL_LENGTH;
 use journal::Record;
 use libc::STDOUT_FILENO;
+use printout::LINE_LENGTH;
+use printout::Text;
 
-// 01: "for a refused book only `book` and the number".
-pub fn print_refused(number: u8) {
-    io::write_all(STDOUT_FILENO, b"book ");
-    io::print_decimal(STDOUT_FILENO, number as u64);
-    io::write_all(STDOUT_FILENO, b"\n");
+pub fn print_refused(refusal: u8) {
+    print(printout::book_line(refusal));
 }
 
-// 01: "each journal record (number, kind, train, from, to), then `end`, the record count and the
-// count of refused frames".
+// The records below the count, then the counts.
 pub fn print_run(log: Log, logged: u8, refused: u64) {
     let mut i: u8 = 0;
     while i < logged {
-        print_record(i, record_at(log, i));
+        print(printout::record_line(i, record_at(log, i)));
         i += 1;
     }
-    io::write_all(STDOUT_FILENO, b"end ");
-    io::print_decimal(STDOUT_FILENO, logged as u64);
-    io::write_all(STDOUT_FILENO, b" ");
-    io::print_decimal(STDOUT_FILENO, refused);
-    io::write_all(STDOUT_FILENO, b"\n");
+    print(printout::end_line(logged, refused));
 }
 
-// The record of number i; a log has 176 of them, and a valid state counts no more.
-fn record_at(log: Log, i: u8) -> Record {
+// The record of number i; the blank one past the end.
+fn record_at(log: Log, i: u8) -> Record
+    ensures { λ r. ⌜ r ≡ recordAt (log .records) i ⌝ }
+{
     let at = i as usize;
     let records = log.records;
     if at < JOURNAL_LENGTH {
@@ -37,27 +37,15 @@ fn record_at(log: Log, i: u8) -> Record {
     }
 }
 
-fn print_record(number: u8, record: Record) {
-    io::print_decimal(STDOUT_FILENO, number as u64);
-    print_kind(record.kind);
-    print_number(record.train.0);
-    print_number(record.from.0);
-    print_number(record.to.0);
-    io::write_all(STDOUT_FILENO, b"\n");
+fn print(text: Text)
+    requires { ⌜ text .length ≤ lineLength ⌝ }
+{
+    let bytes = text.bytes;
+    print_first(bytes, text.length);
 }
 
-fn print_kind(kind: u8) {
-    match kind {
-        1 => io::write_all(STDOUT_FILENO, b" FA"),
-        2 => io::write_all(STDOUT_FILENO, b" FE"),
-        3 => io::write_all(STDOUT_FILENO, b" AFE"),
-        4 => io::write_all(STDOUT_FILENO, b" AM"),
-        0 | 5..=255 => io::write_all(STDOUT_FILENO, b" ?"),
-    }
-    ;
-}
-
-fn print_number(n: u8) {
-    io::write_all(STDOUT_FILENO, b" ");
-    io::print_decimal(STDOUT_FILENO, n as u64);
+fn print_first(bytes: [u8; LINE_LENGTH], length: usize)
+    requires { ⌜ length ≤ lineLength ⌝ }
+{
+    io::write_all(STDOUT_FILENO, &bytes[..length]);
 }

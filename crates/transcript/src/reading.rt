@@ -1,4 +1,4 @@
-// Reading a book from a descriptor. A read that fails counts as the end of the input.
+// Reading a book and frames from a descriptor. A read that fails counts as the end of the input.
 ghost use mathlib.Core.Path.{_≡_};
 ghost use mathlib.Core.Bool.{cond};
 ghost use Prim.Native.Nat.{_+_, _≤_};
@@ -6,7 +6,7 @@ ghost use lib.Dec.{ltb};
 ghost use Rattle.common.specs.Word.{word};
 
 // The longest book: eight posts and six trains.
-const LONGEST_BOOK: usize = 25;
+pub const LONGEST_BOOK: usize = 25;
 
 // The first `length` bytes are the book.
 pub struct Book {
@@ -34,6 +34,21 @@ pub fn read_book(fd: i32) -> Book
         bytes,
         length: after_two(rest),
     }
+}
+
+// The first `length` bytes are the frame; none where the input has ended.
+pub struct Frame {
+    pub bytes: [u8; 7],
+    pub length: usize,
+}
+
+// 01: "frames of 7 bytes .. a shorter rest after whole frames is one torn frame".
+pub fn read_frame(fd: i32) -> Frame
+    ensures { λ r. ⌜ r .length ≤ 7 ⌝ }
+{
+    let mut bytes = [0u8; 7];
+    let length = io::read_full(fd, &mut bytes);
+    Frame { bytes, length }
 }
 
 // Where a book ends whose first two bytes are these.

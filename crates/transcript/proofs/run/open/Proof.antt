@@ -1,10 +1,10 @@
--- `open` is safe: the book's bytes are within the 25.
+-- `open` meets its contract: it is `open_log` of the bytes that were read.
 -- Assumes nothing.
 use mathlib.Core.Path.{sym}
 use lib.Seq.{length-take-le}
 use borrow.Author.Needs.{needs}
-use Rattle.transcript.proofs.serving.open.Statement.{statement}
-use Rattle.transcript.proofs.serving.open.Tie as tie
+use Rattle.transcript.proofs.run.open.Statement.{statement}
+use Rattle.transcript.proofs.run.open.Tie as tie
 
 array-share-prefix-bytes : tie.Need-array-share-prefix-bytes
 array-share-prefix-bytes c = search needs
@@ -19,7 +19,7 @@ same-length : tie.Need-same-length
 same-length c = search needs
 
 returns : tie.Need-returns
-returns c = search needs
+returns c = c .before .before .open-log .ensures
 
 pub open-spec : {M : Type 1} → statement M
 open-spec =

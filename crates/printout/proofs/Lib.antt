@@ -1,0 +1,3 @@
+-- Laws of texts and of the lines that are written in them.
+pub mod Room
+pub mod Decimals

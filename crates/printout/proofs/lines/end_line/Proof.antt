@@ -1,0 +1,58 @@
+-- `end_line` meets its contract.
+-- Assumes nothing.
+use mathlib.Core.List.{[], _∷_}
+use borrow.Author.Needs.{needs}
+use Rattle.printout.specs.Text.{lineLength, written}
+use Rattle.printout.specs.Lines.{spaced, newline}
+use Rattle.printout.proofs.Room.{Kept, then-more, all-kept}
+use Rattle.printout.proofs.Decimals.{end-fits}
+use Rattle.printout.proofs.lines.end_line.Statement.{statement}
+use Rattle.printout.proofs.lines.end_line.Tie as tie
+
+empty-requires : tie.Need-empty-requires
+empty-requires c κs = search needs
+
+slice-aggregate-with-word : tie.Need-slice-aggregate-with-word
+slice-aggregate-with-word c = search needs
+
+with-word-requires : tie.Need-with-word-requires
+with-word-requires c κs = search needs
+
+with-spaced-requires : tie.Need-with-spaced-requires
+with-spaced-requires c κs = search needs
+
+with-spaced-requires-2 : tie.Need-with-spaced-requires-2
+with-spaced-requires-2 c κs = search needs
+
+slice-aggregate-with-word-2 : tie.Need-slice-aggregate-with-word-2
+slice-aggregate-with-word-2 c = search needs
+
+with-word-requires-2 : tie.Need-with-word-requires-2
+with-word-requires-2 c κs = search needs
+
+returns : tie.Need-returns
+returns c =
+    let spaced2 = c .before .before in
+    let spaced1 = spaced2 .before in
+    let named = spaced1 .before in
+    let begun = named .before .before in
+    let a = begun .before .args in
+    let k₀ : Kept lineLength [] (written (begun .empty .result)) = record { is = begun .empty .ensures .1 } in
+    let k₁ = then-more (101 ∷ 110 ∷ 100 ∷ []) k₀ (named .with-word .ensures .1) in
+    let k₂ = then-more (spaced (a .logged)) k₁ (spaced1 .with-spaced .ensures .1) in
+    let k₃ = then-more (spaced (a .refused)) k₂ (spaced2 .with-spaced2 .ensures .1) in
+    let k₄ = then-more newline k₃ (c .with-word2 .ensures .1) in
+    (c .with-word2 .ensures .0, all-kept k₄ (end-fits (a .logged) (a .refused) (search needs) (search needs)))
+
+pub end-line-spec : {M : Type 1} → statement M
+end-line-spec =
+    tie.close
+    (tie.spec
+    empty-requires
+    slice-aggregate-with-word
+    with-word-requires
+    with-spaced-requires
+    with-spaced-requires-2
+    slice-aggregate-with-word-2
+    with-word-requires-2
+    returns)

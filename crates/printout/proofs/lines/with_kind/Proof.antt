@@ -1,0 +1,113 @@
+-- `with_kind` meets its contract.
+-- Assumes nothing.
+use mathlib.Core.Path.{_≡_, sym, ap, _∙_}
+use mathlib.Core.Logic.{_≢_}
+use mathlib.Core.List.{List, [], _∷_}
+use Prim.Native.Nat.{ℕ}
+use borrow.Author.Tests.{ne-eqb}
+use borrow.Author.Needs.{needs}
+use Rattle.printout.specs.Text.{followed}
+use Rattle.printout.specs.Lines.{kindName}
+use Rattle.printout.proofs.lines.with_kind.Statement.{statement}
+use Rattle.printout.proofs.lines.with_kind.Tie as tie
+use Rattle.printout.proofs.lines.with_kind.Reads as reads
+use Rattle.printout.proofs.lines.with_kind.Lts as lts
+use Rattle.printout.proofs.text.with_word.Reads as asked
+
+-- the text with the name of the kind k
+abbrev named : lts.Start (asked.Asked, asked.Learnt) reads.Pre reads.Post → ℕ → List ℕ
+named c k = followed (c .args .text) (kindName k)
+
+no-kind : (k : ℕ) → k ≢ 1 → k ≢ 2 → k ≢ 3 → k ≢ 4 → 32 ∷ 63 ∷ [] ≡ kindName k
+unfolding kindName
+no-kind k h₁ h₂ h₃ h₄ = rw (ne-eqb k 1 h₁, ne-eqb k 2 h₂, ne-eqb k 3 h₃, ne-eqb k 4 h₄)
+
+slice-aggregate-with-word : tie.Need-slice-aggregate-with-word
+slice-aggregate-with-word c = search needs
+
+with-word-requires : tie.Need-with-word-requires
+with-word-requires c κs = search needs
+
+slice-aggregate-with-word-2 : tie.Need-slice-aggregate-with-word-2
+slice-aggregate-with-word-2 c = search needs
+
+with-word-requires-2 : tie.Need-with-word-requires-2
+with-word-requires-2 c κs = search needs
+
+slice-aggregate-with-word-3 : tie.Need-slice-aggregate-with-word-3
+slice-aggregate-with-word-3 c = search needs
+
+with-word-requires-3 : tie.Need-with-word-requires-3
+with-word-requires-3 c κs = search needs
+
+slice-aggregate-with-word-4 : tie.Need-slice-aggregate-with-word-4
+slice-aggregate-with-word-4 c = search needs
+
+with-word-requires-4 : tie.Need-with-word-requires-4
+with-word-requires-4 c κs = search needs
+
+slice-aggregate-with-word-5 : tie.Need-slice-aggregate-with-word-5
+slice-aggregate-with-word-5 c = search needs
+
+with-word-requires-5 : tie.Need-with-word-requires-5
+with-word-requires-5 c κs = search needs
+
+returns : tie.Need-returns
+unfolding kindName
+returns c = (
+  c .with-word .ensures .0,
+  c .with-word .ensures .1
+      ∙ ap (named (c .before .before .before)) (sym (c .before .before .match .keys1)),
+)
+
+returns-2 : tie.Need-returns-2
+unfolding kindName
+returns-2 c = (
+  c .with-word2 .ensures .0,
+  c .with-word2 .ensures .1
+      ∙ ap (named (c .before .before .before)) (sym (c .before .before .match .keys2)),
+)
+
+returns-3 : tie.Need-returns-3
+unfolding kindName
+returns-3 c = (
+  c .with-word3 .ensures .0,
+  c .with-word3 .ensures .1
+      ∙ ap (named (c .before .before .before)) (sym (c .before .before .match .keys3)),
+)
+
+returns-4 : tie.Need-returns-4
+unfolding kindName
+returns-4 c = (
+  c .with-word4 .ensures .0,
+  c .with-word4 .ensures .1
+      ∙ ap (named (c .before .before .before)) (sym (c .before .before .match .keys4)),
+)
+
+returns-5 : tie.Need-returns-5
+returns-5 c =
+    let no = c .before .before .match .rest in
+    let name = no-kind _ (no .0 .0 .0 .1) (no .0 .0 .1) (no .0 .1) (no .1) in (
+      c .with-word5 .ensures .0,
+      c .with-word5 .ensures .1 ∙ ap (followed (c .before .before .before .args .text)) name,
+    )
+
+pub with-kind-spec : {M : Type 1} → statement M
+with-kind-spec =
+    tie.close
+    (tie.spec
+    slice-aggregate-with-word
+    with-word-requires
+    slice-aggregate-with-word-2
+    with-word-requires-2
+    slice-aggregate-with-word-3
+    with-word-requires-3
+    slice-aggregate-with-word-4
+    with-word-requires-4
+    slice-aggregate-with-word-5
+    with-word-requires-5
+    returns
+    returns-2
+    returns-3
+    returns-4
+    returns-5)

@@ -1,0 +1,40 @@
+-- `with_number` meets its contract: the digits that `io` gives are the number's decimal.
+-- Assumes nothing.
+use mathlib.Core.Path.{_∙_, ap}
+use borrow.Author.Needs.{needs}
+use Rattle.printout.specs.Text.{followed}
+use Rattle.printout.proofs.Decimals.{decimal-of}
+use Rattle.printout.proofs.text.with_number.Statement.{statement}
+use Rattle.printout.proofs.text.with_number.Tie as tie
+
+decimal-requires : tie.Need-decimal-requires
+decimal-requires c κs = search needs
+
+array-share-prefix-digits : tie.Need-array-share-prefix-digits
+array-share-prefix-digits c = search needs
+
+slice-aggregate-with-word : tie.Need-slice-aggregate-with-word
+slice-aggregate-with-word c = search needs
+
+with-word-requires : tie.Need-with-word-requires
+with-word-requires c κs = search needs
+
+returns : tie.Need-returns
+returns c =
+    let start = c .before .before .before .before in
+    let told = c .before .before .decimal .ensures in (
+      c .with-word .ensures .0,
+      c .with-word .ensures .1
+          ∙ ap (followed (start .args .text))
+          (told .1 .1 ∙ decimal-of (start .args .n) (c .before .before .decimal .result) (search needs) (told .1 .0)),
+    )
+
+pub with-number-spec : {M : Type 1} → statement M
+with-number-spec =
+    tie.close
+    (tie.spec
+    decimal-requires
+    array-share-prefix-digits
+    slice-aggregate-with-word
+    with-word-requires
+    returns)

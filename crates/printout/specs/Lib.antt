@@ -1,0 +1,4 @@
+-- What the desk prints: `Lines` has the lines, `Text` what the code holds of one.
+pub mod Types
+pub mod Text
+pub mod Lines

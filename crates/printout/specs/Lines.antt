@@ -1,0 +1,43 @@
+-- What the program prints (01: "It prints each journal record .."), in ASCII.
+use mathlib.Core.Bool.{cond}
+use mathlib.Core.List.{List, [], _∷_, _++_}
+use Prim.Native.Nat.{ℕ, zero, suc, _+_, _/_, _%_}
+use lib.Dec.{eqb, ltb}
+use Rattle.printout.specs.Types.{Record}
+
+-- n in decimal, in at most k digits
+unfoldable pub decimalIn : ℕ → ℕ → List ℕ
+decimalIn zero n = []
+decimalIn (suc k) n = let more = decimalIn k (n / 10) in cond (ltb n 10) [] more ++ ((48 + n % 10) ∷ [])
+
+-- a number of 64 bits in decimal
+abbrev pub decimal : ℕ → List ℕ
+decimal n = decimalIn 20 n
+
+-- the same after a space
+abbrev pub spaced : ℕ → List ℕ
+spaced n = 32 ∷ decimal n
+
+abbrev pub newline : List ℕ
+newline = 10 ∷ []
+
+-- after a space `FA`, `FE`, `AFE` or `AM`, or `?` for what is no kind
+unfoldable pub kindName : ℕ → List ℕ
+kindName k =
+    cond (eqb k 1) (32 ∷ 70 ∷ 65 ∷ [])
+    (cond (eqb k 2) (32 ∷ 70 ∷ 69 ∷ [])
+    (cond (eqb k 3) (32 ∷ 65 ∷ 70 ∷ 69 ∷ [])
+    (cond (eqb k 4) (32 ∷ 65 ∷ 77 ∷ []) (32 ∷ 63 ∷ []))))
+
+-- 01: "each journal record (number, kind, train, from, to)"
+abbrev pub recordLine : ℕ → Record → List ℕ
+recordLine number r =
+    decimal number ++ kindName (r .kind) ++ spaced (r .train .0) ++ spaced (r .from .0) ++ spaced (r .to .0) ++ newline
+
+-- 01: "then `end`, the record count and the count of refused frames"
+abbrev pub endLine : ℕ → ℕ → List ℕ
+endLine logged refused = (101 ∷ 110 ∷ 100 ∷ []) ++ spaced logged ++ spaced refused ++ newline
+
+-- 01: "for a refused book only `book` and the number"
+abbrev pub bookLine : ℕ → List ℕ
+bookLine n = (98 ∷ 111 ∷ 111 ∷ 107 ∷ []) ++ spaced n ++ newline

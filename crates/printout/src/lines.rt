@@ -1,0 +1,66 @@
+// The lines of a run.
+ghost use mathlib.Core.Path.{_≡_};
+ghost use Prim.Native.Nat.{_≤_};
+ghost use Rattle.printout.specs.Text.{lineLength, written, followed};
+ghost use Rattle.printout.specs.Lines.{spaced, kindName, recordLine, endLine, bookLine};
+use crate::text::Text;
+use crate::text::empty;
+use crate::text::with_number;
+use crate::text::with_word;
+use journal::Record;
+
+// 01: "each journal record (number, kind, train, from, to)".
+pub fn record_line(number: u8, entry: Record) -> Text
+    ensures { λ r. ⌜ r .length ≤ lineLength ⌝ }
+    ensures { λ r. ⌜ written r ≡ recordLine number entry ⌝ }
+{
+    let text = with_number(empty(), number as u64);
+    let text = with_kind(text, entry.kind);
+    let text = with_spaced(text, entry.train.0 as u64);
+    let text = with_spaced(text, entry.from.0 as u64);
+    let text = with_spaced(text, entry.to.0 as u64);
+    with_word(text, b"\n")
+}
+
+// 01: "then `end`, the record count and the count of refused frames".
+pub fn end_line(logged: u8, refused: u64) -> Text
+    ensures { λ r. ⌜ r .length ≤ lineLength ⌝ }
+    ensures { λ r. ⌜ written r ≡ endLine logged refused ⌝ }
+{
+    let text = with_word(empty(), b"end");
+    let text = with_spaced(text, logged as u64);
+    let text = with_spaced(text, refused);
+    with_word(text, b"\n")
+}
+
+// 01: "for a refused book only `book` and the number".
+pub fn book_line(refusal: u8) -> Text
+    ensures { λ r. ⌜ r .length ≤ lineLength ⌝ }
+    ensures { λ r. ⌜ written r ≡ bookLine refusal ⌝ }
+{
+    let text = with_word(empty(), b"book");
+    let text = with_spaced(text, refusal as u64);
+    with_word(text, b"\n")
+}
+
+fn with_kind(text: Text, kind: u8) -> Text
+    requires { ⌜ text .length ≤ lineLength ⌝ }
+    ensures { λ r. ⌜ r .length ≤ lineLength ⌝ }
+    ensures { λ r. ⌜ written r ≡ followed text (kindName kind) ⌝ }
+{
+    match kind {
+        1 => with_word(text, b" FA"),
+        2 => with_word(text, b" FE"),
+        3 => with_word(text, b" AFE"),
+        4 => with_word(text, b" AM"),
+        _ => with_word(text, b" ?"),
+    }
+}
+
+fn with_spaced(text: Text, n: u64) -> Text
+    requires { ⌜ text .length ≤ lineLength ⌝ }
+    ensures { λ r. ⌜ r .length ≤ lineLength ⌝ }
+    ensures { λ r. ⌜ written r ≡ followed text (spaced n) ⌝ }
+{
+    with_number(with_word(text, b" "), n)
+}
