@@ -43,7 +43,7 @@ pub extern "C" fn quangevit_open(
     if state.len() != STATE_LENGTH {
         return word_of(STRANGE_STATE, 0);
     }
-    let opened = dispatcher::open_with(book, table, journal.len() / RECORD_LENGTH);
+    let opened = opening::open_with(book, table, journal.len() / RECORD_LENGTH);
     let after = opened.state;
     put_state(after, state);
     word_of(opened.refusal, 0)

@@ -1,4 +1,3 @@
 -- Words of the entry points' code. What they are to do is in `rules`.
 pub mod Types
 pub mod Step
-pub mod Log

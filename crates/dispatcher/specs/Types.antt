@@ -18,4 +18,3 @@ pub use Rattle.rules.specs.declared.result.Reply.{Reply}
 pub use Rattle.rules.specs.declared.result.Opened.{Opened}
 pub use Rattle.authority.specs.declared.granting.Progress.{Progress}
 pub use Rattle.dispatcher.specs.declared.stepping.Outcome.{Outcome}
-pub use Rattle.dispatcher.specs.declared.log.Log.{Log}

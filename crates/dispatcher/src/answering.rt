@@ -1,11 +1,11 @@
 // The answer to a frame: the step, and then its records are written to the journal.
 ghost use mathlib.Core.Path.{_≡_};
 ghost use Rattle.rules.specs.Answer.{answerOf, answer};
-use crate::log::Log;
-use crate::log::appended;
-use crate::log::log_length;
 use crate::stepping::step;
+use journal::Log;
 use journal::Record;
+use journal::log_length;
+use journal::log_with;
 use rules::Reply;
 use rules::State;
 
@@ -40,6 +40,6 @@ pub fn answer_log(state: State, table: &[u8], log: Log, frame: &[u8], out: &mut 
     let o = step(state, table, log_length(records), frame, out);
     let reply = o.reply;
     let batch = o.batch;
-    let log = appended(log, o.at, batch);
+    let log = log_with(log, o.at, batch);
     Logged { reply, log }
 }

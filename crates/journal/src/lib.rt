@@ -1,6 +1,7 @@
 // The journal: its records, the batch of records that one frame adds, and thin functions over the
 // lent run of records. 01: "An accepted frame is logged, then each answer in order of sending."
 mod batch;
+mod log;
 mod reading;
 mod record;
 mod writing;
@@ -9,6 +10,11 @@ pub use batch::BATCH_LENGTH;
 pub use batch::Batch;
 pub use batch::empty;
 pub use batch::with;
+pub use log::Log;
+pub use log::blank_log;
+pub use log::log_at;
+pub use log::log_length;
+pub use log::log_with;
 pub use reading::at;
 pub use record::Record;
 pub use record::blank;

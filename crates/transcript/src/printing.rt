@@ -1,11 +1,7 @@
 // What a run prints.
-ghost use mathlib.Core.Path.{_≡_};
 ghost use Prim.Native.Nat.{_≤_};
 ghost use Rattle.printout.specs.Text.{lineLength};
-ghost use Rattle.journal.specs.Journal.{recordAt};
-use dispatcher::Log;
-use journal::JOURNAL_LENGTH;
-use journal::Record;
+use journal::Log;
 use libc::STDOUT_FILENO;
 use printout::LINE_LENGTH;
 use printout::Text;
@@ -18,23 +14,10 @@ pub fn print_refused(refusal: u8) {
 pub fn print_run(log: Log, logged: u8, refused: u64) {
     let mut i: u8 = 0;
     while i < logged {
-        print(printout::record_line(i, record_at(log, i)));
+        print(printout::record_line(i, journal::log_at(log, i as usize)));
         i += 1;
     }
     print(printout::end_line(logged, refused));
-}
-
-// The record of number i; the blank one past the end.
-fn record_at(log: Log, i: u8) -> Record
-    ensures { λ r. ⌜ r ≡ recordAt (log .records) i ⌝ }
-{
-    let at = i as usize;
-    let records = log.records;
-    if at < JOURNAL_LENGTH {
-        records[at]
-    } else {
-        journal::blank()
-    }
 }
 
 fn print(text: Text)

@@ -6,7 +6,7 @@ ghost use Rattle.rules.specs.Opening.{openingOf, opening};
 ghost use Rattle.transcript.specs.Run.{frameIn, countAfter, afterFrame};
 use crate::reading::Frame;
 use crate::reading::LONGEST_BOOK;
-use dispatcher::Log;
+use journal::Log;
 use rules::Opened;
 use rules::State;
 use rules::Verdict;
@@ -26,7 +26,7 @@ pub fn open(bytes: [u8; LONGEST_BOOK], length: usize, table: &mut [u8], log: Log
     ensures { λ r. ⌜ openingOf r (now (table .exit))
         ≡ opening (take length bytes) (now (table .entry)) (log .records) ⌝ }
 {
-    dispatcher::open_log(&bytes[..length], table, log)
+    opening::open_log(&bytes[..length], table, log)
 }
 
 // The run after one more frame.

@@ -13,7 +13,7 @@ pub fn serve(fd: i32) {
     let book = read_book(fd);
     let bytes = book.bytes;
     let mut table = [0u8; TABLE_LENGTH];
-    let log = dispatcher::blank_log();
+    let log = journal::blank_log();
     let opened = open(bytes, book.length, &mut table, log);
     if opened.refusal != 0 {
         print_refused(opened.refusal);

@@ -14,8 +14,8 @@ log-length-requires c κs = search needs
 step-requires : tie.Need-step-requires
 step-requires c κs = search needs
 
-appended-requires : tie.Need-appended-requires
-appended-requires c κs = search needs
+log-with-requires : tie.Need-log-with-requires
+log-with-requires c κs = search needs
 
 same-length : tie.Need-same-length
 same-length c = search needs
@@ -24,7 +24,7 @@ returns : tie.Need-returns
 returns c =
     let done = c .before .before .before .before .before in
     ap (λ (l : List Record). answerOf (done .step .result .reply) l (done .step .last .1 .1 .1 .1 .0))
-    (c .appended .ensures)
+    (c .log-with .ensures)
     ∙ done .step .ensures .answers _ (sym (done .before .before .log-length .ensures))
 
 pub answer-log-spec : {M : Type 1} → statement M
@@ -33,6 +33,6 @@ answer-log-spec =
     (tie.spec
     log-length-requires
     step-requires
-    appended-requires
+    log-with-requires
     same-length
     returns)

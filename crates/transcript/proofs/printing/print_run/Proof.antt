@@ -15,8 +15,11 @@ abbrev μ-loop : tie.MeasureT-loop
 loop-holds : tie.Need-loop-holds Inv-loop μ-loop
 loop-holds c = omega arith
 
-record-at-requires : tie.Need-record-at-requires Inv-loop μ-loop
-record-at-requires c κs = search needs
+cast-log-at : tie.Need-cast-log-at Inv-loop μ-loop
+cast-log-at c = search needs
+
+log-at-requires : tie.Need-log-at-requires Inv-loop μ-loop
+log-at-requires c κs = search needs
 
 record-line-requires : tie.Need-record-line-requires Inv-loop μ-loop
 record-line-requires c κs = search needs
@@ -49,7 +52,8 @@ print-run-spec =
     Inv-loop
     μ-loop
     loop-holds
-    record-at-requires
+    cast-log-at
+    log-at-requires
     record-line-requires
     print-requires
     add-i

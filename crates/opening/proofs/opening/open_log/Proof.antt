@@ -3,8 +3,8 @@
 use mathlib.Core.Path.{ap, _∙_}
 use Rattle.rules.specs.Opening.{openingWith}
 use borrow.Author.Needs.{needs}
-use Rattle.dispatcher.proofs.opening.open_log.Statement.{statement}
-use Rattle.dispatcher.proofs.opening.open_log.Tie as tie
+use Rattle.opening.proofs.opening.open_log.Statement.{statement}
+use Rattle.opening.proofs.opening.open_log.Tie as tie
 
 log-length-requires : tie.Need-log-length-requires
 log-length-requires c κs = search needs

@@ -43,18 +43,18 @@ use denote.Triple.Walked.{says, Stays, stay-none-slice, gave-slice, walkOf, goes
 use denote.Triple.Walked.{ends-at, walked, walk-meets}
 use denote.Exit.{yes}
 use Rattle.journal.proofs.record.Record as R
-use Rattle.dispatcher.specs.Types.{Record, Opened}
+use Rattle.opening.specs.Types.{Record, Opened}
 use Rattle.rules.specs.Opening.{openingOf, opening}
 use Rattle.rules.proofs.result.Opened as O
 use Rattle.rules.proofs.result.Opened.Laws as O′
-use Rattle.dispatcher.proofs.opening.open_with as with′
-use Rattle.dispatcher.proofs.opening.open_with.Symbol as with-def
-use Rattle.dispatcher.proofs.opening.open_with.Symbol.{name as #open-with}
-use Rattle.dispatcher.proofs.opening.open_with.Met as with-thm
-use Rattle.dispatcher.proofs.opening.open as open′
-use Rattle.dispatcher.proofs.opening.open.Key.{name as #open}
-use Rattle.dispatcher.proofs.opening.open.Statement as stated
-use Rattle.dispatcher.proofs.opening.open.Code as code
+use Rattle.opening.proofs.opening.open_with as with′
+use Rattle.opening.proofs.opening.open_with.Symbol as with-def
+use Rattle.opening.proofs.opening.open_with.Symbol.{name as #open-with}
+use Rattle.opening.proofs.opening.open_with.Met as with-thm
+use Rattle.opening.proofs.opening.open as open′
+use Rattle.opening.proofs.opening.open.Key.{name as #open}
+use Rattle.opening.proofs.opening.open.Statement as stated
+use Rattle.opening.proofs.opening.open.Code as code
 
 -- what is had of each parameter at exit
 abbrev stayed : Stays (open′.ended .signature .params) (open′.ended .kept)
@@ -243,4 +243,4 @@ open-spec 𝓤 H 𝓜 𝓖 𝓡 =
     (tables 𝓤 H 𝓜 𝓡 code.env .C) (tables 𝓤 H 𝓜 𝓡 code.env .Λ) #open code.function (code.unfolded 𝓤 H 𝓜 𝓡)
     (open-meets 𝓤 H (𝓖 .A) (givenOf 𝓤 H 𝓜 𝓖) (𝓜 .mem) (𝓡 .run) (tablesOf 𝓤 H 𝓜 (tables 𝓤 H 𝓜 𝓡 code.env))
     (cited 𝓤 H (With 𝓤 H (𝓖 .A) (𝓜 .mem) (𝓡 .run)) 𝓜 𝓡 code.env #open-with with-def.routine
-    code.calls-dispatcher·opening·open-with (with-thm.met 𝓤 H 𝓜 𝓖 𝓡)))
+    code.calls-opening·opening·open-with (with-thm.met 𝓤 H 𝓜 𝓖 𝓡)))

@@ -2,11 +2,11 @@
 ghost use mathlib.Core.Path.{_≡_};
 ghost use Rattle.rules.specs.State.{noTrain};
 ghost use Rattle.rules.specs.Opening.{fresh, openedState, emptyState, openingOf, openingWith, opening};
-use crate::log::Log;
-use crate::log::log_length;
 use completion::TABLE_LENGTH;
 use journal::JOURNAL_LENGTH;
+use journal::Log;
 use journal::Record;
+use journal::log_length;
 use line::Line;
 use line::Outcome;
 use line::PostNo;

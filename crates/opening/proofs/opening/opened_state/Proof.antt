@@ -10,8 +10,8 @@ use Rattle.line.specs.Line.{routeOf}
 use Rattle.rules.specs.State.{noTrain}
 use Rattle.rules.specs.Opening.{fresh}
 use Rattle.rules.proofs.OpeningCases.{opened-fleet}
-use Rattle.dispatcher.proofs.opening.opened_state.Statement.{statement}
-use Rattle.dispatcher.proofs.opening.opened_state.Tie as tie
+use Rattle.opening.proofs.opening.opened_state.Statement.{statement}
+use Rattle.opening.proofs.opening.opened_state.Tie as tie
 
 abbrev Inv-loop : tie.InvT-loop
 Inv-loop line fleet₀ t₀ fleet t = (t ≤ 6) × (fleet ≡ padded 6 t (λ u. fresh (routeOf line u)) noTrain)

@@ -1,16 +1,16 @@
--- `appended` meets its contract: all records of the batch are written, or none.
+-- `log_with` meets its contract: all records of the batch are written, or none.
 -- Assumes nothing.
 use mathlib.Core.Path.{_≡_, ap, subst⁻¹, _∙_}
 use Prim.Native.Nat.{ℕ, _≤_}
 use lib.ListN.{length}
 use lib.Seq.{paste}
 use borrow.Author.Needs.{needs}
 use Rattle.journal.specs.Journal.{batchLength, fitting}
 use Rattle.journal.proofs.Appended.{fitting-few, fitting-room, all-written}
-use Rattle.dispatcher.specs.Types.{Record, Batch}
+use Rattle.journal.specs.Types.{Record, Batch}
 use mathlib.Core.List.{List}
-use Rattle.dispatcher.proofs.log.appended.Statement.{statement}
-use Rattle.dispatcher.proofs.log.appended.Tie as tie
+use Rattle.journal.proofs.log.log_with.Statement.{statement}
+use Rattle.journal.proofs.log.log_with.Tie as tie
 
 log-length-requires : tie.Need-log-length-requires
 log-length-requires c κs = search needs
@@ -48,8 +48,8 @@ returns c =
     ∙ ap (λ (m : ℕ). paste (records d) at (batch d .items) m) (count d)
     ∙ all-written (records d) at (batch d)
 
-pub appended-spec : {M : Type 1} → statement M
-appended-spec =
+pub log-with-spec : {M : Type 1} → statement M
+log-with-spec =
     tie.close
     (tie.spec
     log-length-requires

@@ -3,12 +3,14 @@ ghost use mathlib.Core.Path.{_≡_};
 ghost use Prim.Native.Nat.{ℕ, _+_, _≤_, _<_};
 ghost use lib.ListN.{length};
 ghost use lib.Seq.{paste};
-ghost use Rattle.journal.specs.Journal.{batchLength, appended};
-ghost use Rattle.dispatcher.specs.Log.{blankLog};
-use journal::BATCH_LENGTH;
-use journal::Batch;
-use journal::JOURNAL_LENGTH;
-use journal::Record;
+ghost use Rattle.journal.specs.Journal.{batchLength, recordAt, appended};
+ghost use Rattle.journal.specs.Log.{blankLog};
+use crate::JOURNAL_LENGTH;
+use crate::batch::BATCH_LENGTH;
+use crate::batch::Batch;
+use crate::record::Record;
+use crate::record::blank;
+use crate::writing::fitting;
 
 pub struct Log {
     pub records: [Record; JOURNAL_LENGTH],
@@ -18,7 +20,7 @@ pub struct Log {
 pub fn blank_log() -> Log
     ensures { λ r. ⌜ r ≡ blankLog ⌝ }
 {
-    let records = [journal::blank(); JOURNAL_LENGTH];
+    let records = [blank(); JOURNAL_LENGTH];
     Log { records }
 }
 
@@ -29,13 +31,25 @@ pub fn log_length(records: [Record; JOURNAL_LENGTH]) -> usize
     JOURNAL_LENGTH
 }
 
+// The record of number i; the blank one past the end.
+pub fn log_at(log: Log, i: usize) -> Record
+    ensures { λ r. ⌜ r ≡ recordAt (log .records) i ⌝ }
+{
+    let records = log.records;
+    if i < JOURNAL_LENGTH {
+        records[i]
+    } else {
+        blank()
+    }
+}
+
 // The log with the records of the batch from place `at` on; as it is where they do not all fit.
-pub fn appended(log: Log, at: usize, batch: Batch) -> Log
+pub fn log_with(log: Log, at: usize, batch: Batch) -> Log
     ensures { λ r. ⌜ r .records ≡ appended (log .records) at batch ⌝ }
 {
     let records = log.records;
     let items = batch.items;
-    let n = journal::fitting(log_length(records), at, batch.n);
+    let n = fitting(log_length(records), at, batch.n);
     let records = with_items(records, at, items, n);
     Log { records }
 }

@@ -1,12 +1,12 @@
--- `record_at` meets its contract: past the end there is nothing but the blank record.
+-- `log_at` meets its contract: past the end there is nothing but the blank record.
 -- Assumes nothing.
 use mathlib.Core.Path.{_≡_, sym, _∙_}
 use native.Mathlib.Omega.{arith}
 use lib.ListN.{length, length-map, List·getD-eq-default}
 use Rattle.journal.specs.Journal.{journalLength, blank}
 use borrow.Author.Needs.{needs}
-use Rattle.transcript.proofs.printing.record_at.Statement.{statement}
-use Rattle.transcript.proofs.printing.record_at.Tie as tie
+use Rattle.journal.proofs.log.log_at.Statement.{statement}
+use Rattle.journal.proofs.log.log_at.Tie as tie
 
 mul-result : tie.Need-mul-result
 mul-result c = search needs
@@ -26,6 +26,6 @@ returns-2 c =
     let all : length (a .args .log .records) ≡ journalLength = simp length-map at (a .good .0 .1 .1 .0 .1 .0 .1) in
     c .blank .ensures ∙ sym (List·getD-eq-default (a .args .log .records) blank {n = a .args .i} (omega (arith, all)))
 
-pub record-at-spec : {M : Type 1} → statement M
-record-at-spec =
+pub log-at-spec : {M : Type 1} → statement M
+log-at-spec =
     tie.close (tie.spec mul-result array-copy-out-result blank-requires returns returns-2)

@@ -2,8 +2,8 @@
 -- Assumes nothing.
 use borrow.Author.Needs.{needs}
 use Rattle.common.specs.Tabulate.{valuesFrom}
-use Rattle.dispatcher.proofs.opening.empty_state.Statement.{statement}
-use Rattle.dispatcher.proofs.opening.empty_state.Tie as tie
+use Rattle.opening.proofs.opening.empty_state.Statement.{statement}
+use Rattle.opening.proofs.opening.empty_state.Tie as tie
 
 no-train-requires : tie.Need-no-train-requires
 no-train-requires c κs = search needs

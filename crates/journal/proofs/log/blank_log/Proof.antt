@@ -1,8 +1,8 @@
 -- `blank_log` meets its contract: as many blank records as a journal has at least.
 -- Assumes nothing.
 use borrow.Author.Needs.{needs}
-use Rattle.dispatcher.proofs.log.blank_log.Statement.{statement}
-use Rattle.dispatcher.proofs.log.blank_log.Tie as tie
+use Rattle.journal.proofs.log.blank_log.Statement.{statement}
+use Rattle.journal.proofs.log.blank_log.Tie as tie
 
 blank-requires : tie.Need-blank-requires
 blank-requires c κs = search needs

@@ -13,11 +13,11 @@ use Rattle.line.specs.Book.{accepted, readBook}
 use Rattle.journal.specs.Journal.{journalLength}
 use Rattle.completion.specs.Configuration.{start, code, feasible}
 use Rattle.completion.specs.Table.{tableLength, bitOf}
-use Rattle.dispatcher.specs.Types.{Line}
+use Rattle.opening.specs.Types.{Line}
 use Rattle.rules.proofs.OpeningCases.{start-code, read-as, handed, table-short, journal-short, book-refused}
 use Rattle.rules.proofs.OpeningCases.{start-overfull, no-way, opens}
-use Rattle.dispatcher.proofs.opening.open_with.Statement.{statement}
-use Rattle.dispatcher.proofs.opening.open_with.Tie as tie
+use Rattle.opening.proofs.opening.open_with.Statement.{statement}
+use Rattle.opening.proofs.opening.open_with.Tie as tie
 
 refused-requires : tie.Need-refused-requires
 refused-requires c κs = search needs

@@ -1,0 +1,6 @@
+// The dispatcher's box before its first frame: the opening of a book.
+mod opening;
+
+pub use opening::open;
+pub use opening::open_log;
+pub use opening::open_with;
