@@ -14,12 +14,12 @@ use Rattle.rules.specs.Opening.{Opening, openingOf, openingWith}
 use Rattle.dispatcher.specs.Step.{Stepped}
 use Rattle.capi.specs.Types.{Reading, Opened, State, Outcome}
 use Rattle.capi.specs.Word.{wordOf}
-use Rattle.capi.specs.LineBytes.{lineLength, lineBytes}
-use Rattle.capi.specs.StateBytes.{stateLength, stateBytes, encodesState, stateIn}
-use Rattle.capi.specs.JournalBytes.{recordCount, recordsIn, withRecords}
+use Rattle.layout.specs.LineBytes.{lineLength, lineBytes}
+use Rattle.layout.specs.StateBytes.{stateLength, stateBytes, encodesState, stateIn}
+use Rattle.layout.specs.JournalBytes.{recordCount, recordsIn, withRecords}
 use Rattle.capi.specs.BoxCalls.{bookCall, readBookCall, OpenCall, openCallOf, openCall}
 use Rattle.capi.specs.BoxCalls.{verdictWord, answerCallOf, answerAfter, answerCall}
-use Rattle.capi.proofs.Journals.{record-count}
+use Rattle.layout.proofs.Journals.{record-count}
 
 -- ---- reading a book
 

@@ -26,16 +26,16 @@ use Rattle.rules.proofs.Acceptance.{Taken, request, arrival, by-verdict, accept
 use Rattle.capi.specs.Types.{Button, Ask, Depart, Reached, Report, Pressed}
 use Rattle.capi.specs.Types.{Line, Message, Record, State, RefusedBy}
 use Rattle.capi.specs.Word.{wordOf, refusalIn}
-use Rattle.capi.specs.UnitBytes.{encodesUnit, unitIn, buttonOf}
+use Rattle.layout.specs.UnitBytes.{encodesUnit, unitIn, buttonOf}
 use Rattle.capi.specs.UnitCalls.{hearCall, pressed, pressCallChecks, pressAfter, pressCall}
-use Rattle.capi.specs.StateBytes.{stateLength, stateBytes, encodesState, stateIn}
-use Rattle.capi.specs.JournalBytes.{recordCount, recordsIn}
+use Rattle.layout.specs.StateBytes.{stateLength, stateBytes, encodesState, stateIn}
+use Rattle.layout.specs.JournalBytes.{recordCount, recordsIn}
 use Rattle.capi.specs.BoxCalls.{openCall, answerCallOf, answerCall}
-use Rattle.capi.specs.RoundTrip.{Shaped}
+use Rattle.layout.specs.RoundTrip.{Shaped}
 use Rattle.capi.specs.HandedOn.{ReadAs, LeftAs, ruled, HandedOn}
 use Rattle.capi.proofs.UnitSteps.{is-unit}
-use Rattle.capi.proofs.Journals.{record-count, own-records}
-use Rattle.capi.proofs.RoundTrip.{unit-only, state-back, state-encoded, state-only, records-back}
+use Rattle.layout.proofs.Journals.{record-count, own-records}
+use Rattle.layout.proofs.RoundTrip.{unit-only, state-back, state-encoded, state-only, records-back}
 
 -- ---- the state
 

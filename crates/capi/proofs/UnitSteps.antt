@@ -20,7 +20,7 @@ use Rattle.unit.specs.Pressing.{pressButton}
 use Rattle.unit.specs.Hearing.{hearFrame}
 use Rattle.capi.specs.Types.{Button, Unit, Made, Heard, Pressed}
 use Rattle.capi.specs.Word.{wordOf}
-use Rattle.capi.specs.UnitBytes.{unitLength, unitBytes, encodesUnit, unitIn, buttonOf}
+use Rattle.layout.specs.UnitBytes.{unitLength, unitBytes, encodesUnit, unitIn, buttonOf}
 use Rattle.capi.specs.UnitCalls.{unitCall, makeUnitCall, hearCall}
 use Rattle.capi.specs.UnitCalls.{pressed, pressCallChecks, pressAfter, pressCall}
 

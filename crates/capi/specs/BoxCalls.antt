@@ -10,9 +10,9 @@ use Rattle.rules.specs.Answer.{Answer, answer}
 use Rattle.rules.specs.Opening.{openingWith}
 use Rattle.capi.specs.Types.{Verdict, Sent, RefusedBy}
 use Rattle.capi.specs.Word.{wordOf}
-use Rattle.capi.specs.LineBytes.{lineLength, lineBytes}
-use Rattle.capi.specs.StateBytes.{stateLength, stateBytes, encodesState, stateIn}
-use Rattle.capi.specs.JournalBytes.{recordCount, recordsIn, withRecords}
+use Rattle.layout.specs.LineBytes.{lineLength, lineBytes}
+use Rattle.layout.specs.StateBytes.{stateLength, stateBytes, encodesState, stateIn}
+use Rattle.layout.specs.JournalBytes.{recordCount, recordsIn, withRecords}
 
 -- ---- reading a book
 

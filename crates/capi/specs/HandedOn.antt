@@ -10,8 +10,8 @@ use Rattle.rules.specs.Answer.{Answer, answer}
 use Rattle.rules.specs.Opening.{openingWith}
 use Rattle.capi.specs.Types.{State, RefusedBy}
 use Rattle.capi.specs.Word.{wordOf, refusalIn}
-use Rattle.capi.specs.StateBytes.{stateLength, encodesState, stateIn}
-use Rattle.capi.specs.JournalBytes.{recordCount, recordsIn}
+use Rattle.layout.specs.StateBytes.{stateLength, encodesState, stateIn}
+use Rattle.layout.specs.JournalBytes.{recordCount, recordsIn}
 use Rattle.capi.specs.UnitCalls.{hearCall, pressed, pressCall}
 use Rattle.capi.specs.BoxCalls.{AnswerCall, openCall, answerCallOf, answerCall}
 

@@ -1,23 +1,15 @@
 -- The declared types that the calls speak of, under one module.
-pub use Rattle.unit.specs.declared.state.Phase.{Phase}
-pub use Rattle.unit.specs.declared.state.Phase.the-variants.{Standing, Asked, Declined}
-pub use Rattle.unit.specs.declared.state.Phase.the-variants.{Granted, UnderWay, Arrived}
 pub use Rattle.unit.specs.declared.state.Button.{Button}
 pub use Rattle.unit.specs.declared.state.Button.the-variants.{Ask, Depart, Reached, Report}
 pub use Rattle.unit.specs.declared.state.Unit.{Unit}
 pub use Rattle.unit.specs.declared.making.Made.{Made}
 pub use Rattle.unit.specs.declared.hearing.Heard.{Heard}
 pub use Rattle.unit.specs.declared.pressing.Pressed.{Pressed}
-pub use Rattle.line.specs.declared.route.Route.{Route}
 pub use Rattle.line.specs.declared.book.Line.{Line}
 pub use Rattle.dispatcher.specs.declared.stepping.Outcome.{Outcome}
 pub use Rattle.line.specs.declared.book.Reading.{Reading}
 pub use Rattle.frame.specs.declared.message.Message.{Message}
 pub use Rattle.journal.specs.declared.record.Record.{Record}
-pub use Rattle.journal.specs.declared.batch.Batch.{Batch}
-pub use Rattle.rules.specs.declared.state.Status.{Status}
-pub use Rattle.rules.specs.declared.state.Status.the-variants.{Free, Asked as AskedAs, Running}
-pub use Rattle.rules.specs.declared.state.Train.{Train}
 pub use Rattle.rules.specs.declared.state.State.{State}
 pub use Rattle.rules.specs.declared.result.Verdict.{Verdict}
 pub use Rattle.rules.specs.declared.result.Verdict.the-variants.{Sent, Refused as RefusedBy}

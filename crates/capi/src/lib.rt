@@ -2,13 +2,7 @@
 // quangevit.h has the layouts. Each of them reads its bytes, calls the entry point of the crate
 // below and writes the bytes of what comes back.
 mod cab;
-mod head_bytes;
-mod journal_bytes;
-mod line_bytes;
 mod office;
-mod placing;
-mod state_bytes;
-mod unit_bytes;
 mod word;
 
 pub use cab::quangevit_hear;

@@ -2,15 +2,15 @@
 ghost use mathlib.Core.Path.{_≡_};
 ghost use Rattle.capi.specs.BoxCalls.{bookCall, readBookCall, openCallOf, openCall};
 ghost use Rattle.capi.specs.BoxCalls.{answerCallOf, verdictWord, answerCall};
-use crate::journal_bytes::RECORD_LENGTH;
-use crate::journal_bytes::append;
-use crate::line_bytes::LINE_LENGTH;
-use crate::line_bytes::put_line;
-use crate::state_bytes::STATE_LENGTH;
-use crate::state_bytes::encodes_state;
-use crate::state_bytes::put_state;
-use crate::state_bytes::state_in;
 use crate::word::word_of;
+use layout::LINE_LENGTH;
+use layout::RECORD_LENGTH;
+use layout::STATE_LENGTH;
+use layout::append;
+use layout::encodes_state;
+use layout::put_line;
+use layout::put_state;
+use layout::state_in;
 use line::refusal::STRANGE_STATE;
 use rules::Verdict;
 

@@ -7,8 +7,8 @@ use Prim.Native.Nat.{ℕ}
 use denote.Ref.{now}
 use borrow.Author.Tests.{not-true, not-false}
 use Rattle.unit.specs.State.{validUnit}
-use Rattle.capi.specs.UnitBytes.{encodesUnit, unitIn}
-use Rattle.capi.proofs.Units.{encoded-length}
+use Rattle.layout.specs.UnitBytes.{encodesUnit, unitIn}
+use Rattle.layout.proofs.Units.{encoded-length}
 use Rattle.capi.proofs.UnitSteps.{no-unit, strange, short, no-button, asked}
 use borrow.Author.Needs.{needs}
 use Rattle.capi.proofs.cab.press_refusal.Statement.{statement}

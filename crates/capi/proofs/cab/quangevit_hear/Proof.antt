@@ -6,8 +6,8 @@ use mathlib.Core.List.{List}
 use Prim.Native.Nat.{ℕ}
 use denote.Ref.{now}
 use borrow.Author.Tests.{not-true, not-false}
-use Rattle.capi.specs.UnitBytes.{encodesUnit}
-use Rattle.capi.proofs.Units.{encoded-length}
+use Rattle.layout.specs.UnitBytes.{encodesUnit}
+use Rattle.layout.proofs.Units.{encoded-length}
 use Rattle.capi.proofs.UnitSteps.{not-heard, heard}
 use borrow.Author.Needs.{needs}
 use Rattle.capi.proofs.cab.quangevit_hear.Statement.{statement}

@@ -7,9 +7,9 @@ use Prim.Native.Nat.{ℕ}
 use denote.Ref.{now}
 use lib.ListN.{length}
 use Rattle.common.specs.Check.{refusal}
-use Rattle.capi.specs.UnitBytes.{unitLength}
+use Rattle.layout.specs.UnitBytes.{unitLength}
 use Rattle.capi.specs.UnitCalls.{pressCallChecks}
-use Rattle.capi.proofs.Units.{encoded-length}
+use Rattle.layout.proofs.Units.{encoded-length}
 use Rattle.capi.proofs.UnitSteps.{not-pressed, is-unit, has-room, carried-out}
 use borrow.Author.Needs.{needs}
 use Rattle.capi.proofs.cab.quangevit_press.Statement.{statement}

@@ -5,8 +5,8 @@ use mathlib.Core.Path.{_≡_, sym, _∙_}
 use mathlib.Core.Bool.{true}
 use denote.Ref.{now}
 use borrow.Author.Tests.{not-true, not-false}
-use Rattle.capi.specs.StateBytes.{encodesState}
-use Rattle.capi.proofs.Statuses.{encoded-length}
+use Rattle.layout.specs.StateBytes.{encodesState}
+use Rattle.layout.proofs.Statuses.{encoded-length}
 use Rattle.capi.proofs.BoxSteps.{not-answered, answered}
 use borrow.Author.Needs.{needs}
 use Rattle.capi.proofs.office.quangevit_answer.Statement.{statement}

@@ -1,0 +1,10 @@
+-- Which bytes stand for a unit, a line, a state and a journal. Read in this order; `RoundTrip` has the claims, proved in
+-- the file of `proofs/` of the same name. Letters: b bytes, u a unit, l a line, s a state, x a train, r a record, n a
+-- number.
+pub mod Types
+pub mod UnitBytes
+pub mod Each
+pub mod LineBytes
+pub mod StateBytes
+pub mod JournalBytes
+pub mod RoundTrip

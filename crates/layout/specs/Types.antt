@@ -1,0 +1,15 @@
+-- The declared types that the layouts speak of, under one module.
+pub use Rattle.unit.specs.declared.state.Phase.{Phase}
+pub use Rattle.unit.specs.declared.state.Phase.the-variants.{Standing, Asked, Declined}
+pub use Rattle.unit.specs.declared.state.Phase.the-variants.{Granted, UnderWay, Arrived}
+pub use Rattle.unit.specs.declared.state.Button.{Button}
+pub use Rattle.unit.specs.declared.state.Button.the-variants.{Ask, Depart, Reached, Report}
+pub use Rattle.unit.specs.declared.state.Unit.{Unit}
+pub use Rattle.line.specs.declared.route.Route.{Route}
+pub use Rattle.line.specs.declared.book.Line.{Line}
+pub use Rattle.journal.specs.declared.record.Record.{Record}
+pub use Rattle.journal.specs.declared.batch.Batch.{Batch}
+pub use Rattle.rules.specs.declared.state.Status.{Status}
+pub use Rattle.rules.specs.declared.state.Status.the-variants.{Free, Asked as AskedAs, Running}
+pub use Rattle.rules.specs.declared.state.Train.{Train}
+pub use Rattle.rules.specs.declared.state.State.{State}
