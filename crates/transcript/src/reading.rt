@@ -19,17 +19,13 @@ pub struct Book {
 pub fn read_book(fd: i32) -> Book
     ensures { λ r. ⌜ r .length ≤ 25 ⌝ }
 {
-    let mut head = [0u8; 2];
-    let got = io::read_full(fd, &mut head);
     let mut bytes = [0u8; LONGEST_BOOK];
+    let got = io::read_full(fd, &mut bytes[..2]);
     if got < 2 {
-        bytes[0] = head[0];
         return Book { bytes, length: got };
     }
-    let end = book_end(head[0], head[1]);
+    let end = book_end(bytes[0], bytes[1]);
     let rest = io::read_full(fd, &mut bytes[2..end]);
-    bytes[0] = head[0];
-    bytes[1] = head[1];
     Book {
         bytes,
         length: after_two(rest),
