@@ -1,6 +1,6 @@
--- Which bytes stand for a unit, a line, a state and a journal. Read in this order; `RoundTrip` has the claims, proved in
--- the file of `proofs/` of the same name. Letters: b bytes, u a unit, l a line, s a state, x a train, r a record, n a
--- number.
+-- Which bytes stand for a unit, a line, a state and a journal. Read in this order; `RoundTrip` has the claims, and the
+-- file of `proofs/` of that name their proofs. Letters: b bytes, u a unit, l a line, s a state, x a train, r a record,
+-- n a number.
 pub mod Types
 pub mod UnitBytes
 pub mod Each
