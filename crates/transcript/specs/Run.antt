@@ -5,7 +5,11 @@ use Prim.Native.Nat.{ℕ, _+_}
 use lib.Dec.{ltb}
 use lib.ListN.{replicate, take}
 use Rattle.rules.specs.Answer.{Answer, outLength, answer}
-use Rattle.transcript.specs.Types.{Verdict, Sent, RefusedBy, Frame, Run}
+use Rattle.transcript.specs.Types.{Verdict, Sent, RefusedBy, State, Log, Frame, Run}
+
+-- the run before its first frame
+abbrev pub begun : State → Log → Run
+begun s log = record { state = s; log = log; refused = 0 }
 
 -- the frame that was read
 abbrev pub frameIn : Frame → List ℕ

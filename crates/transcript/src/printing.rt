@@ -1,7 +1,7 @@
 // What a run prints.
 ghost use Prim.Native.Nat.{_≤_};
 ghost use Rattle.printout.specs.Text.{lineLength};
-use journal::Log;
+use crate::run::Run;
 use libc::STDOUT_FILENO;
 use printout::LINE_LENGTH;
 use printout::Text;
@@ -11,13 +11,15 @@ pub fn print_refused(refusal: u8) {
 }
 
 // The records below the count, then the counts.
-pub fn print_run(log: Log, logged: u8, refused: u64) {
+pub fn print_run(run: Run) {
+    let log = run.log;
+    let end = run.state;
     let mut i: u8 = 0;
-    while i < logged {
+    while i < end.logged {
         print(printout::record_line(i, journal::log_at(log, i as usize)));
         i += 1;
     }
-    print(printout::end_line(logged, refused));
+    print(printout::end_line(end.logged, run.refused));
 }
 
 fn print(text: Text)

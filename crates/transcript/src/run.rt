@@ -3,7 +3,7 @@ ghost use mathlib.Core.Path.{_≡_};
 ghost use Prim.Native.Nat.{_≤_};
 ghost use lib.ListN.{take};
 ghost use Rattle.rules.specs.Opening.{openingOf, opening};
-ghost use Rattle.transcript.specs.Run.{frameIn, countAfter, afterFrame};
+ghost use Rattle.transcript.specs.Run.{begun, frameIn, countAfter, afterFrame};
 use crate::reading::Frame;
 use crate::reading::LONGEST_BOOK;
 use journal::Log;
@@ -27,6 +27,17 @@ pub fn open(bytes: [u8; LONGEST_BOOK], length: usize, table: &mut [u8], log: Log
         ≡ opening (take length bytes) (now (table .entry)) (log .records) ⌝ }
 {
     opening::open_log(&bytes[..length], table, log)
+}
+
+// The run before its first frame.
+pub fn begun(state: State, log: Log) -> Run
+    ensures { λ r. ⌜ r ≡ begun state log ⌝ }
+{
+    Run {
+        state,
+        log,
+        refused: 0,
+    }
 }
 
 // The run after one more frame.

@@ -5,6 +5,7 @@ use crate::reading::read_book;
 use crate::reading::read_frame;
 use crate::run::Run;
 use crate::run::after_frame;
+use crate::run::begun;
 use crate::run::open;
 use completion::TABLE_LENGTH;
 
@@ -20,15 +21,7 @@ pub fn serve(fd: i32) {
         return;
     }
     let state = opened.state;
-    let start = Run {
-        state,
-        log,
-        refused: 0,
-    };
-    let run = serve_frames(fd, &table, start);
-    let end = run.state;
-    let records = run.log;
-    print_run(records, end.logged, run.refused);
+    print_run(serve_frames(fd, &table, begun(state, log)));
 }
 
 // A proved loop has to end, and nothing says that the input does: the turns are counted down from a

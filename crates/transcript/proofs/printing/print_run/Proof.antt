@@ -7,10 +7,10 @@ use Rattle.transcript.proofs.printing.print_run.Statement.{statement}
 use Rattle.transcript.proofs.printing.print_run.Tie as tie
 
 abbrev Inv-loop : tie.InvT-loop
-Inv-loop log logged refused i₀ i = i ≤ logged
+Inv-loop run log end i₀ i = i ≤ end .logged
 
 abbrev μ-loop : tie.MeasureT-loop
-μ-loop log logged refused i₀ i = logged - i
+μ-loop run log end i₀ i = end .logged - i
 
 loop-holds : tie.Need-loop-holds Inv-loop μ-loop
 loop-holds c = omega arith
