@@ -22,6 +22,7 @@ pub fn print_run(run: Run) {
     print(printout::end_line(end.logged, run.refused));
 }
 
+// Whether all of it was written is not asked.
 fn print(text: Text)
     requires { ⌜ text .length ≤ lineLength ⌝ }
 {
@@ -29,6 +30,7 @@ fn print(text: Text)
     print_first(bytes, text.length);
 }
 
+// Prints the first `length` bytes.
 fn print_first(bytes: [u8; LINE_LENGTH], length: usize)
     requires { ⌜ length ≤ lineLength ⌝ }
 {
