@@ -175,7 +175,7 @@ home-after table long s j o k c inputs = (h .inputs, told)
     told : (t : ℕ) → t < s .trains
         → observe o (run table s j (inputs ++ h .inputs) .exchanges) t .post ≡ routeOf (lineOf s) t .end .0
     told t l =
-        at-post table (run table s j (inputs ++ h .inputs)) _ (run-kept table (inputs ++ h .inputs) s j o k .after) t
+        at-post table _ _ _ (run-kept table (inputs ++ h .inputs) s j o k .after .kept) t
         (rw (ap (λ (v : Line). v .trains) line) l)
         ∙ there _ (run-append table inputs (h .inputs) s j) line t l
 

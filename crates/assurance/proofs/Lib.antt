@@ -16,3 +16,5 @@ pub mod Unread
 pub mod Records
 pub mod NeverRefused
 pub mod Homecoming
+pub mod InVain
+pub mod Recorded
