@@ -40,21 +40,21 @@ use Rattle.assurance.proofs.Ran.{RunKept, run-kept}
 
 -- ---- one frame that is accepted
 
+pub next-move : (s : State) → Counted s → (u : ℕ) → u < s .trains → Short s u → NextMove s (nextMove s u)
+next-move s k u known short = record {
+  known = known;
+  short = short;
+  from = refl;
+  to = refl;
+  space = omega (arith, k .bounded, few-records s (k .valid-state));
+}
+
 -- a train that is short of its end and has not asked sends its next move's AM or FA
 next-frame : (s : State) → Counted s → (u : ℕ) → u < s .trains → Short s u → isAsked (trainOf s u .status) ≡ false
     → (a : Message) × Taken s a
 next-frame s k u known short free = by-cases (isRunning (trainOf s u .status))
-    (λ e. (Am (nextMove s u), arrival (nextMove s u) move e))
-    (λ e. (Fa (nextMove s u), request (nextMove s u) move free e))
-  where
-    move : NextMove s (nextMove s u)
-    move = record {
-      known = known;
-      short = short;
-      from = refl;
-      to = refl;
-      space = omega (arith, k .bounded, few-records s (k .valid-state));
-    }
+    (λ e. (Am (nextMove s u), arrival (nextMove s u) (next-move s k u known short) e))
+    (λ e. (Fa (nextMove s u), request (nextMove s u) (next-move s k u known short) free e))
 
 -- what is taken is a message
 taken-message : (s : State) (a : Message) → Taken s a → IsMessage a
@@ -141,7 +141,7 @@ run-append table (i ∷ is) more s j =
     let a = answer s table j (i .frame) (i .out) in
     run-append table is more (a .state) (a .journal)
 
-run-counted : (table : List ℕ) (is : List Input) (s : State) (j : List Record) → Counted s
+pub run-counted : (table : List ℕ) (is : List Input) (s : State) (j : List Record) → Counted s
     → Counted (run table s j is .state)
 unfolding run
 run-counted table [] s j k = k
@@ -179,7 +179,7 @@ home-after table long s j o k c inputs = (h .inputs, told)
         (rw (ap (λ (v : Line). v .trains) line) l)
         ∙ there _ (run-append table inputs (h .inputs) s j) line t l
 
-long-table : (l : Line) (table : List ℕ) → tableLength ≤ length (filled l table)
+pub long-table : (l : Line) (table : List ℕ) → tableLength ≤ length (filled l table)
 long-table l table = rw (length-append, length-table) (omega arith)
 
 pub homecoming : Homecoming

@@ -18,3 +18,5 @@ pub mod NeverRefused
 pub mod Homecoming
 pub mod InVain
 pub mod Recorded
+pub mod Accepted
+pub mod Arrival

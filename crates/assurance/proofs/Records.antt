@@ -9,8 +9,9 @@ use Prim.Native.Nat.{ℕ, _+_, _*_, _≤_, _<_}
 use native.Mathlib.Nat.{mul-le-mul-right}
 use native.Mathlib.Omega.{arith}
 use lib.ListN.{length}
+use Rattle.common.specs.Below.{sumBelow}
 use Rattle.common.proofs.Tests.{by-cases}
-use Rattle.common.proofs.Sums.{sumBelow, sum-change, sum-le}
+use Rattle.common.proofs.Sums.{sum-change, sum-le}
 use Rattle.line.specs.Route.{distance}
 use Rattle.line.proofs.Travel.{travelled-within, next-within, next-travelled}
 use Rattle.line.proofs.WellFormed.{short-route}
@@ -68,12 +69,14 @@ pub record Bounded (e n : ℕ) (s : State) : Type 0 where
   pub spare : s .logged + e ≤ recordsIn s
   pub raised : n ≤ recordsIn s
 
-changed-records : (s : State) (t : ℕ) (x : Train) (n : ℕ) → t < s .trains → t < length (s .fleet)
-    → recordsIn (changed s t x n) + recordsOf (trainOf s t) ≡ recordsIn s + recordsOf x
-changed-records s t x n k l =
-    let c = sum-change (s .trains) (λ u. recordsOf (trainOf s u)) (λ u. recordsOf (trainOf (changed s t x n) u)) t k
-    (λ u ku h. ap recordsOf (changed-other s t x n u h)) in
-    let e : recordsOf (trainOf (changed s t x n) t) ≡ recordsOf x = ap recordsOf (changed-own s t x n l) in
+-- a sum over the trains, where one train's record changes
+pub changed-sum : (f : Train → ℕ) (s : State) (t : ℕ) (x : Train) (n : ℕ) → t < s .trains → t < length (s .fleet)
+    → sumBelow (s .trains) (λ u. f (trainOf (changed s t x n) u)) + f (trainOf s t)
+    ≡ sumBelow (s .trains) (λ u. f (trainOf s u)) + f x
+changed-sum f s t x n k l =
+    let c = sum-change (s .trains) (λ u. f (trainOf s u)) (λ u. f (trainOf (changed s t x n) u)) t k
+    (λ u ku h. ap f (changed-other s t x n u h)) in
+    let e : f (trainOf (changed s t x n) t) ≡ f x = ap f (changed-own s t x n l) in
     omega arith
 
 pub few-records : (s : State) → Valid s → recordsIn s ≤ 168
@@ -97,7 +100,7 @@ module _ (table : List ℕ) (e n : ℕ) where
   granted-bounded w t b f =
       let two = asked-two (trainOf (w .state) t .status) (grantable-facts table (w .state) t (f .can) .asks) in
       let c =
-      changed-records (w .state) t (withStatus (trainOf (w .state) t) Running) (w .state .logged + 1) (f .known)
+      changed-sum recordsOf (w .state) t (withStatus (trainOf (w .state) t) Running) (w .state .logged + 1) (f .known)
       (granted-place table w t f) in
       record { spare = omega (arith, b .spare); raised = omega (arith, b .raised) }
 
@@ -118,7 +121,7 @@ accepted-bounded table s d a (request m q free idle) b =
     let t = m .train .0 in
     let none = free-none (trainOf s t .status) (neither (trainOf s t .status) free idle) in
     let c =
-    changed-records s t (withStatus (trainOf s t) (Asked (s .logged))) (s .logged + 1) (q .known)
+    changed-sum recordsOf s t (withStatus (trainOf s t) (Asked (s .logged))) (s .logged + 1) (q .known)
     (short-place s t (q .short)) in
     let w = taken s (Fa m) (withStatus (trainOf s t) (Asked (s .logged))) in
     declined-bounded (recordsIn s + 1) m (settled table w)
@@ -126,7 +129,8 @@ accepted-bounded table s d a (request m q free idle) b =
 accepted-bounded table s d a (arrival m q runs) b =
     let t = m .train .0 in
     let three : askedFor (trainOf s t .status) ≡ 3 = rw (running-is (trainOf s t .status) runs) in
-    let c = changed-records s t (arrivedNext (trainOf s t)) (s .logged + 1) (q .known) (short-place s t (q .short)) in
+    let c =
+    changed-sum recordsOf s t (arrivedNext (trainOf s t)) (s .logged + 1) (q .known) (short-place s t (q .short)) in
     let far = next-travelled _ _ _ (d .each t (q .known) .inside) (q .short) in
     settled-bounded table 0 (recordsIn s + 1) (taken s (Am m) (arrivedNext (trainOf s t)))
     (record { spare = omega arith; raised = omega arith })
