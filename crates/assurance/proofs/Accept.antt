@@ -28,7 +28,7 @@ use Rattle.assurance.proofs.Logging.{journalOf, journal-first, journal-
 use Rattle.assurance.proofs.Steps.{request-kept, arrival-kept, grant-kept, decline-kept}
 
 -- room in the journal for a record of each Asked train
-abbrev Room : Work → Type 0
+abbrev pub Room : Work → Type 0
 Room w = w .state .logged + askedCount (w .state) ≤ journalLength
 
 -- the work so far on a frame that found n records in the journal j; o is the observer once it has heard the frame
@@ -69,7 +69,7 @@ module _ (table : List ℕ) (n : ℕ) (j : List Record) (o : Observer) (long : j
 
   -- ---- grants
 
-  granted-worked : (w : Work) (t : ℕ) → Worked table n j o w × Room w → Turn table w t
+  pub granted-worked : (w : Work) (t : ℕ) → Worked table n j o w × Room w → Turn table w t
       → Worked table n j o (granted w t) × Room (granted w t)
   granted-worked w t (k, room) f =
       let s = w .state in
@@ -102,7 +102,7 @@ module _ (table : List ℕ) (n : ℕ) (j : List Record) (o : Observer) (long : j
 
   -- ---- the frame, and the AFE
 
-  taken-worked : (s : State) (a : Message) → s .logged ≡ n + 1 → n + mostLogged ≤ journalLength
+  pub taken-worked : (s : State) (a : Message) → s .logged ≡ n + 1 → n + mostLogged ≤ journalLength
       → Invariant table s (set j n (recordOf a)) o
       → let w : Work = record { state = s; logged = a ∷ [] } in Worked table n j o w × Room w
   unfolding hearAnswers

@@ -20,3 +20,5 @@ pub mod InVain
 pub mod Recorded
 pub mod Accepted
 pub mod Arrival
+pub mod Order
+pub mod Turns

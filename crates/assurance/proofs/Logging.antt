@@ -1,12 +1,13 @@
 -- What is logged and heard, message by message. The journal is written once, at the end of a frame: `journalOf` is what
 -- it would be so far.
 -- Assumes nothing.
-use mathlib.Core.Path.{_≡_, refl, _∙_}
+use mathlib.Core.Path.{_≡_, refl, ap, _∙_}
+use mathlib.Core.Logic.{_⊎_, inl, inr, ⊎-elim}
 use mathlib.Core.List.{List, [], _∷_, _++_, map, map-append}
 use Prim.Native.Nat.{ℕ, _+_, _≤_, _<_}
 use native.Mathlib.Nat.{add-zero}
 use native.Mathlib.Omega.{arith}
-use lib.ListN.{length, set, length-map}
+use lib.ListN.{length, set, length-append, length-map}
 use Rattle.common.specs.Part.{replaced}
 use Rattle.common.proofs.Part.{replaced-none, replaced-more}
 use Rattle.journal.specs.Journal.{recordOf, recordAt}
@@ -14,6 +15,20 @@ use Rattle.assurance.specs.Types.{Move, Message, Record, State}
 use Rattle.assurance.specs.Run.{Ran}
 use Rattle.assurance.specs.Observer.{Observer, hearAnswer, hearAnswers}
 use Rattle.assurance.specs.WholeList.{Requested}
+
+-- ---- a list with one element more
+
+pub split-last : {A : Type 0} (xs : List A) (a : A) (ys : List A) (b : A) (zs : List A) → xs ++ a ∷ [] ≡ ys ++ b ∷ zs
+    → ((ys ≡ xs) × (b ≡ a)) ⊎ ((ws : List A) × (xs ≡ ys ++ b ∷ ws))
+split-last [] a [] b zs e = inl (refl, cc)
+split-last [] a (y ∷ ys) b zs e =
+    let z : [] ≡ ys ++ b ∷ zs = cc in
+    absurd (let n = ap length z in omega (arith, length-append ys (b ∷ zs)))
+split-last (x ∷ xs) a [] b zs e = let z : x ≡ b = cc in inr (xs, rw z)
+split-last (x ∷ xs) a (y ∷ ys) b zs e =
+    let z : x ≡ y = cc in
+    let w : xs ++ a ∷ [] ≡ ys ++ b ∷ zs = cc in
+    ⊎-elim (λ h. inl (rw (z, h .0), h .1)) (λ h. inr (h .0, rw (z, h .1))) (split-last xs a ys b zs w)
 
 -- ---- the journal
 

@@ -1,0 +1,217 @@
+-- Turns by order of asking. The numbers of the Asked trains stand in the order in which the frames came (`Order`), so
+-- that the oldest that can be granted is the one that asked first of those that could go.
+-- Assumes nothing.
+use mathlib.Core.Path.{_≡_, refl, sym, ap, subst, _∙_}
+use mathlib.Core.Logic.{⊎-elim}
+use mathlib.Core.Bool.{false}
+use mathlib.Core.List.{List, [], _∷_, _++_}
+use Prim.Native.Nat.{ℕ, _+_, _≤_, _<_}
+use native.Mathlib.Nat.{zero-add}
+use native.Mathlib.Omega.{arith}
+use lib.ListN.{length, length-append}
+use lib.Seq.{drop-append-le}
+use Rattle.common.specs.Update.{update}
+use Rattle.common.proofs.Tests.{clash, by-cases}
+use Rattle.line.specs.Book.{lineOf as lineIn}
+use Rattle.frame.specs.Frame.{readFrame}
+use Rattle.journal.specs.Journal.{journalLength}
+use Rattle.completion.specs.Table.{filled}
+use Rattle.rules.specs.declared.state.Status.the-variants.{Asked, Running}
+use Rattle.rules.specs.State.{isAsked, trainOf, lineOf, nextMove, withStatus, arrivedNext}
+use Rattle.rules.specs.Granting.{Work, granted, settled}
+use Rattle.rules.specs.Answer.{taken, declined, accepted, sent, Answer, answer}
+use Rattle.rules.specs.Opening.{openedState}
+use Rattle.rules.proofs.Trains.{changed-line}
+use Rattle.rules.proofs.Changes.{grantable-facts, short-place}
+use Rattle.rules.proofs.Oldest.{earlier}
+use Rattle.rules.proofs.Grants.{Turn, grants-keep, granted-place, granted-line}
+use Rattle.rules.proofs.Acceptance.{Taken, request, arrival, by-verdict, accepted-facts}
+use Rattle.assurance.specs.Types.{Line, Move, Message, Fa, Fe, Afe, Am, Record, State}
+use Rattle.assurance.specs.Run.{Input, run}
+use Rattle.assurance.specs.Observer.{Observer, atOpening, hearFrame, hearAnswers, answersOf, observe}
+use Rattle.assurance.specs.Turns.{Turns, turnBy, turnIn, turnsFrom, turns, InTurn, TurnByTurn}
+use Rattle.assurance.proofs.Invariant.{Invariant}
+use Rattle.assurance.proofs.Order.{InOrder, no-more-asked, asks-last}
+use Rattle.assurance.proofs.Logging.{split-last, journalOf}
+use Rattle.assurance.proofs.Steps.{request-kept, arrival-kept}
+use Rattle.assurance.proofs.Accept.{Room, Worked, granted-worked, taken-worked}
+use Rattle.assurance.proofs.Exchanged.{Settled, answers-back, answer-kept}
+use Rattle.assurance.proofs.Opened.{opening-accepted, opened-line, opened-settled}
+use Rattle.assurance.proofs.Told.{at-post, asked-told}
+use Rattle.assurance.proofs.InVain.{same-next, could-granted, granted-could}
+use Rattle.assurance.proofs.WholeList.{opened-run}
+
+-- ---- the answers to one frame
+
+-- each FE among the answers goes to the train whose turn it is; o is the observer once it has heard the frame
+abbrev GivenInTurn : Line → Turns → Observer → List Message → Type 0
+GivenInTurn l k o answers = (said : List Message) (m : Move) (rest : List Message) → answers ≡ said ++ Fe m ∷ rest
+    → InTurn l k (hearAnswers o said) m
+
+-- one answer more
+given-more : (l : Line) (k : Turns) (o : Observer) (answers : List Message) (a : Message) → GivenInTurn l k o answers
+    → ((m : Move) → Fe m ≡ a → InTurn l k (hearAnswers o answers) m) → GivenInTurn l k o (answers ++ a ∷ [])
+given-more l k o answers a given own said m rest e = ⊎-elim
+    (λ h. rw (h .0) (own m (h .1)))
+    (λ h. given said m (h .0) (h .1))
+    (split-last answers a said (Fe m) rest e)
+
+given-none : (l : Line) (k : Turns) (o : Observer) → GivenInTurn l k o []
+given-none l k o said m rest e = absurd (let n = ap length e in omega (arith, length-append said (Fe m ∷ rest)))
+
+module _ (table : List ℕ) (c : ℕ) (j : List Record) (o : Observer) (long : journalLength ≤ length j) (l : Line) (n : ℕ)
+    (k : Turns) where
+  record Turned (w : Work) : Type 0 where
+    worked : Worked table c j o w × Room w
+    line : lineOf (w .state) ≡ l
+    ordered : InOrder (w .state) n k
+    given : GivenInTurn l k o (sent w)
+
+  -- a grant to the oldest, as the observer tells it
+  module _ (w : Work) (t : ℕ) (h : Turned w) (f : Turn table w t) where
+    abbrev s : State
+    s = w .state
+
+    inv : Invariant table s (journalOf j c (w .logged)) (hearAnswers o (sent w))
+    inv = h .worked .0 .kept
+
+    turn : InTurn (lineOf s) k (hearAnswers o (sent w)) (nextMove s t)
+    turn = record {
+      known = f .known;
+      next = rw (same-next table s _ _ inv t (f .known), at-post table s _ _ inv t (f .known));
+      could = granted-could table s _ _ inv t (f .known) (f .can);
+      first = λ u ku other could.
+          let g = could-granted table s _ _ inv u ku could in
+          h .ordered .order t u (f .known) ku (grantable-facts table s t (f .can) .asks)
+          (grantable-facts table s u g .asks)
+          (earlier table s (inv .valid-state .distinct) t f u ku other g);
+    }
+
+    granted-turned : Turned (granted w t)
+    granted-turned = record {
+      worked = granted-worked table c j o long w t (h .worked) f;
+      line = granted-line table w t f ∙ h .line;
+      ordered = no-more-asked s t (withStatus (trainOf s t) Running) (s .logged + 1) n k (granted-place table w t f)
+          refl (h .ordered);
+      given = rw (drop-append-le 1 (w .logged) (Fe (nextMove s t) ∷ []) (h .worked .0 .begun))
+          (given-more l k o (sent w) (Fe (nextMove s t)) (h .given) (λ m e.
+          let same : m ≡ nextMove s t = cc in
+          rw same (subst (λ (z : Line). InTurn z k (hearAnswers o (sent w)) (nextMove s t)) (h .line) turn)));
+    }
+
+  settled-turned : (w : Work) → Turned w → Turned (settled table w)
+  settled-turned w = grants-keep table Turned granted-turned (w .state .trains) w
+
+-- what an accepted frame leaves
+record Kept (l : Line) (n : ℕ) (k : Turns) (o : Observer) (w : Work) : Type 0 where
+  ordered : InOrder (w .state) n k
+  given : GivenInTurn l k o (sent w)
+
+declined-kept : (table : List ℕ) (c : ℕ) (j : List Record) (o : Observer) (long : journalLength ≤ length j) (l : Line)
+    (n : ℕ) (k : Turns) (m : Move) (w : Work) → Turned table c j o long l n k w → Kept l n k o (declined m w)
+declined-kept table c j o long l n k m w h = by-cases (isAsked (trainOf (w .state) (m .train .0) .status))
+    (λ e. rw e (record {
+      ordered = record { before = h .ordered .before; order = h .ordered .order };
+      given = rw (drop-append-le 1 (w .logged) (Afe m ∷ []) (h .worked .0 .begun))
+          (given-more l k o (sent w) (Afe m) (h .given) (λ q z. absurd (other q z)));
+    }))
+    (λ e. rw e (record { ordered = h .ordered; given = h .given }))
+  where
+    other : (q : Move) → Fe q ≡ Afe m → ⊥
+    other q z = let y : _≡_ {A = ℕ} 0 1 = cc in omega arith
+
+module _ (table : List ℕ) (s : State) (j : List Record) (o : Observer) (inv : Invariant table s j o) (n : ℕ) (k : Turns)
+    (h : InOrder s n k) where
+  accepted-turned : (a : Message) → Taken s a
+      → Kept (lineOf s) (n + 1) (turnBy n k a) (hearFrame o a) (accepted table s a)
+  unfolding accepted hearAnswers
+  accepted-turned a (request m q free idle) =
+      let t = m .train .0 in
+      let x = withStatus (trainOf s t) (Asked (s .logged)) in
+      let w = taken s (Fa m) x in
+      declined-kept table (s .logged) j (hearFrame o (Fa m)) (inv .room) (lineOf s) (n + 1) (update k t n) m
+      (settled table w)
+      (settled-turned table (s .logged) j (hearFrame o (Fa m)) (inv .room) (lineOf s) (n + 1) (update k t n) w (record {
+        worked = taken-worked table (s .logged) j (hearFrame o (Fa m)) (inv .room) (w .state) (Fa m) refl (q .space)
+            (request-kept table s j o inv m q idle);
+        line = changed-line s t x (s .logged + 1) refl;
+        ordered = asks-last s (inv .valid-state) t (s .logged + 1) n k (short-place s t (q .short)) h;
+        given = given-none (lineOf s) (update k t n) (hearFrame o (Fa m));
+      }))
+  accepted-turned a (arrival m q runs) =
+      let t = m .train .0 in
+      let x = arrivedNext (trainOf s t) in
+      let w = taken s (Am m) x in
+      let later : InOrder s (n + 1) k =
+      record { before = λ u ku e. omega (arith, h .before u ku e); order = h .order } in
+      let v =
+      settled-turned table (s .logged) j (hearFrame o (Am m)) (inv .room) (lineOf s) (n + 1) k w (record {
+        worked = taken-worked table (s .logged) j (hearFrame o (Am m)) (inv .room) (w .state) (Am m) refl (q .space)
+            (arrival-kept table s j o inv m q runs);
+        line = changed-line s t x (s .logged + 1) refl;
+        ordered = no-more-asked s t x (s .logged + 1) (n + 1) k (short-place s t (q .short)) refl later;
+        given = given-none (lineOf s) k (hearFrame o (Am m));
+      }) in
+      record { ordered = v .ordered; given = v .given }
+
+-- ---- one frame of a list
+
+record Exchanges (s : State) (o : Observer) (n : ℕ) (k : Turns) (frame : List ℕ) (a : Answer) : Type 0 where
+  ordered : InOrder (a .state) (n + 1) (turnIn n k frame (a .verdict))
+  given : GivenInTurn (lineOf s) (turnIn n k frame (a .verdict)) (hearFrame o (readFrame frame))
+      (answersOf (a .verdict) (a .out))
+
+answer-turned : (table : List ℕ) (s : State) (j : List Record) (o : Observer) → Invariant table s j o → (n : ℕ)
+    (k : Turns) → InOrder s n k → (frame out : List ℕ) → Exchanges s o n k frame (answer s table j frame out)
+answer-turned table s j o inv n k h frame out = by-verdict s table j frame out (Exchanges s o n k frame)
+    (λ c e. record {
+      ordered = record { before = λ u ku e. omega (arith, h .before u ku e); order = h .order };
+      given = given-none (lineOf s) k (hearFrame o (readFrame frame));
+    })
+    (λ p.
+    let v = accepted-turned table s j o inv n k h (readFrame frame) (p .message) in
+    let facts = accepted-facts table s (inv .valid-state) (readFrame frame) (p .message) in
+    record {
+      ordered = v .ordered;
+      given = rw (answers-back (sent (accepted table s (readFrame frame))) out (facts .messages)) (v .given);
+    })
+
+run-ordered : (table : List ℕ) (is : List Input) (s : State) (j : List Record) (o : Observer) → Settled table s j o
+    → (n : ℕ) (k : Turns) → InOrder s n k
+    → let r = run table s j is in InOrder (r .state) (n + length is) (turnsFrom n k (r .exchanges))
+unfolding run turnsFrom
+run-ordered table [] s j o e n k h = record { before = λ u ku a. omega (arith, h .before u ku a); order = h .order }
+run-ordered table (i ∷ is) s j o e n k h =
+    let a = answer s table j (i .frame) (i .out) in
+    let f = answer-turned table s j o (e .kept) n k h (i .frame) (i .out) in
+    let r =
+    run-ordered table is (a .state) (a .journal) _ (answer-kept table s j o e (i .frame) (i .out) .after) (n + 1) _
+    (f .ordered) in
+    record { before = λ u ku b. omega (arith, r .before u ku b); order = r .order }
+
+pub turn-by-turn : TurnByTurn
+turn-by-turn book table journal inputs e =
+    let l = lineIn book in
+    let b = opening-accepted book table journal e in
+    let s = openedState l in
+    let k = opened-settled l table journal (b .1) (opened-line book) in
+    let after = opened-run book table journal inputs e in
+    let r = run (filled l table) s journal inputs in
+    let o = observe (atOpening l) (r .exchanges) in
+    let none : (t : ℕ) → t < s .trains → isAsked (trainOf s t .status) ≡ false =
+    λ t kt. sym (asked-told (filled l table) s journal (atOpening l) (k .kept) t kt) in
+    let first : InOrder s 0 (λ t. 0) =
+    record {
+      before = λ t kt a. clash (isAsked (trainOf s t .status)) a (none t kt);
+      order = λ t u kt ku a. clash (isAsked (trainOf s t .status)) a (none t kt);
+    } in
+    let now = rw zero-add at (run-ordered (filled l table) inputs s journal (atOpening l) k 0 (λ t. 0) first) in
+    rw (b .0) (λ i.
+    let a = answer (r .state) (filled l table) (r .journal) (i .frame) (i .out) in
+    subst
+    (λ (z : Line).
+    GivenInTurn z (turnIn (length inputs) (turns (r .exchanges)) (i .frame) (a .verdict))
+    (hearFrame o (readFrame (i .frame))) (answersOf (a .verdict) (a .out)))
+    (after .line ∙ opened-line book)
+    (answer-turned (filled l table) (r .state) (r .journal) o (after .after .kept) (length inputs)
+    (turns (r .exchanges)) now (i .frame) (i .out) .given))
