@@ -2,3 +2,4 @@
 pub mod UnitSteps
 pub mod BoxSteps
 pub mod HandedOn
+pub mod CallRuns
