@@ -22,3 +22,5 @@ pub mod Accepted
 pub mod Arrival
 pub mod Order
 pub mod Turns
+pub mod Serving
+pub mod Replies

@@ -1,0 +1,152 @@
+-- What an accepted frame is answered by: what `Serving` says of the granting, told of the state before the frame.
+-- Assumes nothing.
+use mathlib.Core.Path.{_≡_, refl, sym, ap, _∙_}
+use mathlib.Core.Logic.{_≢_, inl, inr}
+use mathlib.Core.Bool.{true, false, false≢true}
+use mathlib.Core.List.{List, [], _∷_}
+use Prim.Native.Nat.{ℕ, zero, suc, _+_, _*_, _<_}
+use native.Mathlib.Omega.{arith}
+use lib.ListN.{length, drop, length-map}
+use lib.Seq.{drop-at, drop-append-le}
+use Rattle.common.specs.Part.{replaced}
+use Rattle.common.proofs.Tests.{clash, by-cases, by-equality}
+use Rattle.frame.specs.Frame.{readFrame}
+use Rattle.journal.specs.Journal.{recordOf}
+use Rattle.rules.specs.declared.state.Status.the-variants.{Asked}
+use Rattle.rules.specs.declared.state.Train.{Train}
+use Rattle.rules.specs.State.{isAsked, trainOf, nextMove, withStatus, arrivedNext}
+use Rattle.rules.specs.Granting.{Work, granted, settled}
+use Rattle.rules.specs.Answer.{taken, declined, accepted, framesOf, sent, Answer, answer}
+use Rattle.rules.proofs.Trains.{changed-own, changed-other}
+use Rattle.rules.proofs.Changes.{short-place}
+use Rattle.rules.proofs.Frames.{frames-length}
+use Rattle.rules.proofs.Acceptance.{NextMove, Taken, request, arrival, by-verdict, accepted-facts}
+use Rattle.assurance.specs.Types.{Move, Message, Fa, Fe, Afe, Am, Record, State, Sent}
+use Rattle.assurance.specs.Observer.{readFrames}
+use Rattle.assurance.specs.Replies.{Awaited, Authorities, Reply, OnlyAdded, Replies}
+use Rattle.assurance.specs.Replies as replies
+use Rattle.assurance.proofs.Serving.{Serves, begins, settled-serves}
+use Rattle.assurance.proofs.Exchanged.{answers-back}
+use Rattle.assurance.proofs.Recorded.{answer-adds}
+
+-- ---- from the state before the frame on
+
+authorities : (s b : State) (a : Message) (w : Work) → Serves b w
+    → ((m : Move) → m .train .0 < b .trains → m ≡ nextMove b (m .train .0)
+    → isAsked (trainOf b (m .train .0) .status) ≡ true → Awaited s a m)
+    → Authorities s a (sent w)
+authorities s b a w k awaited = record {
+  each = λ c h. let g = k .each c h in (g .0, g .1, awaited (g .0) (g .2 .known) (g .2 .next) (g .2 .waited));
+  once = k .once;
+}
+
+module _ (s : State) (m : Move) (n : NextMove s m) where
+  abbrev t : ℕ
+  t = m .train .0
+
+  place : t < length (s .fleet)
+  place = short-place s t (n .short)
+
+  own-move : nextMove s t ≡ m
+  own-move = rw (← n .to, ← n .from)
+
+  -- a train that asks
+  abbrev asking : Train
+  asking = withStatus (trainOf s t) (Asked (s .logged))
+
+  asking-awaited : (q : Move) → q .train .0 < s .trains → q ≡ nextMove (taken s (Fa m) asking .state) (q .train .0)
+      → isAsked (trainOf (taken s (Fa m) asking .state) (q .train .0) .status) ≡ true → Awaited s (Fa m) q
+  asking-awaited q known = by-equality (q .train .0) t
+      (λ e. rw (e, changed-own s t asking (s .logged + 1) place) (λ next waits. record {
+        known = n .known;
+        next = next;
+        waits = inr (ap Fa (sym (next ∙ own-move)));
+      }))
+      (λ h. rw (changed-other s t asking (s .logged + 1) (q .train .0) h) (λ next waits.
+      record { known = known; next = next; waits = inl waits }))
+
+  asking-reply : (table : List ℕ) → Reply s (Fa m) (sent (declined m (settled table (taken s (Fa m) asking))))
+  asking-reply table = by-cases (isAsked (trainOf (w .state) t .status))
+      (λ e. rw (e, drop-append-le 1 (w .logged) (Afe m ∷ []) (k .begun)) (replies.declined m (sent w) all (λ q h same.
+      let g = k .each (Fe q) h in
+      let is : q ≡ g .0 = let y = g .1 in cc in
+      clash (isAsked (trainOf (w .state) t .status)) e (rw (← is, same) at (g .2 .runs)))))
+      (λ e. rw e (replies.granted m (sent w) all
+      (rw mine at (k .served t (rw (changed-own s t asking (s .logged + 1) place)) e))))
+    where
+      w : Work
+      w = settled table (taken s (Fa m) asking)
+
+      k : Serves (taken s (Fa m) asking .state) w
+      k = settled-serves table (taken s (Fa m) asking) (begins _ (Fa m))
+
+      all : Authorities s (Fa m) (sent w)
+      all = authorities s _ (Fa m) w k asking-awaited
+
+      mine : nextMove (taken s (Fa m) asking .state) t ≡ m
+      mine = rw (changed-own s t asking (s .logged + 1) place) own-move
+
+  -- a train that arrives
+  abbrev arriving : Train
+  arriving = arrivedNext (trainOf s t)
+
+  arriving-awaited : (q : Move) → q .train .0 < s .trains → q ≡ nextMove (taken s (Am m) arriving .state) (q .train .0)
+      → isAsked (trainOf (taken s (Am m) arriving .state) (q .train .0) .status) ≡ true → Awaited s (Am m) q
+  arriving-awaited q known = by-equality (q .train .0) t
+      (λ e. rw (e, changed-own s t arriving (s .logged + 1) place) (λ next waits. absurd (false≢true waits)))
+      (λ h. rw (changed-other s t arriving (s .logged + 1) (q .train .0) h) (λ next waits.
+      record { known = known; next = next; waits = inl waits }))
+
+  arriving-reply : (table : List ℕ) → Reply s (Am m) (sent (settled table (taken s (Am m) arriving)))
+  arriving-reply table = replies.arrived m _ (authorities s _ (Am m) _
+      (settled-serves table (taken s (Am m) arriving) (begins _ (Am m))) arriving-awaited)
+
+accepted-reply : (table : List ℕ) (s : State) (a : Message) → Taken s a → Reply s a (sent (accepted table s a))
+unfolding accepted
+accepted-reply table s a (request m n free idle) = asking-reply s m n table
+accepted-reply table s a (arrival m n runs) = arriving-reply s m n table
+
+-- ---- the claims
+
+module _ (s : State) (table : List ℕ) (journal : List Record) (frame out : List ℕ) (n : ℕ) where
+  reply : let a = answer s table journal frame out in
+      a .verdict ≡ Sent n → Reply s (readFrame frame) (readFrames n (a .out))
+  reply = by-verdict s table journal frame out
+      (λ (a : Answer). a .verdict ≡ Sent n → Reply s (readFrame frame) (readFrames n (a .out)))
+      (λ k q e. absurd (let z : _≡_ {A = ℕ} 0 1 = cc in omega arith))
+      (λ p e.
+      let w = accepted table s (readFrame frame) in
+      let facts = accepted-facts table s (p .valid-state) (readFrame frame) (p .message) in
+      let same : n ≡ length (sent w) = cc in
+      rw (same, answers-back (sent w) out (facts .messages)) (accepted-reply table s (readFrame frame) (p .message)))
+
+  rest-kept : let a = answer s table journal frame out in a .verdict ≡ Sent n → drop (7 * n) (a .out) ≡ drop (7 * n) out
+  unfolding replaced
+  rest-kept = by-verdict s table journal frame out
+      (λ (a : Answer). a .verdict ≡ Sent n → drop (7 * n) (a .out) ≡ drop (7 * n) out)
+      (λ k q e. absurd (let z : _≡_ {A = ℕ} 0 1 = cc in omega arith))
+      (λ p e.
+      let l = sent (accepted table s (readFrame frame)) in
+      let same : length l ≡ n = cc in
+      let size : length (framesOf l) ≡ 7 * n = frames-length l ∙ rw same in
+      let reach : 0 + length (framesOf l) ≡ 7 * n = omega arith in
+      drop-at (framesOf l) (drop (0 + length (framesOf l)) out) (7 * n) size ∙ ap (λ (k : ℕ). drop k out) reach)
+
+  read-count : (k : ℕ) (b : List ℕ) → length (readFrames k b) ≡ k
+  unfolding readFrames
+  read-count zero b = refl
+  read-count (suc k) b = ap suc (read-count k (drop 7 b))
+
+  added : let a = answer s table journal frame out in a .verdict ≡ Sent n → OnlyAdded s journal frame out n a
+  added e =
+      let a = answer s table journal frame out in
+      let f = rw e at (answer-adds table s journal frame out) in
+      record {
+        rest = rest-kept e;
+        count = f .count ∙ omega (arith, length-map (readFrames n (a .out)) recordOf, read-count n (a .out));
+        records = f .records;
+        past = f .rest;
+      }
+
+pub all-replies : Replies
+all-replies = record { reply = reply; added = added }

@@ -1,0 +1,53 @@
+-- What an accepted frame is answered by, and what it leaves alone: for every state that is handed in, every table,
+-- right or altered, and every journal, frame and out buffer.
+use mathlib.Core.Path.{_≡_}
+use mathlib.Core.Logic.{_≢_, _⊎_}
+use mathlib.Core.Bool.{true}
+use mathlib.Core.List.{List, [], _∷_, _++_, map, List·Memᴰ}
+use Prim.Native.Nat.{ℕ, _+_, _*_, _<_}
+use lib.ListN.{take, drop}
+use Rattle.frame.specs.Frame.{readFrame}
+use Rattle.journal.specs.Journal.{recordOf}
+use Rattle.rules.specs.State.{isAsked, trainOf, nextMove}
+use Rattle.rules.specs.Answer.{Answer, answer}
+use Rattle.assurance.specs.Types.{Move, Message, Fa, Fe, Afe, Am, Record, State, Sent}
+use Rattle.assurance.specs.Observer.{readFrames}
+
+-- the move of a train that waits: it was Asked in s, or asks by the frame a itself
+pub record Awaited (s : State) (a : Message) (m : Move) : Type 0 where
+  pub known : m .train .0 < s .trains
+  pub next : m ≡ nextMove s (m .train .0)
+  pub waits : (isAsked (trainOf s (m .train .0) .status) ≡ true) ⊎ (a ≡ Fa m)
+
+-- FEs alone, each for a train that waits, and no train has two
+pub record Authorities (s : State) (a : Message) (answers : List Message) : Type 0 where
+  pub each : (b : Message) → List·Memᴰ b answers → (m : Move) × (b ≡ Fe m) × Awaited s a m
+  pub once : (said : List Message) (m : Move) (rest : List Message) → answers ≡ said ++ Fe m ∷ rest
+      → (q : Move) → List·Memᴰ (Fe q) said → q .train .0 ≢ m .train .0
+
+-- "FA: .. an FE is written; again from the oldest, until none can be granted. If the asker was not granted, its AFE
+-- comes last. AM: .. the same granting."
+pub data Reply (s : State) : Message → List Message → Type 0 where
+  granted : (m : Move) (answers : List Message) → Authorities s (Fa m) answers → List·Memᴰ (Fe m) answers
+      → Reply s (Fa m) answers
+  declined : (m : Move) (answers : List Message) → Authorities s (Fa m) answers
+      → ((q : Move) → List·Memᴰ (Fe q) answers → q .train .0 ≢ m .train .0) → Reply s (Fa m) (answers ++ Afe m ∷ [])
+  arrived : (m : Move) (answers : List Message) → Authorities s (Am m) answers → Reply s (Am m) answers
+
+-- the journal and the out buffer after an accepted frame and its n answers
+pub record OnlyAdded (s : State) (journal : List Record) (frame out : List ℕ) (n : ℕ) (a : Answer) : Type 0 where
+  -- "later bytes of the buffer are untouched"
+  pub rest : drop (7 * n) (a .out) ≡ drop (7 * n) out
+  -- "An accepted frame is logged, then each answer in order of sending. .. Records past the count are untouched."
+  pub count : a .state .logged ≡ s .logged + (1 + n)
+  pub records : take (a .state .logged) (a .journal)
+      ≡ take (s .logged) journal ++ map recordOf (readFrame frame ∷ readFrames n (a .out))
+  pub past : drop (a .state .logged) (a .journal) ≡ drop (a .state .logged) journal
+
+pub record Replies : Type 0 where
+  pub reply : (s : State) (table : List ℕ) (journal : List Record) (frame out : List ℕ) (n : ℕ)
+      → let a = answer s table journal frame out in
+      a .verdict ≡ Sent n → Reply s (readFrame frame) (readFrames n (a .out))
+  pub added : (s : State) (table : List ℕ) (journal : List Record) (frame out : List ℕ) (n : ℕ)
+      → let a = answer s table journal frame out in
+      a .verdict ≡ Sent n → OnlyAdded s journal frame out n a
