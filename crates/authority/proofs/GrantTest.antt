@@ -9,6 +9,7 @@ use Prim.Native.Nat.{ℕ, _+_, _≤_, _<_}
 use native.Mathlib.Omega.{arith}
 use lib.Dec.{eqb, ltb}
 use lib.ListN.{getD}
+use borrow.Author.Tests.{eq-eqb, ne-eqb, lt-ltb, le-ltb}
 use Rattle.common.specs.Tabulate.{padded}
 use Rattle.common.proofs.Below.{ofBool-le}
 use Rattle.common.proofs.Tabulate.{at-padded}
@@ -22,7 +23,7 @@ use Rattle.authority.specs.Types.{Move, Train, State}
 use Rattle.rules.specs.State.{isAsked, isRunning, trainOf, located, reachedBy, reached, nextMove}
 use Rattle.rules.specs.Valid.{valid}
 use Rattle.rules.specs.Granting.{grantable}
-use Rattle.rules.proofs.Validity.{valid-facts, start-below, post-below}
+use Rattle.rules.proofs.Validity.{valid-facts, start-below, post-below, next-post-below, asked-short}
 
 -- ---- the posts that train u has travelled, when train t has moved on
 
@@ -52,7 +53,36 @@ pub padded-code : (n : ℕ) (c : Configuration) (digits : List ℕ) → n ≤ 6 
 padded-code n c digits few e = code-cong n (λ u. getD digits u 0) c (λ u k.
     ap (λ (l : List ℕ). getD l u 0) e ∙ at-padded 6 n c 0 u (omega arith) k)
 
+-- ---- holders and tracks, found to be n and k
+
+module _ {n : ℕ} (h : ℕ) (e : n ≡ h) where
+  pub some-hold : 0 < n → eqb h 0 ≡ false
+  some-hold l = ne-eqb h 0 (λ z. omega arith)
+
+  pub none-hold : n ≤ 0 → eqb h 0 ≡ true
+  none-hold l = eq-eqb h 0 (omega arith)
+
+  module _ {k : ℕ} (t : ℕ) (f : k ≡ t) where
+    pub no-track : k ≤ n → ltb h t ≡ false
+    no-track l = le-ltb h t (omega arith)
+
+    pub a-track : n < k → ltb h t ≡ true
+    a-track l = lt-ltb h t (omega arith)
+
 -- ---- the test, in the code's order
+
+-- the move of an Asked train lies on the line
+module _ (s : State) (d : valid s ≡ true) (t : ℕ) (k : t < s .trains) (asks : isAsked (trainOf s t .status) ≡ true)
+    (m : Move) (next : m ≡ nextMove s t) where
+  pub from-on-line : m .from .0 < 8
+  from-on-line =
+      let v = valid-facts s d in
+      rw next (omega (arith, post-below s v t k, v .line .few-posts))
+
+  pub to-on-line : m .to .0 < 8
+  to-on-line =
+      let v = valid-facts s d in
+      rw next (omega (arith, next-post-below s v t k (asked-short s v t k asks), v .line .few-posts))
 
 module _ (table : List ℕ) (s : State) (t : ℕ) where
   pub not-asked : isAsked (trainOf s t .status) ≡ false → false ≡ grantable table s t

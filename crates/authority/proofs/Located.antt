@@ -2,17 +2,10 @@
 -- Assumes nothing.
 use mathlib.Core.Path.{_≡_, ap, _∙_}
 use Prim.Native.Nat.{ℕ}
-use lib.Dec.{eqb}
-use Rattle.line.specs.Route.{sectionOf}
-use Rattle.line.specs.Holding.{holdsSection}
-use Rattle.authority.specs.Types.{TrainNo, PostNo, Move, Free, Running, Train, State}
-use Rattle.rules.specs.State.{nextOf, locatedAt, trainOf, nextMove, arrivedNext}
+use Rattle.authority.specs.Types.{TrainNo, PostNo, Move, Free, Train, State}
+use Rattle.rules.specs.State.{nextOf, trainOf, nextMove, arrivedNext}
 
 module _ (x : Train) where
-  pub running-section : (i n q : ℕ) → x .status ≡ Running → q ≡ nextOf x → n ≡ sectionOf (x .at .0) q
-      → eqb n i ≡ holdsSection (locatedAt x) i
-  running-section i n q e f g = rw (e, g, f)
-
   pub arrived-at : (q : PostNo) → q .0 ≡ nextOf x → record { route = x .route; at = q; status = Free } ≡ arrivedNext x
   arrived-at q e = ap (λ (n : ℕ). arrivedTo n) e
     where

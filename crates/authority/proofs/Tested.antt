@@ -1,19 +1,26 @@
--- The tests of `specs/Valid.antt` one by one, in the order in which the code makes them: the first that fails decides,
--- and else the last.
+-- The tests of a state in the order in which the code makes them: the first that fails decides, and else the last.
+-- Together they are those of `rules`.
 -- Assumes nothing.
-use mathlib.Core.Path.{_≡_, _∙_}
-use mathlib.Core.Bool.{Bool, true, false, not}
+use mathlib.Core.Path.{_≡_, refl, sym, ap, _∙_}
+use mathlib.Core.Bool.{Bool, true, false, not, _&&_, and-false}
 use Prim.Native.Nat.{ℕ, _≤_, _<_}
-use native.Mathlib.Omega.{arith}
+use lib.Count.{ones}
 use lib.Dec.{leb}
+use lib.ListN.{getD}
 use borrow.Author.Tests.{le-leb, lt-leb}
 use Rattle.common.specs.Below.{allBelow}
+use Rattle.common.proofs.Tests.{same-test, and-left, and-right, and-both}
+use Rattle.common.proofs.Below.{all-below, below-all, all-cong}
 use Rattle.line.specs.Route.{between}
-use Rattle.line.specs.Line.{wellFormed}
-use Rattle.line.proofs.WellFormed.{well-formed}
+use Rattle.line.specs.Line.{inRange, postsInRange, tracksInRange, trainsInRange, routesOnLine, wellFormed}
+use Rattle.line.proofs.WellFormed.{high, ranged, below-range, above-range}
 use Rattle.journal.specs.Journal.{journalLength}
-use Rattle.authority.specs.Types.{Status, Train, State}
+use Rattle.authority.specs.Types.{Status, Train, State, Holders}
+use Rattle.authority.specs.Holders.{Held}
+use Rattle.authority.specs.Tests.{countsValid, onLine, recordValid, heldWithin, placeValid}
 use Rattle.rules.specs.State.{isFree, atEnd, trainOf, lineOf}
+use Rattle.rules.proofs.Trains.{route-of}
+use Rattle.authority.proofs.HolderSets.{posts-counted, sections-counted}
 use Rattle.rules.specs.Valid.{trainValid, sectionsValid, postsValid, numberBelow, sameNumber, numberValid, valid}
 
 -- ---- one train's record
@@ -42,45 +49,106 @@ module _ (s : State) (t : ℕ) (w : Status) (e : w ≡ trainOf s t .status) wher
       → b ≡ allBelow t (λ u. not (sameNumber w (trainOf s u .status))) → b ≡ numberValid s t
   number-decides f b g = g ∙ rw (← e, f)
 
--- ---- h holders of t tracks, found to be n and k
+-- ---- the sets of post p and of the section after it
 
-module _ {n k : ℕ} (h t : ℕ) (e : n ≡ h) (f : k ≡ t) where
-  pub too-many : k < n → leb h t ≡ false
-  too-many l = lt-leb h t (omega arith)
+pub place-tested : (s : State) (h : Holders) → Held s h → (p : ℕ) → p < 8 → (b : Bool)
+    → b ≡ heldWithin (getD (s .tracks) p 0) (ones (getD (h .posts) p 0)) (ones (getD (h .sections) p 0))
+    → placeValid s p ≡ b
+place-tested s h held p small b e =
+    sym (e ∙ rw (posts-counted s h held p _ small refl, sections-counted s h held p _ small refl))
 
-  pub few-enough : n ≤ k → leb h t ≡ true
-  few-enough l = le-leb h t (omega arith)
+module _ (tracks h i : ℕ) where
+  pub no-tracks : tracks < 1 → false ≡ heldWithin tracks h i
+  no-tracks l = rw (below-range 1 4 tracks l)
 
--- ---- the state
+  pub many-tracks : 4 < tracks → false ≡ heldWithin tracks h i
+  many-tracks l = rw (above-range 1 4 tracks l)
+
+  module _ (some : 1 ≤ tracks) (few : tracks ≤ 4) where
+    pub too-many : tracks < h → false ≡ heldWithin tracks h i
+    too-many l = rw (ranged 1 4 tracks some few, lt-leb h tracks l)
+
+    pub few-enough : h ≤ tracks → leb i 1 ≡ heldWithin tracks h i
+    few-enough l = rw (ranged 1 4 tracks some few, le-leb h tracks l)
+
+-- ---- the state: the definition's tests are these
+
+all-and : (n : ℕ) (f g : ℕ → Bool) → allBelow n (λ k. f k && g k) ≡ allBelow n f && allBelow n g
+all-and n f g = same-test (allBelow n (λ k. f k && g k)) (allBelow n f && allBelow n g)
+    (λ e.
+    let both = all-below n (λ k. f k && g k) e in
+    and-both _ _ (below-all n f (λ k l. and-left (f k) (g k) (both k l)))
+    (below-all n g (λ k l. and-right (f k) (g k) (both k l))))
+    (λ e.
+    let one = all-below n f (and-left (allBelow n f) (allBelow n g) e) in
+    let two = all-below n g (and-right (allBelow n f) (allBelow n g) e) in
+    below-all n _ (λ k l. and-both (f k) (g k) (one k l) (two k l)))
+
+-- a line of posts r, tracks k, trains t and routes o; trains v, sections s, posts p and a rest q, in two orders
+in-turn : (r k t o v s p q : Bool)
+    → (r && (k && (t && o))) && (v && (s && (p && q))) ≡ (r && t) && ((o && v) && ((k && (p && s)) && q))
+in-turn false k t o v s p q = refl
+in-turn true k false o v s p q = rw (and-false k)
+in-turn true k true false v s p q = rw (and-false k)
+in-turn true false true true v s p q = rw (and-false v)
+in-turn true true true true false s p q = refl
+in-turn true true true true true false p q = rw (and-false p)
+in-turn true true true true true true false q = refl
+in-turn true true true true true true true q = refl
 
 module _ (s : State) where
-  pub line-fails : wellFormed (lineOf s) ≡ false → false ≡ valid s
-  unfolding valid
-  line-fails e = rw e
+  trains-together : allBelow (s .trains) (λ t. recordValid (s .posts) (trainOf s t))
+      ≡ routesOnLine (lineOf s) && allBelow (s .trains) (λ t. trainValid (trainOf s t))
+  trains-together =
+      all-and (s .trains) (λ t. onLine (s .posts) (trainOf s t .route)) (λ t. trainValid (trainOf s t))
+      ∙ ap (λ (b : Bool). b && allBelow (s .trains) (λ t. trainValid (trainOf s t)))
+      (all-cong (s .trains) _ _ (λ t k. ap (onLine (s .posts)) (sym (route-of s t))))
 
-  module _ (line : wellFormed (lineOf s) ≡ true) where
+  places-together : allBelow (s .posts) (placeValid s)
+      ≡ tracksInRange (lineOf s) && (postsValid s && sectionsValid s)
+  places-together =
+      all-and (s .posts) (λ p. inRange 1 4 (getD (s .tracks) p 0)) _
+      ∙ ap (λ (b : Bool). tracksInRange (lineOf s) && b) (all-and (s .posts) _ _)
+
+  abbrev counts : Bool
+  counts = countsValid (s .posts) (s .trains)
+
+  abbrev trains : Bool
+  trains = allBelow (s .trains) (λ t. recordValid (s .posts) (trainOf s t))
+
+  abbrev places : Bool
+  places = allBelow (s .posts) (placeValid s)
+
+  abbrev numbers : Bool
+  numbers = leb (s .logged) journalLength && allBelow (s .trains) (numberValid s)
+
+  grouped : valid s ≡ counts && (trains && (places && numbers))
+  unfolding valid wellFormed
+  grouped =
+      in-turn (postsInRange (lineOf s)) (tracksInRange (lineOf s)) (trainsInRange (lineOf s)) (routesOnLine (lineOf s))
+      (allBelow (s .trains) (λ t. trainValid (trainOf s t))) (sectionsValid s) (postsValid s) numbers
+      ∙ rw (trains-together, places-together)
+
+  pub counts-fail : counts ≡ false → false ≡ valid s
+  counts-fail e = sym (grouped ∙ rw e)
+
+  module _ (e : counts ≡ true) where
+    pub eight-posts : s .posts ≤ 8
+    eight-posts = high 2 8 (s .posts) (and-left (inRange 2 8 (s .posts)) _ e)
+
     pub six-trains : s .trains ≤ 6
-    six-trains = well-formed (lineOf s) line .few-trains
+    six-trains = high 1 6 (s .trains) (and-right (inRange 2 8 (s .posts)) _ e)
 
-    pub trains-fail : allBelow (s .trains) (λ t. trainValid (trainOf s t)) ≡ false → false ≡ valid s
-    unfolding valid
-    trains-fail e = rw (line, e)
+    pub trains-fail : trains ≡ false → false ≡ valid s
+    trains-fail f = sym (grouped ∙ rw (e, f))
 
-    module _ (trains : allBelow (s .trains) (λ t. trainValid (trainOf s t)) ≡ true) where
-      pub sections-fail : sectionsValid s ≡ false → false ≡ valid s
-      unfolding valid
-      sections-fail e = rw (line, trains, e)
+    module _ (f : trains ≡ true) where
+      pub places-fail : places ≡ false → false ≡ valid s
+      places-fail g = sym (grouped ∙ rw (e, f, g))
 
-      module _ (sections : sectionsValid s ≡ true) where
-        pub posts-fail : postsValid s ≡ false → false ≡ valid s
-        unfolding valid
-        posts-fail e = rw (line, trains, sections, e)
+      module _ (g : places ≡ true) where
+        pub count-fails : journalLength < s .logged → false ≡ valid s
+        count-fails h = sym (grouped ∙ rw (e, f, g, lt-leb (s .logged) journalLength h))
 
-        module _ (posts : postsValid s ≡ true) where
-          pub count-fails : journalLength < s .logged → false ≡ valid s
-          unfolding valid
-          count-fails h = rw (line, trains, sections, posts, lt-leb (s .logged) journalLength h)
-
-          pub numbers-decide : s .logged ≤ journalLength → allBelow (s .trains) (numberValid s) ≡ valid s
-          unfolding valid
-          numbers-decide h = rw (line, trains, sections, posts, le-leb (s .logged) journalLength h)
+        pub numbers-decide : s .logged ≤ journalLength → allBelow (s .trains) (numberValid s) ≡ valid s
+        numbers-decide h = sym (grouped ∙ rw (e, f, g, le-leb (s .logged) journalLength h))

@@ -19,5 +19,4 @@ pub use Rattle.rules.specs.declared.result.Opened.{Opened}
 pub use Rattle.authority.specs.declared.asking.Asker.{Asker}
 pub use Rattle.authority.specs.declared.asking.Asker.the-variants.{Of, Nobody}
 pub use Rattle.authority.specs.declared.granting.Progress.{Progress}
-pub use Rattle.authority.specs.declared.train.Place.{Place}
-pub use Rattle.authority.specs.declared.train.Place.the-variants.{Post, Section}
+pub use Rattle.authority.specs.declared.holding.Holders.{Holders}

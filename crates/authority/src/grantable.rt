@@ -8,9 +8,11 @@ ghost use Rattle.rules.specs.State.{reached};
 ghost use Rattle.rules.specs.Valid.{valid};
 ghost use Rattle.rules.specs.Granting.{grantable};
 use crate::fleet::status_of;
+use crate::fleet::tracks_at;
 use crate::fleet::train_of;
-use crate::holding::post_free;
-use crate::holding::section_free;
+use crate::holding::holders_of;
+use crate::holding::post_holders;
+use crate::holding::section_holders;
 use crate::train::is_asked;
 use crate::train::next_move;
 use crate::train::reached;
@@ -28,10 +30,11 @@ pub fn grantable(state: State, table: &[u8], t: TrainNo) -> bool
         return false;
     }
     let next = next_move(state, t);
-    if !section_free(state, line::section(next.from, next.to)) {
+    let holders = holders_of(state);
+    if 0 < section_holders(holders, line::section(next.from, next.to)) {
         return false;
     }
-    if !post_free(state, next.to) {
+    if tracks_at(state, next.to) <= post_holders(holders, next.to) {
         return false;
     }
     completion::bit(

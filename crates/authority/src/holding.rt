@@ -1,79 +1,104 @@
-// Who holds a post or a section, as a set of trains in six bits: that of value 2 ^ t is train t's.
+// Who holds what: for each post and for each section the set of the trains that hold it, in six
+// bits; that of value 2 ^ t is train t's.
 ghost use mathlib.Core.Path.{_≡_};
-ghost use Prim.Native.Nat.{_+_, _*_, _^_, _≤_, _<_};
-ghost use lib.Dec.{ltb, eqb};
+ghost use Prim.Native.Nat.{_≤_, _<_};
+ghost use lib.Count.{ones};
 ghost use lib.ListN.{getD};
-ghost use Rattle.common.specs.Below.{ofBool, countBelow};
-ghost use Rattle.common.specs.Bits.{setBelow};
 ghost use Rattle.line.specs.Holding.{postHolders, sectionHolders};
-ghost use Rattle.rules.specs.State.{located};
-ghost use Rattle.authority.specs.Places.{holdsPlace};
-use crate::fleet::tracks_at;
+ghost use Rattle.rules.specs.State.{locatedAt, located};
+ghost use Rattle.authority.specs.Holders.{Joined, WithPlaces, HeldBy, Held};
 use crate::fleet::train_of;
-use crate::train::Place;
-use crate::train::holds;
+use crate::train::is_running;
+use crate::train::next_post;
 use line::PostNo;
 use line::SectionNo;
 use line::TrainNo;
 use rules::State;
+use rules::Train;
 
-// The set with train `t` in it, where it holds; no train from `t` on is in it yet.
-fn with_holder(set: u32, t: TrainNo, holds: bool) -> u32
-    requires { ⌜ (t .0 < 6) × (set < 2 ^ (t .0)) ⌝ }
-    ensures { λ r. ⌜ r ≡ ofBool holds * 2 ^ (t .0) + set ⌝ }
-{
-    if holds { set | 1 << t.0 } else { set }
+// The set of each post, and the set of each section.
+pub struct Holders {
+    pub posts: [u8; 8],
+    pub sections: [u8; 8],
 }
 
-fn holder_set(state: State, place: Place) -> u32
+// The sets of all trains, in one walk over them.
+pub fn holders_of(state: State) -> Holders
     requires { ⌜ state .trains ≤ 6 ⌝ }
-    ensures { λ r. ⌜ r ≡ setBelow (state .trains) (λ t. holdsPlace (located state t) place) ⌝ }
+    ensures { λ r. ⌜ Held state r ⌝ }
 {
-    let mut set: u32 = 0;
+    let mut holders = nobody();
     let mut t: u8 = 0;
     while t < state.trains {
-        let holder = holds(train_of(state, TrainNo(t)), place);
-        set = with_holder(set, TrainNo(t), holder);
+        holders = with_places(holders, TrainNo(t), train_of(state, TrainNo(t)));
         t += 1;
     }
-    set
+    holders
 }
 
-fn holders(state: State, place: Place) -> u32
-    requires { ⌜ state .trains ≤ 6 ⌝ }
-    ensures { λ r. ⌜ r ≡ countBelow (state .trains) (λ t. holdsPlace (located state t) place) ⌝ }
+fn nobody() -> Holders
+    ensures { λ r. ⌜ ((s : State) → HeldBy s 0 r) ⌝ }
 {
-    u32::count_ones(holder_set(state, place))
+    Holders {
+        posts: [0; 8],
+        sections: [0; 8],
+    }
+}
+
+// 01: "A Running train, from its present post p to q, holds the section between them and a track at
+// each of p and q. .. Another train holds a track at its present post."
+fn with_places(holders: Holders, t: TrainNo, train: Train) -> Holders
+    requires { ⌜ t .0 < 6 ⌝ }
+    ensures { λ r. ⌜ WithPlaces holders (t .0) (locatedAt train) r ⌝ }
+{
+    let posts = holders.posts;
+    let sections = holders.sections;
+    let status = train.status;
+    let posts = with_holder(posts, train.at.0, t);
+    if !is_running(status) {
+        return Holders { posts, sections };
+    }
+    let next = next_post(train);
+    let posts = with_holder(posts, next.0, t);
+    let sections = with_holder(sections, line::section(train.at, next).0, t);
+    Holders { posts, sections }
+}
+
+// The sets with train `t` in that of number `i`; there are eight.
+fn with_holder(sets: [u8; 8], i: u8, t: TrainNo) -> [u8; 8]
+    requires { ⌜ t .0 < 6 ⌝ }
+    ensures { λ r. ⌜ Joined i (t .0) sets r ⌝ }
+{
+    let mut joined = sets;
+    let k = i as usize;
+    if k < 8 {
+        joined[k] = sets[k] | 1 << t.0;
+    }
+    joined
 }
 
 // How many trains hold post `p`.
-pub fn post_holders(state: State, p: PostNo) -> u32
-    requires { ⌜ state .trains ≤ 6 ⌝ }
-    ensures { λ r. ⌜ r ≡ postHolders (state .trains) (located state) (p .0) ⌝ }
+pub fn post_holders(holders: Holders, p: PostNo) -> u32
+    requires { ⌜ p .0 < 8 ⌝ }
+    ensures { λ r. ⌜ ((s : State) → Held s holders → r ≡ postHolders (s .trains) (located s) (p .0)) ⌝ }
 {
-    holders(state, Place::Post(p))
+    let posts = holders.posts;
+    ones_in(posts, p.0)
 }
 
 // How many trains hold section `i`.
-pub fn section_holders(state: State, i: SectionNo) -> u32
-    requires { ⌜ state .trains ≤ 6 ⌝ }
-    ensures { λ r. ⌜ r ≡ sectionHolders (state .trains) (located state) (i .0) ⌝ }
+pub fn section_holders(holders: Holders, i: SectionNo) -> u32
+    requires { ⌜ i .0 < 8 ⌝ }
+    ensures { λ r. ⌜ ((s : State) → Held s holders → r ≡ sectionHolders (s .trains) (located s) (i .0)) ⌝ }
 {
-    holders(state, Place::Section(i))
+    let sections = holders.sections;
+    ones_in(sections, i.0)
 }
 
-// Whether nobody holds section `i`.
-pub fn section_free(state: State, i: SectionNo) -> bool
-    requires { ⌜ state .trains ≤ 6 ⌝ }
-    ensures { λ r. ⌜ r ≡ eqb (sectionHolders (state .trains) (located state) (i .0)) 0 ⌝ }
+fn ones_in(sets: [u8; 8], i: u8) -> u32
+    requires { ⌜ i < 8 ⌝ }
+    ensures { λ r. ⌜ r ≡ ones (getD sets i 0) ⌝ }
 {
-    section_holders(state, i) == 0
-}
-
-// Whether post `p` has a free track.
-pub fn post_free(state: State, p: PostNo) -> bool
-    requires { ⌜ state .trains ≤ 6 ⌝ }
-    ensures { λ r. ⌜ r ≡ ltb (postHolders (state .trains) (located state) (p .0)) (getD (state .tracks) (p .0) 0) ⌝ }
-{
-    post_holders(state, p) < tracks_at(state, p)
+    let k = i as usize;
+    u32::count_ones(sets[k] as u32)
 }

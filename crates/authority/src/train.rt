@@ -2,14 +2,11 @@
 ghost use mathlib.Core.Path.{_≡_};
 ghost use Prim.Native.Nat.{_<_};
 ghost use Rattle.line.specs.Route.{distance};
-ghost use Rattle.line.specs.Holding.{holdsPost, holdsSection};
-ghost use Rattle.rules.specs.State.{isFree, isAsked, isRunning, atEnd, nextOf, locatedAt, reachedBy};
+ghost use Rattle.rules.specs.State.{isFree, isAsked, isRunning, atEnd, nextOf, reachedBy};
 ghost use Rattle.rules.specs.State.{nextMove, withStatus, arrivedNext};
-ghost use Rattle.authority.specs.Places.{holdsPlace};
 use crate::fleet::train_of;
 use frame::Move;
 use line::PostNo;
-use line::SectionNo;
 use line::TrainNo;
 use rules::State;
 use rules::Status;
@@ -67,45 +64,6 @@ pub fn next_move(state: State, t: TrainNo) -> Move
     let from = train.at;
     let to = next_post(train);
     Move { train: t, from, to }
-}
-
-// What a train can hold.
-pub enum Place {
-    Post(PostNo),
-    Section(SectionNo),
-}
-
-// 01: "A Running train, from its present post p to q, holds the section between them and a track at
-// each of p and q. .. Another train holds a track at its present post."
-pub fn holds(train: Train, place: Place) -> bool
-    ensures { λ r. ⌜ r ≡ holdsPlace (locatedAt train) place ⌝ }
-{
-    match place {
-        Place::Post(p) => holds_post(train, p),
-        Place::Section(i) => holds_section(train, i),
-    }
-}
-
-fn holds_post(train: Train, p: PostNo) -> bool
-    ensures { λ r. ⌜ r ≡ holdsPost (locatedAt train) (p .0) ⌝ }
-{
-    let status = train.status;
-    match status {
-        Status::Free => train.at.0 == p.0,
-        Status::Asked(_) => train.at.0 == p.0,
-        Status::Running => train.at.0 == p.0 || next_post(train).0 == p.0,
-    }
-}
-
-fn holds_section(train: Train, i: SectionNo) -> bool
-    ensures { λ r. ⌜ r ≡ holdsSection (locatedAt train) (i .0) ⌝ }
-{
-    let status = train.status;
-    match status {
-        Status::Free => false,
-        Status::Asked(_) => false,
-        Status::Running => line::section(train.at, next_post(train)).0 == i.0,
-    }
 }
 
 // The posts travelled, and one more while it is Running.

@@ -1,23 +1,22 @@
-// Whether a state that is handed in is valid (01: sound), test by test as the definition has them.
+// Whether a state that is handed in is valid (01: sound): its counts, each train's record, each post
+// with its section, and the numbers of the requests.
 ghost use mathlib.Core.Path.{_≡_};
-ghost use mathlib.Core.Bool.{not};
-ghost use mathlib.Core.List.{map};
+ghost use mathlib.Core.Bool.{not, _&&_};
 ghost use Prim.Native.Nat.{_≤_, _<_};
+ghost use lib.Count.{ones};
+ghost use lib.Dec.{leb, ltb};
 ghost use Rattle.common.specs.Below.{allBelow};
-ghost use Rattle.rules.specs.State.{trainOf, lineOf};
-ghost use Rattle.rules.specs.Valid.{trainValid, sectionsValid, postsValid, numberBelow, sameNumber, numberValid, valid};
+ghost use Rattle.line.specs.Line.{inRange};
+ghost use Rattle.rules.specs.State.{trainOf};
+ghost use Rattle.rules.specs.Valid.{trainValid, numberBelow, sameNumber, numberValid, valid};
+ghost use Rattle.authority.specs.Tests.{countsValid, onLine, recordValid, heldWithin, placeValid};
 use crate::fleet::status_of;
-use crate::fleet::tracks_at;
 use crate::fleet::train_of;
-use crate::holding::post_holders;
-use crate::holding::section_holders;
+use crate::holding::holders_of;
 use crate::train::at_end;
 use crate::train::is_free;
 use journal::JOURNAL_LENGTH;
-use line::Line;
-use line::PostNo;
 use line::Route;
-use line::SectionNo;
 use line::TrainNo;
 use rules::State;
 use rules::Status;
@@ -26,16 +25,13 @@ use rules::Train;
 pub fn valid(state: State) -> bool
     ensures { λ r. ⌜ r ≡ valid state ⌝ }
 {
-    if !line::well_formed(line_of(state)) {
+    if !counts_valid(state.posts, state.trains) {
         return false;
     }
     if !trains_valid(state) {
         return false;
     }
-    if !sections_valid(state) {
-        return false;
-    }
-    if !posts_valid(state) {
+    if !places_valid(state) {
         return false;
     }
     if JOURNAL_LENGTH < state.logged as usize {
@@ -44,51 +40,48 @@ pub fn valid(state: State) -> bool
     numbers_valid(state)
 }
 
-// The posts, tracks, trains and routes that the state has.
-fn line_of(state: State) -> Line
-    ensures { λ r. ⌜ r ≡ lineOf state ⌝ }
+// There are 2 to 8 posts and 1 to 6 trains.
+fn counts_valid(posts: u8, trains: u8) -> bool
+    ensures { λ r. ⌜ r ≡ countsValid posts trains ⌝ }
 {
-    let fleet = state.fleet;
-    let routes = routes_of(fleet);
-    let tracks = state.tracks;
-    Line {
-        posts: state.posts,
-        tracks,
-        trains: state.trains,
-        routes,
+    if posts < 2 {
+        return false;
     }
-}
-
-fn routes_of(fleet: [Train; 6]) -> [Route; 6]
-    ensures { λ r. ⌜ r ≡ map (λ x. x .route) fleet ⌝ }
-{
-    let none = Route {
-        start: PostNo(0),
-        end: PostNo(0),
-    };
-    let mut routes = [none; 6];
-    let mut t: usize = 0;
-    while t < 6 {
-        let train = fleet[t];
-        let route = train.route;
-        routes[t] = route;
-        t += 1;
+    if 8 < posts {
+        return false;
     }
-    routes
+    1 <= trains && trains <= 6
 }
 
 fn trains_valid(state: State) -> bool
     requires { ⌜ state .trains ≤ 6 ⌝ }
-    ensures { λ r. ⌜ r ≡ allBelow (state .trains) (λ t. trainValid (trainOf state t)) ⌝ }
+    ensures { λ r. ⌜ r ≡ allBelow (state .trains) (λ t. recordValid (state .posts) (trainOf state t)) ⌝ }
 {
     let mut t: u8 = 0;
     while t < state.trains {
-        if !train_valid(train_of(state, TrainNo(t))) {
+        if !record_valid(state.posts, train_of(state, TrainNo(t))) {
             return false;
         }
         t += 1;
     }
     true
+}
+
+fn record_valid(posts: u8, train: Train) -> bool
+    ensures { λ r. ⌜ r ≡ recordValid posts train ⌝ }
+{
+    let route = train.route;
+    if !on_line(posts, route) {
+        return false;
+    }
+    train_valid(train)
+}
+
+// The route starts and ends on a line of so many posts.
+fn on_line(posts: u8, route: Route) -> bool
+    ensures { λ r. ⌜ r ≡ onLine posts route ⌝ }
+{
+    route.start.0 < posts && route.end.0 < posts
 }
 
 // The present post is on the route, and only a train short of its end is Asked or Running.
@@ -106,34 +99,39 @@ fn train_valid(train: Train) -> bool
     !at_end(train)
 }
 
-// No section has two holders.
-fn sections_valid(state: State) -> bool
-    requires { ⌜ state .trains ≤ 6 ⌝ }
-    ensures { λ r. ⌜ r ≡ sectionsValid state ⌝ }
+// Each post has 1 to 4 tracks and no more holders, and each section one at most.
+fn places_valid(state: State) -> bool
+    requires { ⌜ (state .posts ≤ 8) × (state .trains ≤ 6) ⌝ }
+    ensures { λ r. ⌜ r ≡ allBelow (state .posts) (placeValid state) ⌝ }
 {
-    let mut i: u8 = 0;
-    while i < state.posts {
-        if 1 < section_holders(state, SectionNo(i)) {
-            return false;
-        }
-        i += 1;
-    }
-    true
-}
-
-// No post is held by more trains than it has tracks.
-fn posts_valid(state: State) -> bool
-    requires { ⌜ state .trains ≤ 6 ⌝ }
-    ensures { λ r. ⌜ r ≡ postsValid state ⌝ }
-{
-    let mut p: u8 = 0;
-    while p < state.posts {
-        if tracks_at(state, PostNo(p)) < post_holders(state, PostNo(p)) {
+    let holders = holders_of(state);
+    let tracks = state.tracks;
+    let posts = holders.posts;
+    let sections = holders.sections;
+    let mut p: usize = 0;
+    while p < state.posts as usize {
+        if !held_within(tracks[p], posts[p], sections[p]) {
             return false;
         }
         p += 1;
     }
     true
+}
+
+// The sets of a post of so many tracks and of the section after it have no more ones than they may.
+fn held_within(tracks: u8, post: u8, section: u8) -> bool
+    ensures { λ r. ⌜ r ≡ heldWithin tracks (ones post) (ones section) ⌝ }
+{
+    if tracks < 1 {
+        return false;
+    }
+    if 4 < tracks {
+        return false;
+    }
+    if (tracks as u32) < u32::count_ones(post as u32) {
+        return false;
+    }
+    u32::count_ones(section as u32) <= 1
 }
 
 // The numbers of the Asked trains' requests are below the count, and no two are the same.

@@ -2,14 +2,16 @@
 -- Assumes nothing.
 use mathlib.Core.Path.{_≡_, sym, ap, _∙_}
 use mathlib.Core.Bool.{true}
+use Prim.Native.Nat.{_<_}
 use native.Mathlib.Omega.{arith}
 use lib.Dec.{eqb}
 use borrow.Author.Needs.{needs}
 use borrow.Author.Tests.{not-true, not-false}
-use Rattle.line.specs.Holding.{sectionHolders}
+use Rattle.line.specs.Holding.{postHolders, sectionHolders}
 use Rattle.authority.specs.Types.{Status}
 use Rattle.rules.specs.State.{isAsked, trainOf, located}
-use Rattle.authority.proofs.GrantTest.{few-trains, padded-code, not-asked, section-held, post-full, bit-decides}
+use Rattle.authority.proofs.GrantTest.{few-trains, padded-code, some-hold, none-hold, no-track, a-track}
+use Rattle.authority.proofs.GrantTest.{from-on-line, to-on-line, not-asked, section-held, post-full, bit-decides}
 use Rattle.authority.proofs.grantable.grantable.Statement.{statement}
 use Rattle.authority.proofs.grantable.grantable.Tie as tie
 
@@ -41,37 +43,77 @@ module _ (c : tie.Else1) where
 next-move-requires : tie.Need-next-move-requires
 next-move-requires c κs = omega (arith, few-trains _ (from c .pre .0), from c .pre .1)
 
+holders-of-requires : tie.Need-holders-of-requires
+holders-of-requires c κs = few-trains _ (from (c .before) .pre .0)
+
 section-requires : tie.Need-section-requires
 section-requires c κs = search needs
 
-section-free-requires : tie.Need-section-free-requires
-section-free-requires c κs = few-trains _ (from (c .before .before) .pre .0)
+-- who holds what
+module _ (c : tie.After-section) where
+  abbrev asked : tie.Else1
+  asked = c .before .before .before
+
+  from-low : c .before .before .next-move .result .from .0 < 8
+  from-low =
+      from-on-line _ (from asked .pre .0) _ (from asked .pre .1) (asks asked) _ (c .before .before .next-move .ensures)
+
+  to-low : c .before .before .next-move .result .to .0 < 8
+  to-low =
+      to-on-line _ (from asked .pre .0) _ (from asked .pre .1) (asks asked) _ (c .before .before .next-move .ensures)
+
+section-holders-requires : tie.Need-section-holders-requires
+section-holders-requires c κs = omega (arith, from-low c, c .section .ensures)
+
+-- how many hold the next section
+module _ (c : tie.After-section-holders) where
+  abbrev given : tie.Start
+  given = from (asked (c .before))
+
+  section-counted : c .section-holders .result
+      ≡ sectionHolders (given .args .state .trains) (located (given .args .state)) (c .before .section .result .0)
+  section-counted = c .section-holders .ensures (given .args .state) (c .before .before .holders-of .ensures)
 
 returns-2 : tie.Need-returns-2
 returns-2 c =
-    let e = c .before .before .before .before in
-    section-held _ _ _ (asks e) _ (c .before .before .before .next-move .ensures) _
-    (c .before .before .section .ensures)
-    (sym (c .before .section-free .ensures) ∙ not-true _ (c .if2 .taken))
+    let i = c .before .before in
+    section-held _ _ _ (asks (asked i)) _ (i .before .before .next-move .ensures) _ (i .section .ensures)
+    (some-hold _ (section-counted (c .before)) (c .if2 .taken))
 
--- its next section is free
+-- nobody does
 module _ (c : tie.Else2) where
-  abbrev asked : tie.Else1
-  asked = c .before .before .before .before
+  abbrev at : tie.After-section
+  at = c .before .before
 
-  free : eqb (sectionHolders (from asked .args .state .trains) (located (from asked .args .state))
-      (c .before .before .section .result .0)) 0 ≡ true
-  free = sym (c .before .section-free .ensures) ∙ not-false _ (c .if2 .left)
+  free : eqb (sectionHolders (given (c .before) .args .state .trains) (located (given (c .before) .args .state))
+      (at .section .result .0)) 0 ≡ true
+  free = none-hold _ (section-counted (c .before)) (c .if2 .left)
 
-post-free-requires : tie.Need-post-free-requires
-post-free-requires c κs = few-trains _ (from (asked c) .pre .0)
+tracks-at-requires : tie.Need-tracks-at-requires
+tracks-at-requires c κs = search needs
+
+post-holders-requires : tie.Need-post-holders-requires
+post-holders-requires c κs = to-low (at (c .before))
+
+-- how many hold the next post
+module _ (c : tie.After-post-holders) where
+  abbrev unheld : tie.Else2
+  unheld = c .before .before
+
+  abbrev start-of : tie.Start
+  start-of = given (unheld .before)
+
+  post-counted : c .post-holders .result
+      ≡ postHolders (start-of .args .state .trains) (located (start-of .args .state))
+      (at unheld .before .before .next-move .result .to .0)
+  post-counted = c .post-holders .ensures (start-of .args .state) (at unheld .before .holders-of .ensures)
 
 returns-3 : tie.Need-returns-3
 returns-3 c =
-    let e = c .before .before in
-    post-full _ _ _ (asks (asked e)) _ (e .before .before .before .next-move .ensures) _
-    (e .before .before .section .ensures) (free e)
-    (sym (c .before .post-free .ensures) ∙ not-true _ (c .if3 .taken))
+    let e = unheld (c .before) in
+    let i = at e in
+    post-full _ _ _ (asks (asked i)) _ (i .before .before .next-move .ensures) _ (i .section .ensures) (free e)
+    (no-track _ (post-counted (c .before)) _ (c .before .before .tracks-at .ensures) (c .if3 .taken))
 
 reached-with-requires : tie.Need-reached-with-requires
 reached-with-requires c κs = search needs
@@ -85,13 +127,13 @@ bit-requires c κs = search needs
 returns-4 : tie.Need-returns-4
 returns-4 c =
     let room = c .before .before .before in
-    let e = room .before .before in
+    let e = unheld (room .before) in
+    let i = at e in
     let code = c .before .code .ensures
-    ∙ padded-code _ _ _ (few-trains _ (from (asked e) .pre .0)) (c .before .before .reached-with .ensures) in
+    ∙ padded-code _ _ _ (few-trains _ (from (asked i) .pre .0)) (c .before .before .reached-with .ensures) in
     c .bit .ensures
-    ∙ bit-decides _ _ _ (asks (asked e)) _ (e .before .before .before .next-move .ensures) _
-    (e .before .before .section .ensures) (free e)
-    (sym (room .before .post-free .ensures) ∙ not-false _ (room .if3 .left)) _ code
+    ∙ bit-decides _ _ _ (asks (asked i)) _ (i .before .before .next-move .ensures) _ (i .section .ensures) (free e)
+    (a-track _ (post-counted (room .before)) _ (room .before .before .tracks-at .ensures) (room .if3 .left)) _ code
 
 pub grantable-spec : {M : Type 1} → statement M
 grantable-spec =
@@ -101,10 +143,12 @@ grantable-spec =
     is-asked-requires
     returns
     next-move-requires
+    holders-of-requires
     section-requires
-    section-free-requires
+    section-holders-requires
     returns-2
-    post-free-requires
+    tracks-at-requires
+    post-holders-requires
     returns-3
     reached-with-requires
     code-requires

@@ -1,28 +1,28 @@
--- `with_holder` meets its contract: the bit that is set is above all others.
+-- `with_holder` meets its contract: the set of that number is stored anew, or there is none.
 -- Assumes nothing.
 use native.Mathlib.Omega.{arith}
 use borrow.Author.Needs.{needs}
-use Rattle.common.proofs.Bits.{set-bit}
+use Rattle.authority.proofs.HolderSets.{joined-own, joined-none}
 use Rattle.authority.proofs.holding.with_holder.Statement.{statement}
 use Rattle.authority.proofs.holding.with_holder.Tie as tie
 
-cast-result : tie.Need-cast-result
-cast-result c = search needs
+array-read-joined : tie.Need-array-read-joined
+array-read-joined c = search needs
 
-shl-result : tie.Need-shl-result
-shl-result c = search needs
+shl-joined : tie.Need-shl-joined
+shl-joined c = search needs
+
+array-write-joined : tie.Need-array-write-joined
+array-write-joined c = search needs
 
 returns : tie.Need-returns
-returns c = rw (c .before .if1 .taken) (set-bit _ _ 32 (c .before .before .pre .1) (omega arith))
+returns c =
+    let s = c .before .before in
+    joined-own (s .args .t1) (s .args .i) (s .args .t .0) (search needs) (c .before .if1 .taken) (s .pre)
 
 returns-2 : tie.Need-returns-2
-returns-2 c = rw (c .if1 .left) (omega arith)
+returns-2 c = joined-none (c .before .args .t1) (c .before .args .i) (c .before .args .t .0) (c .if1 .left)
 
 pub with-holder-spec : {M : Type 1} → statement M
 with-holder-spec =
-    tie.close
-    (tie.spec
-    cast-result
-    shl-result
-    returns
-    returns-2)
+    tie.close (tie.spec array-read-joined shl-joined array-write-joined returns returns-2)

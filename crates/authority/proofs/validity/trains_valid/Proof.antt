@@ -8,12 +8,12 @@ use borrow.Author.Tests.{not-true, not-false}
 use Rattle.common.proofs.Below.{Passing, passing-none, passing-more, passing-fails, passing-all}
 use Rattle.authority.specs.Types.{Train}
 use Rattle.rules.specs.State.{trainOf}
-use Rattle.rules.specs.Valid.{trainValid}
+use Rattle.authority.specs.Tests.{recordValid}
 use Rattle.authority.proofs.validity.trains_valid.Statement.{statement}
 use Rattle.authority.proofs.validity.trains_valid.Tie as tie
 
 abbrev Inv-loop : tie.InvT-loop
-Inv-loop state t₀ t = Passing (state .trains) (λ u. trainValid (trainOf state u)) t
+Inv-loop state t₀ t = Passing (state .trains) (λ u. recordValid (state .posts) (trainOf state u)) t
 
 abbrev μ-loop : tie.MeasureT-loop
 μ-loop state t₀ t = state .trains - t
@@ -24,16 +24,19 @@ loop-holds c = passing-none _ _
 train-of-requires : tie.Need-train-of-requires Inv-loop μ-loop
 train-of-requires c κs = omega arith
 
-train-valid-requires : tie.Need-train-valid-requires Inv-loop μ-loop
-train-valid-requires c κs = search needs
+record-valid-requires : tie.Need-record-valid-requires Inv-loop μ-loop
+record-valid-requires c κs = search needs
 
 -- what the test of the record says of train t
-module _ (c : tie.After-train-valid Inv-loop μ-loop) where
+module _ (c : tie.After-record-valid Inv-loop μ-loop) where
   abbrev here : tie.At-loop Inv-loop μ-loop
   here = c .before .before .before .before
 
-  tested : trainValid (trainOf (here .before .args .state) (here .loop .t)) ≡ c .train-valid .result
-  tested = ap (λ (x : Train). trainValid x) (sym (c .before .train-of .ensures)) ∙ sym (c .train-valid .ensures)
+  tested : recordValid (here .before .args .state .posts) (trainOf (here .before .args .state) (here .loop .t))
+      ≡ c .record-valid .result
+  tested =
+      ap (λ (x : Train). recordValid (here .before .args .state .posts) x) (sym (c .before .train-of .ensures))
+      ∙ sym (c .record-valid .ensures)
 
 returns : tie.Need-returns Inv-loop μ-loop
 returns c = passing-fails (here (c .before) .loop .inv) (omega arith) (tested (c .before) ∙ not-true _ (c .if2 .taken))
@@ -59,7 +62,7 @@ trains-valid-spec =
     μ-loop
     loop-holds
     train-of-requires
-    train-valid-requires
+    record-valid-requires
     returns
     add-t
     loop-less
