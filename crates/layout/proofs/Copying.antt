@@ -1,12 +1,13 @@
 -- Bytes put into a buffer: the loop's turn and the ways out, over plain lists.
 -- Assumes nothing.
-use mathlib.Core.Path.{_≡_, sym, subst, _∙_}
+use mathlib.Core.Path.{_≡_, refl, sym, subst, _∙_}
 use mathlib.Core.List.{List, append-nil}
-use Prim.Native.Nat.{ℕ, _+_, _≤_, _<_}
+use Prim.Native.Nat.{ℕ, zero, suc, _+_, _≤_, _<_}
+use native.Mathlib.Nat.{add-zero}
 use native.Mathlib.Omega.{arith}
 use native.Mathlib.Numerals.{add-one}
 use lib.ListN.{length, getD, set, drop-of-length-le}
-use lib.Seq.{paste, paste-suc, length-paste}
+use lib.Seq.{paste, paste-zero, paste-suc, length-paste}
 use Rattle.common.specs.Part.{replaced, replacedIfRoom}
 use Rattle.common.proofs.Part.{paste-replaces, replaced-if}
 
@@ -56,3 +57,31 @@ module _ {s b : List ℕ} {at : ℕ} {to : List ℕ} {i : ℕ} (k : Copied s b a
 
   pub whole-put : at ≡ 0 → length s ≡ length b → length b ≤ i → to ≡ b
   whole-put e size h = all-put h ∙ rw e (replaced-whole s b size)
+
+-- ---- a buffer that is filled from its beginning, part by part
+
+pub nothing-put : (s b : List ℕ) → length b ≤ length s → Copied s b 0 s 0
+nothing-put s b h = record { few = omega arith; room = omega arith; copied = paste-zero s 0 b }
+
+module _ {s b to : List ℕ} {n : ℕ} (k : Copied s b 0 to n) (part : List ℕ) (fits : n + length part ≤ length b)
+    (same : (j : ℕ) → j < length part → getD part j 0 ≡ getD b (n + j) 0) where
+  roomy : n + length part ≤ length to
+  roomy = omega (arith, same-size k, k .room)
+
+  bytes-more : (j : ℕ) → j ≤ length part → Copied s b 0 (paste to n part j) (n + j)
+  bytes-more zero h =
+      subst (λ (l : List ℕ). Copied s b 0 l (n + 0)) (paste-zero to n part)
+      (subst (λ (i : ℕ). Copied s b 0 to i) (sym (add-zero n)) k)
+  bytes-more (suc j) h =
+      let one = byte-more (bytes-more j (omega arith)) refl (omega arith) (getD part j 0) (same j (omega arith)) in
+      let place : n + j + 1 ≡ n + suc j = omega arith in
+      subst (λ (l : List ℕ). Copied s b 0 l (n + suc j))
+      (paste-suc to n part j 0 (omega (arith, roomy)) (omega arith))
+      (subst (λ (i : ℕ). Copied s b 0 (set (paste to n part j) (n + j) (getD part j 0)) i) place one)
+
+  -- the next bytes of b
+  pub part-more : (after : List ℕ) → after ≡ replacedIfRoom to n part → Copied s b 0 after (n + length part)
+  part-more after e =
+      let pasted : paste to n part (length part) ≡ after =
+      paste-replaces to n part (length part) refl ∙ replaced-if to n part roomy ∙ sym e in
+      subst (λ (l : List ℕ). Copied s b 0 l (n + length part)) pasted (bytes-more (length part) (omega arith))

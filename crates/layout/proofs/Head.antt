@@ -1,12 +1,14 @@
 -- Laws of the first ten bytes of a line and of a state: what stands at each place, and where the rest begins.
 -- Assumes nothing.
-use mathlib.Core.Path.{_≡_, refl, sym, ap, _∙_}
+use mathlib.Core.Path.{_≡_, refl, sym, ap, subst, _∙_}
 use mathlib.Core.List.{List, _∷_}
 use Prim.Native.Nat.{ℕ, suc, _+_, _-_, _≤_, _<_}
 use native.Mathlib.Omega.{arith}
-use lib.ListN.{length, getD, length-append, List·getD-append}
+use lib.ListN.{length, getD, set, length-append, List·getD-append}
 use lib.Seq.{getD-at}
+use Rattle.common.specs.Part.{replacedIfRoom}
 use Rattle.layout.specs.Each.{headed, restAt}
+use Rattle.layout.proofs.Copying.{Copied, nothing-put, byte-more, part-more}
 use Rattle.layout.proofs.Each.{past}
 
 module _ (posts : ℕ) (tracks : List ℕ) (trains : ℕ) (rest : List ℕ) where
@@ -36,7 +38,7 @@ module _ (posts : ℕ) (tracks : List ℕ) (trains : ℕ) (rest : List ℕ) wher
     unfolding headed
     length-headed = rw length-append (omega arith)
 
-    -- the same as the code has it
+    -- the same by the place
     pub track-there : (k : ℕ) → 0 < k → k < 9 → getD tracks (k - 1) 0 ≡ getD (headed posts tracks trains rest) k 0
     track-there k low high =
         let place : k ≡ suc (k - 1) = omega arith in
@@ -44,3 +46,17 @@ module _ (posts : ℕ) (tracks : List ℕ) (trains : ℕ) (rest : List ℕ) wher
 
     pub trains-there : (k : ℕ) → 9 ≤ k → k < restAt → trains ≡ getD (headed posts tracks trains rest) k 0
     trains-there k low high = let place : k ≡ 9 = omega arith in rw place (sym at-trains)
+
+    -- as the code writes them, byte by byte and the tracks at once
+    pub head-put : {s after to : List ℕ} → length (headed posts tracks trains rest) ≤ length s
+        → after ≡ replacedIfRoom (set s 0 posts) 1 tracks → to ≡ set after 9 trains
+        → Copied s (headed posts tracks trains rest) 0 to restAt
+    head-put {s} {after} h e f =
+        let b = headed posts tracks trains rest in
+        let first = byte-more (nothing-put s b h) refl (omega (arith, length-headed)) posts at-posts in
+        let next = part-more first tracks (omega (arith, length-headed))
+        (λ j k. sym (at-track j (omega arith)) ∙ ap (λ (m : ℕ). getD b m 0) (omega arith)) after e in
+        let nine : 0 + 1 + length tracks ≡ 9 = omega arith in
+        let last = byte-more (subst (λ (m : ℕ). Copied s b 0 after m) nine next) refl (omega (arith, length-headed))
+        trains (sym at-trains) in
+        rw f last

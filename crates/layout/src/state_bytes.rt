@@ -1,12 +1,13 @@
 // A state as 41 bytes: which bytes encode one, reading it and writing it.
 ghost use mathlib.Core.Path.{_≡_};
-ghost use Prim.Native.Nat.{_+_, _≤_, _<_};
-ghost use lib.ListN.{length, getD};
+ghost use Prim.Native.Nat.{_+_, _≤_};
+ghost use lib.ListN.{length};
 ghost use Rattle.rules.specs.State.{askedAs};
 ghost use Rattle.layout.specs.StateBytes.{stateLength, statusNo, trainBytes, stateBytes, encodesStatus};
 ghost use Rattle.layout.specs.StateBytes.{encodesState, statusOf, trainIn, tracksIn, fleetIn, stateIn};
 use crate::head_bytes::HEAD_LENGTH;
-use crate::head_bytes::head_byte;
+use crate::head_bytes::put_head;
+use crate::placing::put;
 use line::PostNo;
 use line::Route;
 use rules::State;
@@ -124,30 +125,15 @@ pub fn put_state(state: State, to: &mut [u8])
     requires { ⌜ length (now to) ≡ stateLength ⌝ }
     ensures { λ _. ⌜ now (to .exit) ≡ stateBytes state ⌝ }
 {
-    let mut k: usize = 0;
-    while k < STATE_LENGTH {
-        to[k] = state_byte(state, k);
-        k += 1;
+    let tracks = state.tracks;
+    put_head(state.posts, tracks, state.trains, to);
+    let mut t: usize = 0;
+    while t < 6 {
+        let bytes = train_bytes(state.fleet[t]);
+        put(&bytes, to, HEAD_LENGTH + TRAIN_LENGTH * t);
+        t += 1;
     }
-}
-
-// Byte k of them.
-fn state_byte(state: State, k: usize) -> u8
-    requires { ⌜ k < stateLength ⌝ }
-    ensures { λ r. ⌜ r ≡ getD (stateBytes state) k 0 ⌝ }
-{
-    if k < HEAD_LENGTH {
-        let tracks = state.tracks;
-        return head_byte(state.posts, tracks, state.trains, k);
-    }
-    if k == LOGGED_AT {
-        return state.logged;
-    }
-    let i = k - HEAD_LENGTH;
-    let t = i / TRAIN_LENGTH;
-    let j = i % TRAIN_LENGTH;
-    let bytes = train_bytes(state.fleet[t]);
-    bytes[j]
+    to[LOGGED_AT] = state.logged;
 }
 
 fn train_bytes(train: Train) -> [u8; TRAIN_LENGTH]
