@@ -1,6 +1,6 @@
 -- How the calls of the dispatcher's end come out, by the tests that the code makes.
 -- Assumes nothing.
-use mathlib.Core.Path.{_≡_, ap}
+use mathlib.Core.Path.{_≡_, sym, ap, _∙_}
 use mathlib.Core.Logic.{_≢_}
 use mathlib.Core.Bool.{true, false}
 use mathlib.Core.List.{List}
@@ -10,16 +10,19 @@ use borrow.Author.Tests.{eq-eqb, ne-eqb}
 use Rattle.line.specs.Refusal.{strangeState}
 use Rattle.line.specs.Book.{readBook, outcomeNumber}
 use Rattle.journal.specs.Journal.{appended}
+use Rattle.rules.specs.Answer.{Answer}
 use Rattle.rules.specs.Opening.{Opening, openingOf, openingWith}
 use Rattle.dispatcher.specs.Step.{Stepped}
-use Rattle.capi.specs.Types.{Reading, Opened, State, Outcome}
+use Rattle.capi.specs.Types.{Reading, Opened, State, Outcome, RefusedBy}
 use Rattle.capi.specs.Word.{wordOf}
 use Rattle.layout.specs.LineBytes.{lineLength, lineBytes}
 use Rattle.layout.specs.StateBytes.{stateLength, stateBytes, encodesState, stateIn}
 use Rattle.layout.specs.JournalBytes.{recordCount, recordsIn, withRecords}
 use Rattle.capi.specs.BoxCalls.{bookCall, readBookCall, OpenCall, openCallOf, openCall}
 use Rattle.capi.specs.BoxCalls.{verdictWord, answerCallOf, answerAfter, answerCall}
+use Rattle.capi.specs.HandedOn.{ruled}
 use Rattle.layout.proofs.Journals.{record-count}
+use Rattle.capi.proofs.HandedOn.{refused-answer, handed-on}
 
 -- ---- reading a book
 
@@ -71,3 +74,16 @@ module _ (state table journal frame out : List ℕ) where
   answered h s e o sent p log q after r w t =
       let same = rw e at (p .answers (recordsIn journal) (record-count journal)) in
       rw (t, r, q, h) (ap (answerAfter journal) same)
+
+  -- a refusal leaves all as it was, so that nothing is written
+  pub answer-refused : encodesState state ≡ true → (s : State) → s ≡ stateIn state
+      → (o : Outcome) (sent : List ℕ) → Stepped s table (recordCount (length journal)) frame out o sent
+      → (n : ℕ) → o .reply .verdict ≡ RefusedBy n → (w : ℕ) → w ≡ wordOf n 0
+      → answerCallOf w state journal sent ≡ answerCall state table journal frame out
+  answer-refused h s e o sent p n v w q =
+      let same = rw e at (p .answers (recordsIn journal) (record-count journal)) in
+      let is : ruled state table journal frame out .verdict ≡ RefusedBy n =
+      sym (ap (λ (a : Answer). a .verdict) same) ∙ v in
+      let quiet : sent ≡ out =
+      ap (λ (a : Answer). a .out) (same ∙ refused-answer (stateIn state) table (recordsIn journal) frame out n is) in
+      rw (q, quiet) (sym (handed-on .refused state table journal frame out h n is))

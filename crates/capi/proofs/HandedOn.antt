@@ -79,7 +79,7 @@ module _ (s : State) (table : List ℕ) (journal : List Record) (frame out : Lis
       let room = space (readFrame frame) (p .message) in
       length-replaced journal (s .logged) _ (rw length-map (omega (arith, k .few, p .long-journal))))
 
-  refused-answer : (n : ℕ) → answer s table journal frame out .verdict ≡ RefusedBy n
+  pub refused-answer : (n : ℕ) → answer s table journal frame out .verdict ≡ RefusedBy n
       → answer s table journal frame out ≡ record { state = s; verdict = RefusedBy n; journal = journal; out = out }
   refused-answer n =
       by-verdict s table journal frame out

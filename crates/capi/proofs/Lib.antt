@@ -1,5 +1,5 @@
--- The laws that the functions' proofs cite; `HandedOn` proves the claims of `specs/`.
+-- The laws that the functions' proofs cite; `HandedOn` and `CallRuns` prove the claims of `specs/`.
 pub mod UnitSteps
-pub mod BoxSteps
 pub mod HandedOn
+pub mod BoxSteps
 pub mod CallRuns

@@ -1,7 +1,7 @@
 // The dispatcher's end: a book is read or opened, a frame answered.
 ghost use mathlib.Core.Path.{_≡_};
 ghost use Rattle.capi.specs.BoxCalls.{bookCall, readBookCall, openCallOf, openCall};
-ghost use Rattle.capi.specs.BoxCalls.{answerCallOf, verdictWord, answerCall};
+ghost use Rattle.capi.specs.BoxCalls.{answerCallOf, answerCall};
 use crate::word::word_of;
 use layout::LINE_LENGTH;
 use layout::RECORD_LENGTH;
@@ -68,19 +68,15 @@ pub extern "C" fn quangevit_answer(
     let before = state_in(state);
     let outcome = dispatcher::step(before, table, journal.len() / RECORD_LENGTH, frame, out);
     let reply = outcome.reply;
-    let batch = outcome.batch;
-    append(journal, outcome.at, batch);
-    let after = reply.state;
-    put_state(after, state);
     let verdict = reply.verdict;
-    verdict_word(verdict)
-}
-
-fn verdict_word(verdict: Verdict) -> u32
-    ensures { λ r. ⌜ r ≡ verdictWord verdict ⌝ }
-{
     match verdict {
         Verdict::Refused(n) => word_of(n, 0),
-        Verdict::Sent(n) => word_of(0, n),
+        Verdict::Sent(n) => {
+            let batch = outcome.batch;
+            append(journal, outcome.at, batch);
+            let after = reply.state;
+            put_state(after, state);
+            word_of(0, n)
+        }
     }
 }

@@ -1,13 +1,14 @@
--- `quangevit_answer` meets its contract: the bytes encode no state, or the records of the step, its state and its
--- verdict are written as bytes.
+-- `quangevit_answer` meets its contract: the bytes encode no state; or the frame is refused, and nothing is written; or
+-- the records of the step and its state are written as bytes.
 -- Assumes nothing.
-use mathlib.Core.Path.{_≡_, sym, _∙_}
+use mathlib.Core.Path.{_≡_, sym, ap, _∙_}
 use mathlib.Core.Bool.{true}
 use denote.Ref.{now}
 use borrow.Author.Tests.{not-true, not-false}
 use Rattle.layout.specs.StateBytes.{encodesState}
 use Rattle.layout.proofs.Statuses.{encoded-length}
-use Rattle.capi.proofs.BoxSteps.{not-answered, answered}
+use Rattle.capi.specs.BoxCalls.{verdictWord}
+use Rattle.capi.proofs.BoxSteps.{not-answered, answered, answer-refused}
 use borrow.Author.Needs.{needs}
 use Rattle.capi.proofs.office.quangevit_answer.Statement.{statement}
 use Rattle.capi.proofs.office.quangevit_answer.Tie as tie
@@ -42,16 +43,34 @@ state-in-requires c κs = encoded-length _ (encoded (c .before))
 step-requires : tie.Need-step-requires
 step-requires c κs = search needs
 
+enum-known-verdict : tie.Need-enum-known-verdict
+enum-known-verdict c = search needs
+
+word-of-requires-2 : tie.Need-word-of-requires-2
+word-of-requires-2 c κs = search needs
+
+enum-known-verdict-2 : tie.Need-enum-known-verdict-2
+enum-known-verdict-2 c = search needs
+
 append-requires : tie.Need-append-requires
 append-requires c κs = search needs
 
+-- where the step was made
+module _ (c : tie.After-step) where
+  abbrev read : tie.After-state-in
+  read = c .before .before
+
+  abbrev tested : tie.Else1
+  tested = read .before .before
+
 put-state-requires : tie.Need-put-state-requires
 put-state-requires c κs =
-    let o = c .before .before .before .before .before .before .before .before .before .before in
-    encoded-length _ (encoded (o .before .before .before .before))
+    let l = c .before .before .before .before in
+    let v = l .before .before .before .before in
+    encoded-length _ (encoded (tested (v .before .before .before .before .before)))
 
-verdict-word-requires : tie.Need-verdict-word-requires
-verdict-word-requires c κs = search needs
+word-of-requires-3 : tie.Need-word-of-requires-3
+word-of-requires-3 c κs = search needs
 
 same-length-2 : tie.Need-same-length-2
 same-length-2 c = search needs
@@ -59,20 +78,34 @@ same-length-2 c = search needs
 same-length-3 : tie.Need-same-length-3
 same-length-3 c = search needs
 
+returns-2 : tie.Need-returns-2
+returns-2 c =
+    let v = c .before .before in
+    let o = v .before .before .before .before .before in
+    let a = from (tested o) .args in
+    answer-refused (now (a .state)) (now (a .table)) (now (a .journal)) (now (a .frame)) (now (a .out))
+    (encoded (tested o)) _ (read o .state-in .ensures) _ _ (o .step .ensures) _ (v .verdict .given .1) _
+    (c .word-of2 .ensures)
+
 same-length-4 : tie.Need-same-length-4
 same-length-4 c = search needs
 
-returns-2 : tie.Need-returns-2
-returns-2 c =
+same-length-5 : tie.Need-same-length-5
+same-length-5 c = search needs
+
+same-length-6 : tie.Need-same-length-6
+same-length-6 c = search needs
+
+returns-3 : tie.Need-returns-3
+returns-3 c =
     let p = c .before .before .before in
     let l = p .before .before .before .before .before in
-    let o = l .before .before .before .before .before .before in
-    let s = o .before .before in
-    let e = s .before .before in
-    let a = e .before .before .before .before .before .before .before .before .args in
-    answered (now (a .state)) (now (a .table)) (now (a .journal)) (now (a .frame)) (now (a .out)) (encoded e) _
-    (s .state-in .ensures) _ _ (o .step .ensures) _ (l .append .ensures) _ (p .put-state .ensures) _
-    (c .verdict-word .ensures)
+    let v = l .before .before .before .before in
+    let o = v .before .before .before .before .before in
+    let a = from (tested o) .args in
+    answered (now (a .state)) (now (a .table)) (now (a .journal)) (now (a .frame)) (now (a .out)) (encoded (tested o)) _
+    (read o .state-in .ensures) _ _ (o .step .ensures) _ (l .append .ensures) _ (p .put-state .ensures) _
+    (c .word-of3 .ensures ∙ ap verdictWord (sym (v .verdict2 .given .1)))
 
 pub quangevit-answer-spec : {M : Type 1} → statement M
 quangevit-answer-spec =
@@ -84,10 +117,16 @@ quangevit-answer-spec =
     returns
     state-in-requires
     step-requires
+    enum-known-verdict
+    word-of-requires-2
+    enum-known-verdict-2
     append-requires
     put-state-requires
-    verdict-word-requires
+    word-of-requires-3
     same-length-2
     same-length-3
+    returns-2
     same-length-4
-    returns-2)
+    same-length-5
+    same-length-6
+    returns-3)
