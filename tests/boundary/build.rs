@@ -1,4 +1,4 @@
-//! Links libcapi.a, which `rt staticlib capi` writes, from CAPI_DIR (a whole path) or else from
+//! Links libquangevit.a, which `rt staticlib quangevit` writes, from QUANGEVIT_DIR (a whole path) or else from
 //! target/staticlib.
 
 use std::env;
@@ -7,17 +7,17 @@ use std::process;
 
 fn main() {
     let here = PathBuf::from(env::var("CARGO_MANIFEST_DIR").unwrap());
-    let folder = match env::var("CAPI_DIR") {
+    let folder = match env::var("QUANGEVIT_DIR") {
         Ok(named) => PathBuf::from(named),
         Err(_) => here.join("../../target/staticlib"),
     };
-    let archive = folder.join("libcapi.a");
-    println!("cargo:rerun-if-env-changed=CAPI_DIR");
+    let archive = folder.join("libquangevit.a");
+    println!("cargo:rerun-if-env-changed=QUANGEVIT_DIR");
     println!("cargo:rerun-if-changed={}", archive.display());
     if !archive.exists() {
-        eprintln!("no {}: run `rt staticlib capi` first", archive.display());
+        eprintln!("no {}: run `rt staticlib quangevit` first", archive.display());
         process::exit(1);
     }
     println!("cargo:rustc-link-search=native={}", folder.display());
-    println!("cargo:rustc-link-lib=static=capi");
+    println!("cargo:rustc-link-lib=static=quangevit");
 }

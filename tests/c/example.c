@@ -2,8 +2,8 @@
  * The run of 01 from C: opens book X, answers eight frames that two drivers' units give, and prints
  * the journal. Exit status 0 where all went as the paper says, else 1.
  *
- *   rt staticlib capi
- *   cc -Wall -Wextra -I crates/capi tests/c/example.c target/staticlib/libcapi.a -o example
+ *   rt staticlib quangevit
+ *   cc -Wall -Wextra -I crates/quangevit tests/c/example.c target/staticlib/libquangevit.a -o example
  */
 #include <stdio.h>
 #include <string.h>

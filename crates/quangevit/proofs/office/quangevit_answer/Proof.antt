@@ -1,0 +1,132 @@
+-- `quangevit_answer` meets its contract: the bytes encode no state; or the frame is refused, and nothing is written; or
+-- the records of the step and its state are written as bytes.
+-- Assumes nothing.
+use mathlib.Core.Path.{_≡_, sym, ap, _∙_}
+use mathlib.Core.Bool.{true}
+use denote.Ref.{now}
+use borrow.Author.Tests.{not-true, not-false}
+use Rattle.layout.specs.StateBytes.{encodesState}
+use Rattle.layout.proofs.Statuses.{encoded-length}
+use Rattle.quangevit.specs.BoxCalls.{verdictWord}
+use Rattle.quangevit.proofs.BoxSteps.{not-answered, answered, answer-refused}
+use borrow.Author.Needs.{needs}
+use Rattle.quangevit.proofs.office.quangevit_answer.Statement.{statement}
+use Rattle.quangevit.proofs.office.quangevit_answer.Tie as tie
+
+encodes-state-requires : tie.Need-encodes-state-requires
+encodes-state-requires c κs = search needs
+
+word-of-requires : tie.Need-word-of-requires
+word-of-requires c κs = search needs
+
+same-length : tie.Need-same-length
+same-length c = search needs
+
+returns : tie.Need-returns
+returns c =
+    let e = c .before .before in
+    let a = e .before .before .before .before .before .before .before .args in
+    not-answered (now (a .state)) (now (a .table)) (now (a .journal)) (now (a .frame)) (now (a .out))
+    (sym (e .encodes-state .ensures) ∙ not-true _ (c .before .if1 .taken)) _ (c .word-of .ensures)
+
+-- the bytes encode a state
+module _ (c : tie.Else1) where
+  abbrev from : tie.Start
+  from = c .before .before .before .before .before .before .before .before
+
+  encoded : encodesState (now (from .args .state)) ≡ true
+  encoded = sym (c .before .encodes-state .ensures) ∙ not-false _ (c .if1 .left)
+
+state-in-requires : tie.Need-state-in-requires
+state-in-requires c κs = encoded-length _ (encoded (c .before))
+
+step-requires : tie.Need-step-requires
+step-requires c κs = search needs
+
+enum-known-verdict : tie.Need-enum-known-verdict
+enum-known-verdict c = search needs
+
+word-of-requires-2 : tie.Need-word-of-requires-2
+word-of-requires-2 c κs = search needs
+
+enum-known-verdict-2 : tie.Need-enum-known-verdict-2
+enum-known-verdict-2 c = search needs
+
+append-requires : tie.Need-append-requires
+append-requires c κs = search needs
+
+-- where the step was made
+module _ (c : tie.After-step) where
+  abbrev read : tie.After-state-in
+  read = c .before .before
+
+  abbrev tested : tie.Else1
+  tested = read .before .before
+
+put-state-requires : tie.Need-put-state-requires
+put-state-requires c κs =
+    let l = c .before .before .before .before in
+    let v = l .before .before .before .before in
+    encoded-length _ (encoded (tested (v .before .before .before .before .before)))
+
+word-of-requires-3 : tie.Need-word-of-requires-3
+word-of-requires-3 c κs = search needs
+
+same-length-2 : tie.Need-same-length-2
+same-length-2 c = search needs
+
+same-length-3 : tie.Need-same-length-3
+same-length-3 c = search needs
+
+returns-2 : tie.Need-returns-2
+returns-2 c =
+    let v = c .before .before in
+    let o = v .before .before .before .before .before in
+    let a = from (tested o) .args in
+    answer-refused (now (a .state)) (now (a .table)) (now (a .journal)) (now (a .frame)) (now (a .out))
+    (encoded (tested o)) _ (read o .state-in .ensures) _ _ (o .step .ensures) _ (v .verdict .given .1) _
+    (c .word-of2 .ensures)
+
+same-length-4 : tie.Need-same-length-4
+same-length-4 c = search needs
+
+same-length-5 : tie.Need-same-length-5
+same-length-5 c = search needs
+
+same-length-6 : tie.Need-same-length-6
+same-length-6 c = search needs
+
+returns-3 : tie.Need-returns-3
+returns-3 c =
+    let p = c .before .before .before in
+    let l = p .before .before .before .before .before in
+    let v = l .before .before .before .before in
+    let o = v .before .before .before .before .before in
+    let a = from (tested o) .args in
+    answered (now (a .state)) (now (a .table)) (now (a .journal)) (now (a .frame)) (now (a .out)) (encoded (tested o)) _
+    (read o .state-in .ensures) _ _ (o .step .ensures) _ (l .append .ensures) _ (p .put-state .ensures) _
+    (c .word-of3 .ensures ∙ ap verdictWord (sym (v .verdict2 .given .1)))
+
+pub quangevit-answer-spec : {M : Type 1} → statement M
+quangevit-answer-spec =
+    tie.close
+    (tie.spec
+    encodes-state-requires
+    word-of-requires
+    same-length
+    returns
+    state-in-requires
+    step-requires
+    enum-known-verdict
+    word-of-requires-2
+    enum-known-verdict-2
+    append-requires
+    put-state-requires
+    word-of-requires-3
+    same-length-2
+    same-length-3
+    returns-2
+    same-length-4
+    same-length-5
+    same-length-6
+    returns-3)
