@@ -1,4 +1,4 @@
-// One train's record, read: its status, its next post, what it holds and what it has travelled.
+// One train's record: its status, its next post and what it has travelled, and the record changed.
 ghost use mathlib.Core.Path.{_≡_};
 ghost use Prim.Native.Nat.{_<_};
 ghost use Rattle.line.specs.Route.{distance};
