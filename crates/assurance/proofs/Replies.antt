@@ -1,8 +1,8 @@
 -- What an accepted frame is answered by: what `Serving` says of the granting, told of the state before the frame.
 -- Assumes nothing.
 use mathlib.Core.Path.{_≡_, refl, sym, ap, _∙_}
-use mathlib.Core.Logic.{_≢_, inl, inr}
-use mathlib.Core.Bool.{true, false, false≢true}
+use mathlib.Core.Logic.{inl, inr}
+use mathlib.Core.Bool.{true, false≢true}
 use mathlib.Core.List.{List, [], _∷_}
 use Prim.Native.Nat.{ℕ, zero, suc, _+_, _*_, _<_}
 use native.Mathlib.Omega.{arith}
@@ -15,7 +15,7 @@ use Rattle.journal.specs.Journal.{recordOf}
 use Rattle.rules.specs.declared.state.Status.the-variants.{Asked}
 use Rattle.rules.specs.declared.state.Train.{Train}
 use Rattle.rules.specs.State.{isAsked, trainOf, nextMove, withStatus, arrivedNext}
-use Rattle.rules.specs.Granting.{Work, granted, settled}
+use Rattle.rules.specs.Granting.{Work, settled}
 use Rattle.rules.specs.Answer.{taken, declined, accepted, framesOf, sent, Answer, answer}
 use Rattle.rules.proofs.Trains.{changed-own, changed-other}
 use Rattle.rules.proofs.Changes.{short-place}

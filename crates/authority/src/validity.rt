@@ -1,12 +1,9 @@
 // Whether a state that is handed in is valid (01: sound): its counts, each train's record, each post
 // with its section, and the numbers of the requests.
 ghost use mathlib.Core.Path.{_≡_};
-ghost use mathlib.Core.Bool.{not, _&&_};
 ghost use Prim.Native.Nat.{_≤_, _<_};
 ghost use lib.Count.{ones};
-ghost use lib.Dec.{leb, ltb};
 ghost use Rattle.common.specs.Below.{allBelow};
-ghost use Rattle.line.specs.Line.{inRange};
 ghost use Rattle.rules.specs.State.{trainOf};
 ghost use Rattle.rules.specs.Valid.{trainValid, numberBelow, sameNumber, numberValid, valid};
 ghost use Rattle.authority.specs.Tests.{countsValid, onLine, recordValid, heldWithin, placeValid};

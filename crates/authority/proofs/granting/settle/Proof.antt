@@ -10,7 +10,7 @@ use denote.Ref.{now}
 use borrow.Author.Needs.{needs}
 use Rattle.authority.specs.Types.{TrainNo, Asker, Batch, State, Progress}
 use Rattle.rules.specs.Valid.{valid}
-use Rattle.rules.specs.Granting.{grantable, Work, log}
+use Rattle.rules.specs.Granting.{Work, log}
 use Rattle.authority.specs.Asking.{NextAsked}
 use Rattle.authority.specs.Progress.{progressWith}
 use Rattle.rules.proofs.Validity.{valid-facts}
