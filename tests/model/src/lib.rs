@@ -5,7 +5,6 @@
 //! number, 1 to 22; 0 stands for "not refused" where a number is returned.
 
 #![forbid(unsafe_code)]
-#![allow(clippy::needless_range_loop)]
 
 pub mod dispatcher;
 pub mod frame;

@@ -1,7 +1,6 @@
 //! Any input gets an answer: garbage states, units, books, frames, stores.
 
-mod common;
-use common::*;
+use crate::common::*;
 use model::*;
 
 /// A number that is often small, else anything.
@@ -161,24 +160,15 @@ fn states_of_all_sorts() {
 #[test]
 fn units_of_all_sorts() {
     let mut rng = Rng(0x0417);
-    let states = [
-        UnitState::Standing,
-        UnitState::Asked,
-        UnitState::Declined,
-        UnitState::Granted,
-        UnitState::UnderWay,
-        UnitState::Arrived,
-    ];
-    let buttons = [Button::Ask, Button::Depart, Button::Reached, Button::Report];
     for _ in 0..100_000 {
         let u = Unit {
             train: number(&mut rng),
             start: number(&mut rng),
             end: number(&mut rng),
             at: number(&mut rng),
-            state: states[rng.below(6) as usize],
+            state: STATES[rng.below(6) as usize],
         };
-        let (after, refusal, sent) = unit::press(&u, buttons[rng.below(4) as usize]);
+        let (after, refusal, sent) = unit::press(&u, BUTTONS[rng.below(4) as usize]);
         assert_eq!(refusal == 1, !unit::sound(&u));
         assert!(refusal == 0 || (after == u && sent.is_none()));
         assert!(refusal != 0 || unit::sound(&after));

@@ -1,6 +1,4 @@
-//! Helpers of the tests: the paper's books, frames, a small generator.
-
-#![allow(dead_code)]
+//! What the tests share: the paper's books, frames, a small generator.
 
 use model::*;
 
@@ -13,6 +11,17 @@ pub const FA: u8 = 1;
 pub const FE: u8 = 2;
 pub const AFE: u8 = 3;
 pub const AM: u8 = 4;
+
+/// What a unit can be in, and what can be pressed.
+pub const STATES: [UnitState; 6] = [
+    UnitState::Standing,
+    UnitState::Asked,
+    UnitState::Declined,
+    UnitState::Granted,
+    UnitState::UnderWay,
+    UnitState::Arrived,
+];
+pub const BUTTONS: [Button; 4] = [Button::Ask, Button::Depart, Button::Reached, Button::Report];
 
 pub fn frame(kind: u8, train: u8, from: u8, to: u8) -> [u8; 7] {
     [0, 5, 1, kind, train, from, to]

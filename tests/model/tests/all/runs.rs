@@ -1,8 +1,7 @@
 //! Random runs: demand 3 told by a tally that reads book, frames, answers and
 //! refusals only; each refusal and each answer against the tally as well.
 
-mod common;
-use common::*;
+use crate::common::*;
 use model::*;
 
 #[derive(Debug, Clone, Copy, PartialEq)]

@@ -1,7 +1,6 @@
-//! The vectors of the readings, and one for each wrong variant named there.
+//! Small inputs with what each must give, by subject. Every trap that the paper names has one.
 
-mod common;
-use common::*;
+use crate::common::*;
 use model::*;
 
 /// A table with only these bits set.
@@ -203,7 +202,7 @@ fn frames_read_back() {
     assert_eq!(read_frame(&[0, 5, 0, 1, 0, 0, 0]), Err(4));
 }
 
-// Part T.
+// The checks of a frame, in their order.
 
 #[test]
 fn precedence_on_x() {
@@ -233,9 +232,9 @@ fn precedence_on_x() {
     assert_eq!(b.put(&frame(AM, 0, 0, 0)), Err(8));
 }
 
-/// Point 25: 8 and 9 hold for AM too, and come before 10, 11 and 12.
+/// 8 and 9 hold for AM too, and come before 10, 11 and 12.
 #[test]
-fn point_25() {
+fn posts_before_standing() {
     let mut b = Box::open(&Y);
     assert!(b.put(&frame(FA, 2, 2, 1)).is_ok());
     assert_eq!(b.put(&frame(FA, 2, 2, 1)), Err(10));
@@ -260,9 +259,9 @@ fn point_25() {
 
 // Granting.
 
-/// Point 21: a later grant sets the bit that the older asker lacked.
+/// A later grant sets the bit that the older asker lacked.
 #[test]
-fn point_21() {
+fn a_grant_lets_an_older_train_go() {
     let mut b = Box::open(&[
         0x00, 0x0B, 0x01, 0x04, 0x02, 0x02, 0x02, 0x02, 0x02, 0x00, 0x01, 0x03, 0x02,
     ]);
@@ -433,9 +432,9 @@ fn six_frames_out() {
     assert_eq!(b.state.journal, 175);
 }
 
-/// Point 26: 13 from count 170 on, last of all checks, also for AM.
+/// 13 from count 170 on, last of all checks, also for AM.
 #[test]
-fn point_26() {
+fn full_from_170_records_on() {
     for count in 0..=255u8 {
         let trains = [(0, 1, Standing::Free), (2, 1, Standing::Running)];
         for length in [176, 300] {
@@ -460,7 +459,7 @@ fn point_26() {
     }
 }
 
-/// Points 27, 32: 1, then 2, then the frame.
+/// 1, then 2, then the frame.
 #[test]
 fn strange_then_short_then_torn() {
     let b = Box::open(&X);
@@ -568,7 +567,7 @@ fn sound_states() {
     assert!(!sound(&State::EMPTY));
 }
 
-/// Point 19: places not read neither change an answer nor are changed.
+/// Places not read neither change an answer nor are changed.
 #[test]
 fn unread_places() {
     let clean = Box::open(&X);
@@ -628,17 +627,7 @@ fn unit_making() {
     assert_eq!(unit::hear(&empty, &[]), (empty, 1));
 }
 
-const STATES: [UnitState; 6] = [
-    UnitState::Standing,
-    UnitState::Asked,
-    UnitState::Declined,
-    UnitState::Granted,
-    UnitState::UnderWay,
-    UnitState::Arrived,
-];
-const BUTTONS: [Button; 4] = [Button::Ask, Button::Depart, Button::Reached, Button::Report];
-
-/// Every button in every state, short of the end and at it (points 40, 43).
+/// Every button in every state, short of the end and at it.
 #[test]
 fn unit_buttons() {
     for state in STATES {
@@ -682,7 +671,7 @@ fn unit_buttons() {
     assert_eq!(unit::press(&parked, Button::Ask), (parked, 8, None));
 }
 
-/// Every kind of frame in every state (points 41, 42, 44).
+/// Every kind of frame in every state.
 #[test]
 fn unit_hearing() {
     for state in STATES {
@@ -796,7 +785,7 @@ fn after_x(rest: &[u8]) -> String {
     printed(&[&X[..], rest].concat())
 }
 
-/// Points 47, 48, 49.
+/// A book is two bytes and as many as they name, at most 25 in all, or what there is.
 #[test]
 fn program_books() {
     assert_eq!(printed(&[]), "book 14\n");
@@ -827,7 +816,7 @@ fn program_books() {
     assert_eq!(printed(&short), "end 0 1\n");
 }
 
-/// Points 50, 51: rests and frames of seven bytes.
+/// Frames are cut every seven bytes, and a shorter rest is one torn frame.
 #[test]
 fn program_frames() {
     assert_eq!(after_x(&[]), "end 0 0\n");
@@ -870,7 +859,7 @@ impl std::io::Read for Fitful<'_> {
     }
 }
 
-/// Point 56: an error is the end of the input, and stays it.
+/// An error is the end of the input, and stays it.
 #[test]
 fn program_reading() {
     let ask = frame(FA, 0, 0, 1);

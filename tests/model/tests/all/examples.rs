@@ -1,7 +1,6 @@
 //! Examples A to L of the paper and its printed run.
 
-mod common;
-use common::*;
+use crate::common::*;
 use model::*;
 
 #[test]

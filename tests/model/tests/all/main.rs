@@ -1,0 +1,8 @@
+//! The tests of the model, by subject.
+
+mod common;
+mod examples;
+mod runs;
+mod table;
+mod total;
+mod vectors;
