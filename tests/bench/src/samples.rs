@@ -1,8 +1,7 @@
 //! Frames to be answered, each with the state that it meets, taken from runs by the model.
 
-use model::{
-    answer, open, Record, Standing, State, Verdict, JOURNAL_RECORDS, OUT_BYTES, TABLE_BYTES,
-};
+use corpus::crews::{all_home, Crews};
+use model::{answer, open, Record, State, Verdict, JOURNAL_RECORDS, OUT_BYTES, TABLE_BYTES};
 
 /// What comes of a frame.
 #[derive(Clone, Copy, PartialEq)]
@@ -40,13 +39,13 @@ pub fn samples(book: &[u8], class: Class) -> Vec<Sample> {
     let mut journal = vec![Record::BLANK; JOURNAL_RECORDS];
     let (opened, _) = open(book, &mut table, &journal);
     for seed in 1..=RUNS {
-        let mut crews = Random(seed * 7919);
+        let mut crews = Crews::new(seed * 7919);
         let mut state = opened;
         for _ in 0..MOST_FRAMES {
             if all_home(&state) {
                 break;
             }
-            let frame = crews_frame(&state, &mut crews);
+            let frame = crews.frame(&state);
             let mut out = [0; OUT_BYTES];
             let (after, verdict) = answer(&state, &table, &mut journal, &frame, &mut out);
             let class = class_of(verdict, &frame, &out);
@@ -69,39 +68,5 @@ fn class_of(verdict: Verdict, frame: &[u8], out: &[u8]) -> Class {
         // A run asks one by one, so the last answer to an FA is its own.
         Verdict::Sent(n) if n > 0 && out[7 * (n - 1) + 3] == 3 => Class::Declined,
         Verdict::Sent(_) => Class::Granted,
-    }
-}
-
-fn all_home(state: &State) -> bool {
-    let trains = &state.train[..usize::from(state.trains)];
-    trains.iter().all(|train| train.at == train.end)
-}
-
-/// What some crew sends next; every eighth frame has one byte altered.
-fn crews_frame(state: &State, crews: &mut Random) -> [u8; 7] {
-    let t = crews.below(state.trains.into()) as usize;
-    let train = state.train[t];
-    let kind = if train.standing == Standing::Running {
-        4
-    } else {
-        1
-    };
-    let to = train.next().unwrap_or(train.at);
-    let mut frame = [0, 5, 1, kind, t as u8, train.at, to];
-    if crews.below(8) == 0 {
-        frame[crews.below(7) as usize] = crews.below(256) as u8;
-    }
-    frame
-}
-
-/// Pseudo-random numbers (xorshift).
-struct Random(u64);
-
-impl Random {
-    fn below(&mut self, n: u64) -> u64 {
-        self.0 ^= self.0 << 13;
-        self.0 ^= self.0 >> 7;
-        self.0 ^= self.0 << 17;
-        self.0 % n
     }
 }

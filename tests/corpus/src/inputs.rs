@@ -1,8 +1,7 @@
 //! Every input by name: refused books, refused frames, torn tails, and whole runs.
 
-use model::{
-    answer, open, Message, Move, Record, Standing, State, JOURNAL_RECORDS, OUT_BYTES, TABLE_BYTES,
-};
+use crate::crews::{all_home, Crews};
+use model::{answer, open, Record, JOURNAL_RECORDS, OUT_BYTES, TABLE_BYTES};
 
 type Input = (String, Vec<u8>);
 
@@ -228,7 +227,7 @@ fn runs() -> Vec<Input> {
     let mut inputs = Vec::new();
     for (name, book) in &lines {
         for seed in 1..=6 {
-            let mut crews = Random(seed * 7919);
+            let mut crews = Crews::new(seed * 7919);
             inputs.push(named(
                 &format!("run-{name}-{seed}"),
                 run_home(book, &mut crews),
@@ -236,7 +235,7 @@ fn runs() -> Vec<Input> {
         }
     }
     for seed in 1..=6 {
-        let mut crews = Random(seed * 104_729);
+        let mut crews = Crews::new(seed * 104_729);
         let book = random_book(&mut crews);
         inputs.push(named(
             &format!("run-random-{seed}"),
@@ -247,7 +246,7 @@ fn runs() -> Vec<Input> {
 }
 
 /// A random book that opens.
-fn random_book(crews: &mut Random) -> Vec<u8> {
+fn random_book(crews: &mut Crews) -> Vec<u8> {
     loop {
         let posts = 3 + crews.below(6) as u8;
         let tracks: Vec<u8> = (0..posts).map(|_| 1 + crews.below(4) as u8).collect();
@@ -272,53 +271,16 @@ fn random_book(crews: &mut Random) -> Vec<u8> {
     }
 }
 
-fn run_home(book: &[u8], crews: &mut Random) -> Vec<u8> {
+fn run_home(book: &[u8], crews: &mut Crews) -> Vec<u8> {
     let mut input = book.to_vec();
     let mut table = vec![0; TABLE_BYTES];
     let mut journal = vec![Record::BLANK; JOURNAL_RECORDS];
     let (mut state, _) = open(book, &mut table, &journal);
     while !all_home(&state) {
-        let frame = crews_frame(&state, crews);
+        let frame = crews.frame(&state);
         let mut out = [0; OUT_BYTES];
         state = answer(&state, &table, &mut journal, &frame, &mut out).0;
         input.extend(frame);
     }
     input
-}
-
-fn all_home(state: &State) -> bool {
-    (0..state.trains as usize).all(|t| state.train[t].at == state.train[t].end)
-}
-
-/// What some crew sends next: mostly what it should, now and then a stray frame.
-fn crews_frame(state: &State, crews: &mut Random) -> Vec<u8> {
-    let number = crews.below(state.trains.into()) as u8;
-    let train = state.train[number as usize];
-    let to = train.next().unwrap_or(train.at);
-    let m = Move {
-        train: number,
-        from: train.at,
-        to,
-    };
-    let message = match train.standing {
-        Standing::Running => Message::Am(m),
-        Standing::Free | Standing::Asked(_) => Message::Fa(m),
-    };
-    let mut bytes = model::write_frame(message).to_vec();
-    if crews.below(8) == 0 {
-        bytes[crews.below(7) as usize] = crews.below(256) as u8;
-    }
-    bytes
-}
-
-/// A small generator of pseudo-random numbers (xorshift).
-struct Random(u64);
-
-impl Random {
-    fn below(&mut self, n: u64) -> u64 {
-        self.0 ^= self.0 << 13;
-        self.0 ^= self.0 >> 7;
-        self.0 ^= self.0 << 17;
-        self.0 % n
-    }
 }

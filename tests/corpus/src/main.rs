@@ -5,8 +5,7 @@
 //!
 //! Inputs are a book and frames as the program reads them. Random ones have fixed seeds.
 
-mod inputs;
-
+use corpus::inputs;
 use std::path::Path;
 use std::{env, fs, process};
 
