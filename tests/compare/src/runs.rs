@@ -28,8 +28,7 @@ pub fn whole(
     pair.counts.input("run: from an opened book");
     for _ in 0..LONGEST_RUN {
         put_any(pair, &mut desk, table, random)?;
-        // A few frames more, which have to be refused.
-        if none_goes_on(desk.state()) && random.one_in(3) {
+        if is_over(&desk, random) {
             break;
         }
     }
@@ -58,7 +57,7 @@ pub fn handed_in(
     let mut desk = Desk::new(&state, journal, random);
     for _ in 0..1 + random.below(12) {
         put_any(pair, &mut desk, table, random)?;
-        if none_goes_on(desk.state()) && random.one_in(3) {
+        if is_over(&desk, random) {
             break;
         }
     }
@@ -78,7 +77,7 @@ pub fn with_units(
     pair.counts.input("run: with units");
     for _ in 0..LONGEST_RUN {
         step_with_units(pair, &mut desk, &mut units, table, random)?;
-        if none_goes_on(desk.state()) && random.one_in(3) {
+        if is_over(&desk, random) {
             break;
         }
     }
@@ -123,9 +122,11 @@ fn all_home(state: &[u8]) -> bool {
     trains_of(state).all(|place| place[1] == place[2])
 }
 
-/// Every train is home or Asked: no frame can be accepted any more.
-fn none_goes_on(state: &[u8]) -> bool {
-    trains_of(state).all(|place| place[1] == place[2] || place[3] == 1)
+/// Every train is home or Asked, and no frame can be accepted any more. Two times in three the run
+/// goes on all the same, with a frame that has to be refused.
+fn is_over(desk: &Desk, random: &mut Random) -> bool {
+    let waits = |place: &[u8]| place[1] == place[2] || place[3] == 1;
+    trains_of(desk.state()).all(waits) && random.one_in(3)
 }
 
 fn make_units(pair: &mut Pair, state: &[u8], random: &mut Random) -> Compared<Vec<Lent>> {

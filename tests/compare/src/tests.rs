@@ -89,6 +89,12 @@ impl Ends for Altered {
     }
 }
 
+/// A run that is too short to reach everything.
+const SHORT: Options = Options {
+    seed: 3,
+    frames: 500,
+};
+
 /// The entry points, each with the number of buffers that it may write to.
 const WRITTEN: [(Entry, usize); 6] = [
     (Entry::ReadBook, 1),
@@ -107,11 +113,7 @@ fn seen(entry: Entry, place: Place, last_byte: bool) -> bool {
         calls_left: Cell::new(3),
     };
     let mut pair = Pair::new(Box::new(altered), Box::new(Model));
-    let options = Options {
-        seed: 3,
-        frames: 500,
-    };
-    all(&mut pair, &options).is_err()
+    all(&mut pair, &SHORT).is_err()
 }
 
 #[test]
@@ -132,22 +134,14 @@ fn one_altered_bit_is_seen() {
 #[test]
 fn the_model_agrees_with_itself() {
     let mut pair = Pair::new(Box::new(Model), Box::new(Model));
-    let options = Options {
-        seed: 3,
-        frames: 500,
-    };
-    assert!(all(&mut pair, &options).is_ok());
+    assert!(all(&mut pair, &SHORT).is_ok());
 }
 
 /// Too short a run is not taken for a good one.
 #[test]
 fn what_is_never_reached_fails() {
     let mut pair = Pair::new(Box::new(Model), Box::new(Model));
-    let options = Options {
-        seed: 3,
-        frames: 500,
-    };
-    assert!(all(&mut pair, &options).is_ok());
+    assert!(all(&mut pair, &SHORT).is_ok());
     let failings = pair.counts.failings();
     assert!(
         failings.contains(&"never 6 frames sent".to_string()),
