@@ -15,7 +15,10 @@ fn main() {
     println!("cargo:rerun-if-env-changed=QUANGEVIT_DIR");
     println!("cargo:rerun-if-changed={}", archive.display());
     if !archive.exists() {
-        eprintln!("no {}: run `rt staticlib quangevit` first", archive.display());
+        eprintln!(
+            "no {}: run `rt staticlib quangevit` first",
+            archive.display()
+        );
         process::exit(1);
     }
     println!("cargo:rustc-link-search=native={}", folder.display());
