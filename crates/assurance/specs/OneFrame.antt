@@ -25,7 +25,8 @@ ValidKept = (s : State) (table : List ℕ) (journal : List Record) (frame out : 
 abbrev pub RefusalsChangeNothing : Type 0
 RefusalsChangeNothing = (s : State) (table : List ℕ) (journal : List Record) (frame out : List ℕ) (n : ℕ)
     → answer s table journal frame out .verdict ≡ RefusedBy n
-    → answer s table journal frame out ≡ record { state = s; verdict = RefusedBy n; journal = journal; out = out }
+    → answer s table journal frame out
+    ≡ record { state = s; verdict = RefusedBy n; number = n; frames = 0; journal = journal; out = out }
 
 -- "At most 6 frames go out"
 abbrev pub AtMostSix : Type 0

@@ -145,4 +145,4 @@ module _ (s : State) (table : List ℕ) (count : ℕ) (frame out : List ℕ) (nu
           }
         where
           made : State → ℕ → List Record → List ℕ → Answer
-          made t n j b = record { state = t; verdict = Sent n; journal = j; out = b }
+          made t n j b = record { state = t; verdict = Sent n; number = 0; frames = n; journal = j; out = b }

@@ -2,13 +2,13 @@
 -- bytes. Then the loop that writes a batch.
 -- Assumes nothing.
 use mathlib.Core.Path.{_≡_, refl, sym, ap, _∙_}
-use mathlib.Core.List.{List}
+use mathlib.Core.List.{List, _++_}
 use Prim.Native.Nat.{ℕ, zero, suc, _+_, _*_, _-_, _/_, _%_, _≤_, _<_}
 use native.Mathlib.Nat.{add-zero, mul-div-le}
 use native.Mathlib.Numerals.{add-one}
 use native.Mathlib.Omega.{arith}
-use lib.ListN.{length, getD, set, take, length-append, length-drop, take-append-drop}
-use lib.Seq.{paste, paste-zero, paste-suc, length-paste, length-take-le, getD-take, ext-getD}
+use lib.ListN.{length, getD, set, take, drop, length-append, length-drop, take-append-drop}
+use lib.Seq.{paste, paste-zero, paste-suc, length-paste, length-take-le, getD-take, ext-getD, drop-at}
 use Rattle.common.specs.Part.{replaced, replacedIfRoom}
 use Rattle.common.proofs.Part.{replaced-if}
 use Rattle.common.proofs.Tests.{by-order}
@@ -70,6 +70,14 @@ module _ (b : List ℕ) where
     length-with =
         rw (length-append, length-each recordBytes recordLength (λ r. refl) j, size, length-drop)
         (omega (arith, whole))
+
+    -- other records in the place of these
+    pub with-again : (k : List Record) → withRecords (withRecords b j) k ≡ withRecords b k
+    unfolding withRecords
+    with-again k =
+        let wide = length-each recordBytes recordLength (λ r. refl) j ∙ ap (λ (n : ℕ). recordLength * n) size in
+        ap (λ (n : ℕ). each recordBytes k ++ drop (recordLength * recordCount n) (withRecords b j)) length-with
+        ∙ ap (λ (l : List ℕ). each recordBytes k ++ l) (drop-at (each recordBytes j) _ (recordLength * count) wide)
 
     set-there : (i : ℕ) (r : Record) → i < length j
         → replaced (withRecords b j) (recordLength * i) (recordBytes r) ≡ withRecords b (set j i r)

@@ -10,19 +10,20 @@ use borrow.Author.Tests.{eq-eqb, ne-eqb}
 use Rattle.line.specs.Refusal.{strangeState}
 use Rattle.line.specs.Book.{readBook, outcomeNumber}
 use Rattle.journal.specs.Journal.{appended}
-use Rattle.rules.specs.Answer.{Answer}
+use Rattle.rules.specs.Answer.{verdictNumber, verdictFrames, Answer}
 use Rattle.rules.specs.Opening.{Opening, openingOf, openingWith}
 use Rattle.dispatcher.specs.Step.{Stepped}
-use Rattle.quangevit.specs.Types.{Reading, Opened, State, Outcome, RefusedBy}
+use Rattle.quangevit.specs.Types.{Reading, Opened, State, Verdict, Outcome, RefusedBy}
 use Rattle.quangevit.specs.Word.{wordOf}
 use Rattle.layout.specs.LineBytes.{lineLength, lineBytes}
 use Rattle.layout.specs.StateBytes.{stateLength, stateBytes, encodesState, stateIn}
 use Rattle.layout.specs.JournalBytes.{recordCount, recordsIn, withRecords}
 use Rattle.quangevit.specs.BoxCalls.{bookCall, readBookCall, OpenCall, openCallOf, openCall}
-use Rattle.quangevit.specs.BoxCalls.{verdictWord, answerCallOf, answerAfter, answerCall}
+use Rattle.quangevit.specs.BoxCalls.{answerCallOf, answerAfter, answerCall}
 use Rattle.quangevit.specs.HandedOn.{ruled}
+use Rattle.rules.proofs.Acceptance.{refusal-leaves}
 use Rattle.layout.proofs.Journals.{record-count}
-use Rattle.quangevit.proofs.HandedOn.{refused-answer, handed-on}
+use Rattle.quangevit.proofs.HandedOn.{handed-on}
 
 -- ---- reading a book
 
@@ -59,6 +60,10 @@ module _ (book state table journal : List ℕ) where
 
 -- ---- the answer to a frame
 
+-- the word of a verdict
+abbrev pub verdictWord : Verdict → ℕ
+verdictWord v = wordOf (verdictNumber v) (verdictFrames v)
+
 module _ (state table journal frame out : List ℕ) where
   pub not-answered : encodesState state ≡ false → (w : ℕ) → w ≡ wordOf strangeState 0
       → answerCallOf w state journal out ≡ answerCall state table journal frame out
@@ -85,5 +90,5 @@ module _ (state table journal frame out : List ℕ) where
       let is : ruled state table journal frame out .verdict ≡ RefusedBy n =
       sym (ap (λ (a : Answer). a .verdict) same) ∙ v in
       let quiet : sent ≡ out =
-      ap (λ (a : Answer). a .out) (same ∙ refused-answer (stateIn state) table (recordsIn journal) frame out n is) in
+      ap (λ (a : Answer). a .out) (same ∙ refusal-leaves (stateIn state) table (recordsIn journal) frame out n is) in
       rw (q, quiet) (sym (handed-on .refused state table journal frame out h n is))

@@ -1,34 +1,40 @@
--- A list of calls is a run of the rules: call by call, by what each leaves (`HandedOn`), and since a word says which
--- verdict it was: a refusal's number is not 0 and fits in the low byte.
+-- The claims of `specs/CallRuns`. A list of calls is a run of the rules: call by call, by what each leaves
+-- (`HandedOn`), and since a word says which verdict it was: a refusal's number is not 0 and fits in the low byte. A
+-- refused opening leaves bytes of another length than a state's, or the empty state, which is not valid.
 -- Assumes nothing.
 use mathlib.Core.Path.{_≡_, refl, sym, ap, subst, _∙_}
 use mathlib.Core.Logic.{_≢_}
-use mathlib.Core.Bool.{Bool, true, _&&_}
+use mathlib.Core.Bool.{Bool, true, false, _&&_}
 use mathlib.Core.List.{List, [], _∷_}
 use Prim.Native.Nat.{ℕ, _+_, _*_, _/_, _%_, _<_}
 use native.Mathlib.Omega.{arith}
 use lib.Dec.{eqb, ltb}
 use lib.ListN.{length}
 use borrow.Author.Tests.{eqb-true, ltb-true, eq-eqb, ne-eqb}
-use Rattle.common.specs.Check.{Check, refusal}
+use Rattle.common.specs.Check.{Check, refusal, unlessRefused}
 use Rattle.common.proofs.Tests.{by-cases, by-equality, and-left, and-right}
 use Rattle.common.proofs.Check.{accepts, refuses}
+use Rattle.line.specs.Refusal.{strangeState}
+use Rattle.line.specs.Line.{wellFormed}
 use Rattle.line.specs.Book.{lineOf}
 use Rattle.frame.specs.Frame.{readFrame}
 use Rattle.rules.specs.Answer.{frameChecks, accepted, answered, refused, answer}
-use Rattle.rules.specs.Opening.{opening}
+use Rattle.rules.specs.Valid.{valid}
+use Rattle.rules.specs.Opening.{Opening, emptyState, openingWith, opening}
 use Rattle.assurance.specs.Run.{Input, Exchange, Ran, exchange, run}
 use Rattle.assurance.specs.Observer.{atOpening, observe}
 use Rattle.assurance.specs.WholeList.{Assured}
 use Rattle.assurance.proofs.WholeList.{whole-list}
 use Rattle.layout.specs.StateBytes.{stateLength, encodesState, stateIn}
-use Rattle.layout.specs.JournalBytes.{recordsIn}
-use Rattle.layout.proofs.Journals.{record-count}
+use Rattle.layout.specs.JournalBytes.{recordCount, recordsIn, withRecords}
+use Rattle.layout.proofs.Journals.{record-count, own-records, with-again}
 use Rattle.quangevit.specs.Types.{Record, State, Verdict, Sent, RefusedBy}
-use Rattle.quangevit.specs.BoxCalls.{openCall, AnswerCall, verdictWord, answerAfter, answerCall}
+use Rattle.quangevit.specs.Word.{wordOf}
+use Rattle.quangevit.specs.BoxCalls.{OpenCall, openCall, AnswerCall, answerCallOf, answerAfter, answerCall}
 use Rattle.quangevit.specs.HandedOn.{ReadAs, ruled}
-use Rattle.quangevit.specs.CallRuns.{verdictIn, exchangeOf, calls, decoded, CallRuns}
-use Rattle.quangevit.proofs.HandedOn.{handed-on}
+use Rattle.quangevit.specs.CallRuns.{verdictIn, exchangeOf, calls, decoded, AsRun, CallRuns}
+use Rattle.quangevit.proofs.HandedOn.{either, answer-records, handed-on}
+use Rattle.quangevit.proofs.BoxSteps.{not-opened, not-answered}
 
 -- ---- the verdict, read from the word
 
@@ -44,17 +50,17 @@ refusal-below b (c ∷ cs) h k = by-cases (c .passes)
     (λ p. rw p (refusal-below b cs h (and-right (ltb (c .number) b) (numbersBelow b cs) k)))
     (λ p. rw p (ltb-true (c .number) b (and-left (ltb (c .number) b) (numbersBelow b cs) k)))
 
-refused-word : (n : ℕ) → n ≢ 0 → n < 256 → verdictIn (verdictWord (RefusedBy n)) ≡ RefusedBy n
+refused-word : (n : ℕ) → n ≢ 0 → n < 256 → verdictIn (wordOf n 0) ≡ RefusedBy n
 refused-word n h k = let low : (n + 256 * 0) % 256 ≡ n = omega arith in rw (low, ne-eqb n 0 h)
 
-sent-word : (n : ℕ) → verdictIn (verdictWord (Sent n)) ≡ Sent n
+sent-word : (n : ℕ) → verdictIn (wordOf 0 n) ≡ Sent n
 sent-word n =
     let low : (0 + 256 * n) % 256 ≡ 0 = omega arith in
     let high : (0 + 256 * n) / 256 ≡ n = omega arith in
     rw (low, high)
 
 verdict-read : (s : State) (table : List ℕ) (journal : List Record) (frame out : List ℕ)
-    → let v = answer s table journal frame out .verdict in verdictIn (verdictWord v) ≡ v
+    → let a = answer s table journal frame out in verdictIn (wordOf (a .number) (a .frames)) ≡ a .verdict
 unfolding answer
 verdict-read s table journal frame out =
     let cs = frameChecks s (length table) (length journal) frame (length out) in
@@ -78,6 +84,22 @@ unfolding calls
 calls-encode table [] state journal h = h
 calls-encode table (i ∷ is) state journal h =
     calls-encode table is _ _ (handed-on .answered state table journal (i .frame) (i .out) h .state .encodes)
+
+calls-rest : (table : List ℕ) (is : List Input) (state journal : List ℕ) → encodesState state ≡ true
+    → let c = calls table state journal is in c .journal ≡ withRecords journal (recordsIn (c .journal))
+unfolding calls
+calls-rest table [] state journal h = sym (own-records journal)
+calls-rest table (i ∷ is) state journal h =
+    let c = answerCall state table journal (i .frame) (i .out) in
+    let a = ruled state table journal (i .frame) (i .out) in
+    let new = recordsIn (calls table (c .state) (c .journal) is .journal) in
+    let left = handed-on .answered state table journal (i .frame) (i .out) h in
+    let first : c .journal ≡ withRecords journal (a .journal) =
+    ap (λ (d : AnswerCall). d .journal) (call-is state table journal (i .frame) (i .out) h) in
+    let size = answer-records (stateIn state) table (recordsIn journal) (i .frame) (i .out) ∙ record-count journal in
+    calls-rest table is (c .state) (c .journal) (left .state .encodes)
+    ∙ ap (λ (b : List ℕ). withRecords b new) first
+    ∙ with-again journal (a .journal) size new
 
 -- one exchange more
 abbrev more : Exchange → Ran → Ran
@@ -103,6 +125,12 @@ calls-run table (i ∷ is) state journal h =
 
 -- ---- after an opening
 
+open-number : (book state table journal : List ℕ) → length state ≡ stateLength
+    → openCall book state table journal .answer
+    ≡ wordOf (openingWith book table (recordCount (length journal)) .number) 0
+unfolding openCall
+open-number book state table journal h = rw (eq-eqb (length state) stateLength h)
+
 module _ (book state table journal : List ℕ) (e : openCall book state table journal .answer ≡ 0) where
   sized : length state ≡ stateLength
   unfolding openCall
@@ -111,8 +139,7 @@ module _ (book state table journal : List ℕ) (e : openCall book state table jo
       (λ q. absurd (let z = rw q at e in omega arith))
 
   opens : opening book table (recordsIn journal) .number ≡ 0
-  unfolding openCall
-  opens = rw (record-count journal) (let z = rw (eq-eqb (length state) stateLength sized) at e in omega arith)
+  opens = rw (record-count journal) (let z = sym (open-number book state table journal sized) ∙ e in omega arith)
 
   same-table : openCall book state table journal .table ≡ opening book table (recordsIn journal) .table
   unfolding openCall
@@ -132,14 +159,64 @@ module _ (book state table journal : List ℕ) (e : openCall book state table jo
       ∙ ap (λ (s : State). run (c .table) s (recordsIn journal) inputs) (read .is)
       ∙ ap (λ (z : List ℕ). run z (o .state) (recordsIn journal) inputs) same-table
 
-pub call-runs : CallRuns
-call-runs book state table journal inputs e =
+opened : (book state table journal : List ℕ) (inputs : List Input)
+    → let o = openCall book state table journal in
+    o .answer ≡ 0 → AsRun book table journal inputs (calls (o .table) (o .state) journal inputs)
+opened book state table journal inputs e =
     let l = lineOf book in
+    let start = read book state table journal e .encodes in
     let same = same-run book state table journal e inputs in
     record {
       accepted = opens book state table journal e;
-      encodes = calls-encode _ inputs _ journal (read book state table journal e .encodes);
+      encodes = calls-encode _ inputs _ journal start;
       same = same;
+      rest = calls-rest _ inputs _ journal start;
       assured = subst (λ (r : Ran). Assured l r (observe (atOpening l) (r .exchanges))) (sym same)
           (whole-list book table (recordsIn journal) inputs (opens book state table journal e));
     }
+
+-- ---- after a refused opening
+
+refused-empty : (book table : List ℕ) (n : ℕ) → openingWith book table n .number ≢ 0
+    → openingWith book table n .state ≡ emptyState
+unfolding openingWith
+refused-empty book table n =
+    either (λ (o : Opening). o .number ≢ 0 → o .state ≡ emptyState) _ _ _ (λ h. absurd (h refl)) (λ k h. refl)
+
+-- the empty state is not valid, so that every frame is refused by 1
+empty-strange : (table : List ℕ) (journal : List Record) (frame out : List ℕ)
+    → answer emptyState table journal frame out .verdict ≡ RefusedBy strangeState
+unfolding answer unlessRefused refusal valid wellFormed
+empty-strange table journal frame out = refl
+
+other-length : (b : List ℕ) → length b ≢ stateLength → encodesState b ≡ false
+unfolding encodesState
+other-length b h = rw (ne-eqb (length b) stateLength h)
+
+module _ (book state table journal frame out : List ℕ) where
+  abbrev ShutBy : OpenCall → Type 0
+  ShutBy o = answerCall (o .state) (o .table) journal frame out
+      ≡ answerCallOf (wordOf strangeState 0) (o .state) journal out
+
+  shut-by-length : length state ≢ stateLength → ShutBy (openCall book state table journal)
+  shut-by-length h =
+      subst ShutBy (not-opened book state table journal h _ refl)
+      (sym (not-answered state table journal frame out (other-length state h) _ refl))
+
+  shut-by-book : length state ≡ stateLength → openCall book state table journal .answer ≢ 0
+      → ShutBy (openCall book state table journal)
+  shut-by-book sized h =
+      let o = openCall book state table journal in
+      let n = recordCount (length journal) in
+      let left = handed-on .opened book state table journal sized in
+      let empty : stateIn (o .state) ≡ emptyState =
+      left .is ∙ refused-empty book table n (λ z. h (open-number book state table journal sized ∙ rw z)) in
+      handed-on .refused (o .state) (o .table) journal frame out (left .encodes) strangeState
+      (ap (λ (s : State). answer s (o .table) (recordsIn journal) frame out .verdict) empty
+      ∙ empty-strange (o .table) (recordsIn journal) frame out)
+
+  shut : openCall book state table journal .answer ≢ 0 → ShutBy (openCall book state table journal)
+  shut h = by-equality (length state) stateLength (λ q. shut-by-book q h) shut-by-length
+
+pub call-runs : CallRuns
+call-runs = record { opened = opened; shut = shut }

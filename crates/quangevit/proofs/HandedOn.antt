@@ -16,26 +16,27 @@ use Rattle.common.proofs.Part.{length-replaced}
 use Rattle.common.proofs.Tabulate.{length-tabulate, length-padded}
 use Rattle.frame.specs.Frame.{readFrame}
 use Rattle.journal.specs.Journal.{journalLength}
+use Rattle.unit.specs.Making.{makeUnit}
 use Rattle.unit.specs.Pressing.{carriedOut, pressButton}
 use Rattle.unit.specs.Hearing.{hearFrame}
 use Rattle.unit.proofs.Outcomes as outcomes
 use Rattle.unit.proofs.Validity.{validity}
 use Rattle.rules.specs.Answer.{Answer, answer, mostLogged}
 use Rattle.rules.specs.Opening.{Opening, openingWith}
-use Rattle.rules.proofs.Acceptance.{Taken, request, arrival, by-verdict, accepted-facts}
-use Rattle.quangevit.specs.Types.{Button, Ask, Depart, Reached, Report, Pressed}
+use Rattle.rules.proofs.Acceptance.{Taken, request, arrival, by-verdict, refusal-leaves, accepted-facts}
+use Rattle.quangevit.specs.Types.{Button, Ask, Depart, Reached, Report, Unit, Pressed}
 use Rattle.quangevit.specs.Types.{Line, Message, Record, State, RefusedBy}
 use Rattle.quangevit.specs.Word.{wordOf, refusalIn}
-use Rattle.layout.specs.UnitBytes.{encodesUnit, unitIn, buttonOf}
-use Rattle.quangevit.specs.UnitCalls.{hearCall, pressed, pressCallChecks, pressAfter, pressCall}
+use Rattle.layout.specs.UnitBytes.{unitLength, unitBytes, encodesUnit, unitIn, buttonOf}
+use Rattle.quangevit.specs.UnitCalls.{makeUnitCall, hearCall, pressed, pressCallChecks, pressAfter, pressCall}
 use Rattle.layout.specs.StateBytes.{stateLength, stateBytes, encodesState, stateIn}
 use Rattle.layout.specs.JournalBytes.{recordCount, recordsIn}
 use Rattle.quangevit.specs.BoxCalls.{openCall, answerCallOf, answerCall}
 use Rattle.layout.specs.RoundTrip.{Shaped}
-use Rattle.quangevit.specs.HandedOn.{ReadAs, LeftAs, ruled, HandedOn}
+use Rattle.quangevit.specs.HandedOn.{ReadAs, LeftAs, ReadAsUnit, ruled, HandedOn}
 use Rattle.quangevit.proofs.UnitSteps.{is-unit}
 use Rattle.layout.proofs.Journals.{record-count, own-records}
-use Rattle.layout.proofs.RoundTrip.{unit-only, state-back, state-encoded, state-only, records-back}
+use Rattle.layout.proofs.RoundTrip.{unit-only, state-back, state-encoded, state-only, records-back, round-trip}
 
 -- ---- the state
 
@@ -45,7 +46,9 @@ read-back s h = record { encodes = state-encoded s h; is = state-back s h }
 read-shaped : (b : List ℕ) → Shaped (stateIn b)
 read-shaped b = record { eight = length-tabulate 8 _; six = length-tabulate 6 _ }
 
-either : {A : Type 0} (P : A → Type 0) (n : ℕ) (x : A) (f : ℕ → A) → P x → ((k : ℕ) → P (f k)) → P (unlessRefused n x f)
+-- what holds of both answers holds of the one that is given
+pub either : {A : Type 0} (P : A → Type 0) (n : ℕ) (x : A) (f : ℕ → A) → P x → ((k : ℕ) → P (f k))
+    → P (unlessRefused n x f)
 unfolding unlessRefused
 either P zero x f p q = p
 either P (suc n) x f p q = q (suc n)
@@ -71,22 +74,13 @@ module _ (s : State) (table : List ℕ) (journal : List Record) (frame out : Lis
   space a (request m n free idle) = n .space
   space a (arrival m n runs) = n .space
 
-  answer-records : length (answer s table journal frame out .journal) ≡ length journal
+  pub answer-records : length (answer s table journal frame out .journal) ≡ length journal
   answer-records =
       by-verdict s table journal frame out (λ (a : Answer). length (a .journal) ≡ length journal) (λ n e. refl)
       (λ p.
       let k = accepted-facts table s (p .valid-state) (readFrame frame) (p .message) in
       let room = space (readFrame frame) (p .message) in
       length-replaced journal (s .logged) _ (rw length-map (omega (arith, k .few, p .long-journal))))
-
-  pub refused-answer : (n : ℕ) → answer s table journal frame out .verdict ≡ RefusedBy n
-      → answer s table journal frame out ≡ record { state = s; verdict = RefusedBy n; journal = journal; out = out }
-  refused-answer n =
-      by-verdict s table journal frame out
-      (λ (a : Answer). a .verdict ≡ RefusedBy n
-      → a ≡ record { state = s; verdict = RefusedBy n; journal = journal; out = out })
-      (λ m e h. rw h)
-      (λ p h. let z : _≡_ {A = ℕ} 0 1 = cc in absurd (omega arith))
 
 -- ---- the claims
 
@@ -110,10 +104,30 @@ module _ (state table journal frame out : List ℕ) (h : encodesState state ≡ 
       → answerCall state table journal frame out ≡ answerCallOf (wordOf n 0) state journal out
   unfolding answerCall
   refused n e =
-      let same = refused-answer (stateIn state) table (recordsIn journal) frame out n e in
+      let same = refusal-leaves (stateIn state) table (recordsIn journal) frame out n e in
       rw (h, same, state-only state h, own-records journal)
 
 -- ---- units
+
+unit-read : (u : Unit) → ReadAsUnit (unitBytes u) u
+unit-read u = record { encodes = round-trip .unit-encoded u; is = round-trip .unit-back u }
+
+unit-made : (train start end : ℕ) (unit : List ℕ) → length unit ≡ unitLength
+    → ReadAsUnit (makeUnitCall train start end unit .unit) (makeUnit train start end .unit)
+unfolding makeUnitCall
+unit-made train start end unit h = rw (eq-eqb (length unit) unitLength h) (unit-read _)
+
+unit-heard : (unit frame : List ℕ) → encodesUnit unit ≡ true
+    → ReadAsUnit (hearCall unit frame .unit) (hearFrame (unitIn unit) frame .unit)
+unfolding hearCall
+unit-heard unit frame h = rw h (unit-read _)
+
+unit-pressed : (unit : List ℕ) (button : ℕ) (frame : List ℕ) → refusal (pressCallChecks unit button (length frame)) ≡ 0
+    → ReadAsUnit (pressCall unit button frame .unit) (pressButton (unitIn unit) (buttonOf button) .unit)
+unfolding pressCall
+unit-pressed unit button frame e =
+    rw (accepts (pressAfter (pressButton (unitIn unit) (buttonOf button)) frame)
+    (λ n. pressed (wordOf n 0) unit frame) e) (unit-read _)
 
 hearing-refused : (unit frame : List ℕ) → refusalIn (hearCall unit frame .answer) ≢ 0 → hearCall unit frame .unit ≡ unit
 unfolding hearCall
@@ -156,6 +170,9 @@ handed-on = record {
   opened = opened;
   answered = answered;
   refused = refused;
+  unit-made = unit-made;
+  unit-heard = unit-heard;
+  unit-pressed = unit-pressed;
   hearing-refused = hearing-refused;
   press-refused = press-refused;
 }

@@ -8,7 +8,6 @@ use Rattle.line.specs.Refusal.{strangeState}
 use Rattle.line.specs.Book.{readBook, outcomeNumber}
 use Rattle.rules.specs.Answer.{Answer, answer}
 use Rattle.rules.specs.Opening.{openingWith}
-use Rattle.quangevit.specs.Types.{Verdict, Sent, RefusedBy}
 use Rattle.quangevit.specs.Word.{wordOf}
 use Rattle.layout.specs.LineBytes.{lineLength, lineBytes}
 use Rattle.layout.specs.StateBytes.{stateLength, stateBytes, encodesState, stateIn}
@@ -62,15 +61,11 @@ pub record AnswerCall : Type 0 where
 abbrev pub answerCallOf : ℕ → List ℕ → List ℕ → List ℕ → AnswerCall
 answerCallOf answer state journal out = record { answer = answer; state = state; journal = journal; out = out }
 
--- the number of the refusal, or of the frames sent
-abbrev pub verdictWord : Verdict → ℕ
-verdictWord (RefusedBy n) = wordOf n 0
-verdictWord (Sent n) = wordOf 0 n
-
--- the bytes of what the rules give: the state, the journal's records with the bytes past them, and the out buffer
+-- what the rules give: the number of the refusal and of the frames written as a word, the bytes of the state, the
+-- journal's records with the bytes past them, and the out buffer
 abbrev pub answerAfter : List ℕ → Answer → AnswerCall
 answerAfter journal a =
-    answerCallOf (verdictWord (a .verdict)) (stateBytes (a .state)) (withRecords journal (a .journal)) (a .out)
+    answerCallOf (wordOf (a .number) (a .frames)) (stateBytes (a .state)) (withRecords journal (a .journal)) (a .out)
 
 -- bytes that encode no state are 1, nothing changed. Else as 01; a refusal changes nothing.
 unfoldable pub answerCall : List ℕ → List ℕ → List ℕ → List ℕ → List ℕ → AnswerCall

@@ -1,21 +1,24 @@
--- A list of calls: quangevit_open, then quangevit_answer for each frame, with the bytes and the table that the call
--- before left. What the outside sees are the words and the out buffers. Such a list is a run of the rules, so that
--- demand 3, and all else that crate `assurance` shows of runs, holds of it.
+-- The claims on a list of calls: quangevit_open, then quangevit_answer for each frame, with the bytes and the table
+-- that the call before left. What the outside sees are the words and the out buffers. After an opening that answers 0
+-- such a list is a run of the rules, so that demand 3, and all else that crate `assurance` shows of runs, holds of it;
+-- after one that is refused every frame is refused by 1.
 use mathlib.Core.Path.{_≡_}
+use mathlib.Core.Logic.{_≢_}
 use mathlib.Core.Bool.{true, cond}
 use mathlib.Core.List.{List, [], _∷_}
 use Prim.Native.Nat.{ℕ, _/_}
 use lib.Dec.{eqb}
+use Rattle.line.specs.Refusal.{strangeState}
 use Rattle.line.specs.Book.{lineOf}
 use Rattle.rules.specs.Opening.{opening}
 use Rattle.assurance.specs.Run.{Input, Exchange, Ran, run}
 use Rattle.assurance.specs.Observer.{atOpening, observe}
 use Rattle.assurance.specs.WholeList.{Assured}
 use Rattle.layout.specs.StateBytes.{encodesState, stateIn}
-use Rattle.layout.specs.JournalBytes.{recordsIn}
+use Rattle.layout.specs.JournalBytes.{recordsIn, withRecords}
 use Rattle.quangevit.specs.Types.{Verdict, Sent, RefusedBy}
-use Rattle.quangevit.specs.Word.{refusalIn}
-use Rattle.quangevit.specs.BoxCalls.{openCall, AnswerCall, answerCall}
+use Rattle.quangevit.specs.Word.{wordOf, refusalIn}
+use Rattle.quangevit.specs.BoxCalls.{openCall, AnswerCall, answerCallOf, answerCall}
 
 -- what a word says: the low byte is the number of the refusal, or 0, and the next the number of frames written
 abbrev pub verdictIn : ℕ → Verdict
@@ -50,11 +53,18 @@ pub record AsRun (book table journal : List ℕ) (inputs : List Input) (c : Call
   pub encodes : encodesState (c .state) ≡ true
   pub same : let o = opening book table (recordsIn journal) in
       decoded c ≡ run (o .table) (o .state) (recordsIn journal) inputs
+  -- of the journal's bytes only those of its records are other ones
+  pub rest : c .journal ≡ withRecords journal (recordsIn (c .journal))
   -- so that demand 3 holds of it
   pub assured : let l = lineOf book in Assured l (decoded c) (observe (atOpening l) (c .exchanges))
 
--- quangevit_open that answers 0, then any list of calls
-abbrev pub CallRuns : Type 0
-CallRuns = (book state table journal : List ℕ) (inputs : List Input)
-    → let o = openCall book state table journal in
-    o .answer ≡ 0 → AsRun book table journal inputs (calls (o .table) (o .state) journal inputs)
+pub record CallRuns : Type 0 where
+  -- quangevit_open that answers 0, then any list of calls
+  pub opened : (book state table journal : List ℕ) (inputs : List Input)
+      → let o = openCall book state table journal in
+      o .answer ≡ 0 → AsRun book table journal inputs (calls (o .table) (o .state) journal inputs)
+  -- quangevit_open that is refused: every call on what it left is refused by 1 and changes nothing
+  pub shut : (book state table journal frame out : List ℕ)
+      → let o = openCall book state table journal in
+      o .answer ≢ 0
+      → answerCall (o .state) (o .table) journal frame out ≡ answerCallOf (wordOf strangeState 0) (o .state) journal out

@@ -6,13 +6,18 @@ use mathlib.Core.Bool.{true}
 use mathlib.Core.List.{List}
 use Prim.Native.Nat.{ℕ}
 use lib.ListN.{length}
+use Rattle.common.specs.Check.{refusal}
+use Rattle.unit.specs.Making.{makeUnit}
+use Rattle.unit.specs.Pressing.{pressButton}
+use Rattle.unit.specs.Hearing.{hearFrame}
 use Rattle.rules.specs.Answer.{Answer, answer}
 use Rattle.rules.specs.Opening.{openingWith}
-use Rattle.quangevit.specs.Types.{State, RefusedBy}
+use Rattle.quangevit.specs.Types.{Unit, State, RefusedBy}
 use Rattle.quangevit.specs.Word.{wordOf, refusalIn}
+use Rattle.layout.specs.UnitBytes.{unitLength, encodesUnit, unitIn, buttonOf}
 use Rattle.layout.specs.StateBytes.{stateLength, encodesState, stateIn}
 use Rattle.layout.specs.JournalBytes.{recordCount, recordsIn}
-use Rattle.quangevit.specs.UnitCalls.{hearCall, pressed, pressCall}
+use Rattle.quangevit.specs.UnitCalls.{makeUnitCall, hearCall, pressed, pressCallChecks, pressCall}
 use Rattle.quangevit.specs.BoxCalls.{AnswerCall, openCall, answerCallOf, answerCall}
 
 -- the bytes are read as the state s
@@ -24,6 +29,11 @@ pub record ReadAs (b : List ℕ) (s : State) : Type 0 where
 pub record LeftAs (c : AnswerCall) (a : Answer) : Type 0 where
   pub state : ReadAs (c .state) (a .state)
   pub journal : recordsIn (c .journal) ≡ a .journal
+
+-- the bytes are read as the unit u
+pub record ReadAsUnit (b : List ℕ) (u : Unit) : Type 0 where
+  pub encodes : encodesUnit b ≡ true
+  pub is : unitIn b ≡ u
 
 -- the rules' answer to a frame, with state and journal as bytes
 abbrev pub ruled : List ℕ → List ℕ → List ℕ → List ℕ → List ℕ → Answer
@@ -38,7 +48,14 @@ pub record HandedOn : Type 0 where
   pub refused : (state table journal frame out : List ℕ) → encodesState state ≡ true
       → (n : ℕ) → ruled state table journal frame out .verdict ≡ RefusedBy n
       → answerCall state table journal frame out ≡ answerCallOf (wordOf n 0) state journal out
-  -- the same of a unit: a refusal is a low byte other than 0
+  -- the same of a unit; a refusal is a low byte other than 0
+  pub unit-made : (train start end : ℕ) (unit : List ℕ) → length unit ≡ unitLength
+      → ReadAsUnit (makeUnitCall train start end unit .unit) (makeUnit train start end .unit)
+  pub unit-heard : (unit frame : List ℕ) → encodesUnit unit ≡ true
+      → ReadAsUnit (hearCall unit frame .unit) (hearFrame (unitIn unit) frame .unit)
+  pub unit-pressed : (unit : List ℕ) (button : ℕ) (frame : List ℕ)
+      → refusal (pressCallChecks unit button (length frame)) ≡ 0
+      → ReadAsUnit (pressCall unit button frame .unit) (pressButton (unitIn unit) (buttonOf button) .unit)
   pub hearing-refused : (unit frame : List ℕ) → refusalIn (hearCall unit frame .answer) ≢ 0
       → hearCall unit frame .unit ≡ unit
   pub press-refused : (unit : List ℕ) (button : ℕ) (frame : List ℕ)

@@ -23,7 +23,7 @@ use Rattle.rules.specs.Types.{RefusedBy}
 use Rattle.rules.specs.State.{isAsked, isRunning, nextOf, trainOf, lineOf, withStatus, arrivedNext, oneLogged}
 use Rattle.rules.specs.Granting.{grantable, Work, log, settled}
 use Rattle.rules.specs.Answer.{outLength, mostLogged, isFa, isAm, moveIn, frameChecks, taken, declined, accepted}
-use Rattle.rules.specs.Answer.{sent, Answer, answered, refused, answer}
+use Rattle.rules.specs.Answer.{sent, verdictNumber, verdictFrames, Answer, answered, refused, answer}
 use Rattle.rules.proofs.Trains.{changed-line}
 use Rattle.rules.proofs.Validity.{Valid, valid-facts}
 use Rattle.rules.proofs.Changes.{valid-logged, valid-request, valid-arrival}
@@ -109,12 +109,23 @@ by-verdict s table journal frame out P declines takes =
 -- "A refusal returns its number and the state unchanged, and changes no buffer."
 pub refusal-leaves : (s : State) (table : List ℕ) (journal : List Record) (frame out : List ℕ) (n : ℕ)
     → answer s table journal frame out .verdict ≡ RefusedBy n
-    → answer s table journal frame out ≡ record { state = s; verdict = RefusedBy n; journal = journal; out = out }
+    → answer s table journal frame out
+    ≡ record { state = s; verdict = RefusedBy n; number = n; frames = 0; journal = journal; out = out }
 refusal-leaves s table journal frame out n =
     by-verdict s table journal frame out
-    (λ a. a .verdict ≡ RefusedBy n → a ≡ record { state = s; verdict = RefusedBy n; journal = journal; out = out })
+    (λ a. a .verdict ≡ RefusedBy n → a ≡ refused s journal out n)
     (λ k q e. let same : k ≡ n = cc in rw same)
     (λ p e. absurd (let z : _≡_ {A = ℕ} 0 1 = cc in omega arith))
+
+-- the number and the frames of an answer are its verdict's
+pub answer-numbers : (s : State) (table : List ℕ) (journal : List Record) (frame out : List ℕ)
+    → let a = answer s table journal frame out in
+    (a .number ≡ verdictNumber (a .verdict)) × (a .frames ≡ verdictFrames (a .verdict))
+answer-numbers s table journal frame out =
+    by-verdict s table journal frame out
+    (λ a. (a .number ≡ verdictNumber (a .verdict)) × (a .frames ≡ verdictFrames (a .verdict)))
+    (λ n e. (refl, refl))
+    (λ p. (refl, refl))
 
 -- ---- what is left
 

@@ -109,28 +109,57 @@ framesOf (a ∷ l) = bytesOf a ++ framesOf l
 abbrev pub sent : Work → List Message
 sent w = drop 1 (w .logged)
 
+-- "Where an answer is an enum, a definition gives this paper's number and values for each of the enum's cases. The
+-- promises use that definition." Of a verdict: the number of the refusal, 0 where there is none, and how many frames
+-- were written.
+abbrev pub verdictNumber : Verdict → ℕ
+verdictNumber (RefusedBy n) = n
+verdictNumber (Sent n) = 0
+
+abbrev pub verdictFrames : Verdict → ℕ
+verdictFrames (RefusedBy n) = 0
+verdictFrames (Sent n) = n
+
 pub record Answer : Type 0 where
   pub state : State
   pub verdict : Verdict
+  pub number : ℕ
+  pub frames : ℕ
   pub journal : List Record
   pub out : List ℕ
 
 -- what the code hands back, with the journal and the out buffer afterwards
 abbrev pub answerOf : Reply → List Record → List ℕ → Answer
-answerOf r journal out = record { state = r .state; verdict = r .verdict; journal = journal; out = out }
+answerOf r journal out = record {
+  state = r .state;
+  verdict = r .verdict;
+  number = verdictNumber (r .verdict);
+  frames = verdictFrames (r .verdict);
+  journal = journal;
+  out = out;
+}
 
 -- the records from the count on, and the frames at the buffer's beginning; all else is untouched
 abbrev pub answered : ℕ → List Record → List ℕ → Work → Answer
 answered count journal out w = record {
   state = w .state;
   verdict = Sent (length (sent w));
+  number = 0;
+  frames = length (sent w);
   journal = replaced journal count (map recordOf (w .logged));
   out = replaced out 0 (framesOf (sent w));
 }
 
 -- "A refusal returns its number and the state unchanged, and changes no buffer."
 abbrev pub refused : State → List Record → List ℕ → ℕ → Answer
-refused s journal out n = record { state = s; verdict = RefusedBy n; journal = journal; out = out }
+refused s journal out n = record {
+  state = s;
+  verdict = RefusedBy n;
+  number = n;
+  frames = 0;
+  journal = journal;
+  out = out;
+}
 
 unfoldable pub answer : State → List ℕ → List Record → List ℕ → List ℕ → Answer
 answer s table journal frame out =

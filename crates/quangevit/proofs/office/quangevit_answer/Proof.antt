@@ -7,8 +7,7 @@ use denote.Ref.{now}
 use borrow.Author.Tests.{not-true, not-false}
 use Rattle.layout.specs.StateBytes.{encodesState}
 use Rattle.layout.proofs.Statuses.{encoded-length}
-use Rattle.quangevit.specs.BoxCalls.{verdictWord}
-use Rattle.quangevit.proofs.BoxSteps.{not-answered, answered, answer-refused}
+use Rattle.quangevit.proofs.BoxSteps.{verdictWord, not-answered, answered, answer-refused}
 use borrow.Author.Needs.{needs}
 use Rattle.quangevit.proofs.office.quangevit_answer.Statement.{statement}
 use Rattle.quangevit.proofs.office.quangevit_answer.Tie as tie
