@@ -2,6 +2,7 @@
 -- layouts are in `layout`. Read in this order; `HandedOn` and `CallRuns` have the claims, proved in the files of
 -- `proofs/` of the same names. Letters: b bytes, u a unit, l a line, s a state, x a train, r a record, n a number.
 pub mod Types
+pub mod Version
 pub mod Word
 pub mod UnitCalls
 pub mod BoxCalls

@@ -1,11 +1,16 @@
-//! The C interface of the proved ends, one safe function for each of its six.
+//! The C interface of the proved ends, one safe function for each of its seven.
 //!
 //! Nothing checks these declarations against the Rattle source: this is the only place that has
 //! them. The C side asks two things of a caller, that each buffer has the length it names and that
 //! no two buffers overlap, and slices give both.
 
+/// The version of the library that these declarations are for: QUANGEVIT_VERSION of the header.
+pub const VERSION: u32 = 101;
+
 mod c {
     extern "C" {
+        pub fn quangevit_version() -> u32;
+
         pub fn quangevit_read_book(
             book: *const u8,
             book_len: usize,
@@ -60,6 +65,11 @@ mod c {
             frame_len: usize,
         ) -> u32;
     }
+}
+
+/// The version of the library that is linked.
+pub fn version() -> u32 {
+    unsafe { c::quangevit_version() }
 }
 
 /// Reads a book alone; the line it gives goes to `line`.
@@ -128,4 +138,12 @@ pub fn press(unit: &mut [u8], button: u8, frame: &mut [u8]) -> u32 {
 /// A frame is heard.
 pub fn hear(unit: &mut [u8], frame: &[u8]) -> u32 {
     unsafe { c::quangevit_hear(unit.as_mut_ptr(), unit.len(), frame.as_ptr(), frame.len()) }
+}
+
+#[cfg(test)]
+mod tests {
+    #[test]
+    fn the_library_has_this_version() {
+        assert_eq!(super::version(), super::VERSION);
+    }
 }

@@ -7,7 +7,7 @@ use crate::layout::{
 };
 use model::{unit, Button, Verdict};
 
-/// The six functions of the C interface. Each answers the refusal's number in its low byte and
+/// The six functions of the C interface for the two ends. Each answers the refusal's number in its low byte and
 /// the number of frames written in the next.
 pub trait Ends {
     fn read_book(&self, book: &[u8], line: &mut [u8]) -> u32;
