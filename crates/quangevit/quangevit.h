@@ -1,14 +1,25 @@
 /*
  * quangevit.h: the two ends of single-line train dispatching (Zugleitbetrieb), the dispatcher's box
- * and the driver's unit, over byte buffers. Link libquangevit.a (built by `rt staticlib quangevit`).
+ * and the driver's unit, over byte buffers. Link libquangevit.a (`rt staticlib quangevit` builds
+ * it).
  *
  * Every store is a buffer that the caller lends: a pointer, then its length in bytes. A pointer is
  * never null, also where the length is 0; no two buffers of one call overlap; nothing is kept
- * between calls. No call allocates memory, and each returns. They may be called from several
- * threads, each with buffers of its own.
+ * between calls. Each call returns. They may be called from several threads, each with buffers of
+ * its own.
  *
  * What a call answers, and every byte it leaves in a buffer, is proved to be what the rules say
- * (crates/quangevit/specs), for every content and every length of the buffers.
+ * (crates/quangevit/specs), for every content and every length of the buffers. It is proved too
+ * that after a quangevit_open that answers 0, where each quangevit_answer gets the bytes that the
+ * call before it left, whatever the frames, no section has two holders, no post more trains than
+ * tracks, every authority has its logged request, and the trains never all wait for each other.
+ *
+ * The library is for x86-64 with SSE2 and the System V ABI, whose 128 bytes below the stack pointer
+ * it uses: the handler of an interrupt leaves them alone, or has a stack of its own. It has no data
+ * that changes, allocates nothing, and from outside needs memcpy and memset as C defines them,
+ * nothing else. The stack that a call needs is in QUANGEVIT_STACK_..: its parameters, its return
+ * address and the longest chain of calls in its machine code (tests/c/stack counts them), rounded
+ * up, without what memcpy or memset needs for itself.
  *
  * The answer of a call: the low byte is the number of the refusal, 0 where nothing was refused;
  * the next byte is the number of frames written (quangevit_answer, quangevit_press). Take it apart
@@ -24,6 +35,9 @@
 extern "C" {
 #endif
 
+/* 100 times the edition (what the ends answer) plus the revision: 101 is version 1.01. */
+#define QUANGEVIT_VERSION 101
+
 #define QUANGEVIT_REFUSAL(answer) ((answer) & 255u)
 #define QUANGEVIT_SENT(answer) ((answer) >> 8)
 
@@ -35,46 +49,122 @@ extern "C" {
 #define QUANGEVIT_LINE_BYTES 22
 #define QUANGEVIT_STATE_BYTES 41
 #define QUANGEVIT_TABLE_BYTES 32768
-#define QUANGEVIT_JOURNAL_BYTES 704 /* 176 records of 4 bytes */
+#define QUANGEVIT_JOURNAL_BYTES 704 /* 176 records */
 #define QUANGEVIT_OUT_BYTES 42      /* six frames */
 #define QUANGEVIT_FRAME_BYTES 7
 #define QUANGEVIT_UNIT_BYTES 5
 #define QUANGEVIT_BOOK_MOST_BYTES 25 /* the longest book */
-#define QUANGEVIT_RECORD_BYTES 4
 
 #define QUANGEVIT_POSTS_MOST 8
 #define QUANGEVIT_TRAINS_MOST 6
+
+/* Stack that a call needs, in bytes. */
+#define QUANGEVIT_STACK_READ_BOOK 256
+#define QUANGEVIT_STACK_OPEN 512
+#define QUANGEVIT_STACK_ANSWER 1024
+#define QUANGEVIT_STACK_UNIT 128 /* each call of a unit, and quangevit_version */
+
+/* ---- what the bytes mean */
 
 /*
  * Book: two bytes of length, high byte first (the bytes after them), version byte 1, the number of
  * posts P (2 to 8), P track counts (1 to 4 each), the number of trains T (1 to 6), then start and
  * end post of each train. 5 + P + 2 T bytes in all.
- *
- * Line: posts; tracks of posts 0 to 7; trains; then start and end of trains 0 to 5. What the book
- * does not name is 0.
- *
- * State: posts; tracks of posts 0 to 7; trains; then five bytes for each of trains 0 to 5: start,
- * end, present post, status (0 Free, 1 Asked, 2 Running), number of its request in the journal (0
- * unless Asked); last the number of records in the journal. Keep it between calls and do not change
- * it; 41 bytes with another status, or with a number where the status is not 1, encode no state.
- *
+ */
+
+/*
+ * Line: the number of posts, the tracks of posts 0 to 7, the number of trains, then two bytes for
+ * each of trains 0 to 5. What the book does not name is 0.
+ */
+enum quangevit_line_at {
+    QUANGEVIT_LINE_POSTS_AT = 0,
+    QUANGEVIT_LINE_TRACKS_AT = 1, /* of post p: + p */
+    QUANGEVIT_LINE_TRAINS_AT = 9,
+    QUANGEVIT_LINE_ROUTES_AT = 10 /* of train t: + QUANGEVIT_ROUTE_BYTES * t */
+};
+
+#define QUANGEVIT_ROUTE_BYTES 2
+enum quangevit_route_at { QUANGEVIT_ROUTE_START_AT = 0, QUANGEVIT_ROUTE_END_AT = 1 };
+
+/*
+ * State: the number of posts, the tracks of posts 0 to 7, the number of trains, then five bytes for
+ * each of trains 0 to 5, last the number of records in the journal. Keep it between calls and do
+ * not change it. 41 bytes with another status, or with a number of a request where the status is
+ * not Asked, encode no state.
+ */
+enum quangevit_state_at {
+    QUANGEVIT_STATE_POSTS_AT = 0,
+    QUANGEVIT_STATE_TRACKS_AT = 1, /* of post p: + p */
+    QUANGEVIT_STATE_TRAINS_AT = 9,
+    QUANGEVIT_STATE_FLEET_AT = 10, /* of train t: + QUANGEVIT_TRAIN_BYTES * t */
+    QUANGEVIT_STATE_LOGGED_AT = 40
+};
+
+#define QUANGEVIT_TRAIN_BYTES 5
+enum quangevit_train_at {
+    QUANGEVIT_TRAIN_START_AT = 0,
+    QUANGEVIT_TRAIN_END_AT = 1,
+    QUANGEVIT_TRAIN_POST_AT = 2,
+    QUANGEVIT_TRAIN_STATUS_AT = 3,
+    QUANGEVIT_TRAIN_REQUEST_AT = 4 /* number of its FA in the journal; 0 unless Asked */
+};
+
+enum quangevit_status {
+    QUANGEVIT_STATUS_FREE = 0,
+    QUANGEVIT_STATUS_ASKED = 1,
+    QUANGEVIT_STATUS_RUNNING = 2
+};
+
+/*
  * Table: the way-through table. quangevit_open fills its first 32768 bytes; hand the same bytes to
  * quangevit_answer.
- *
- * Journal: records of four bytes: kind, train, from post, to post. A buffer of n bytes has n / 4
- * records; the n % 4 bytes past them are neither read nor written.
- *
- * Frame: 0, 5, 1, kind, train, from post, to post. Kinds are the same in frames and records.
- *
- * Unit: train, start, end, present post, phase (0 Standing, 1 Asked, 2 Declined, 3 Granted, 4 Under
- * way, 5 Arrived). Five bytes with another phase encode no unit.
  */
+
+/*
+ * Journal: records of four bytes. A buffer of n bytes has n / 4 records; the n % 4 bytes past them
+ * are neither read nor written. Kinds are the same in records and frames.
+ */
+#define QUANGEVIT_RECORD_BYTES 4
+enum quangevit_record_at {
+    QUANGEVIT_RECORD_KIND_AT = 0,
+    QUANGEVIT_RECORD_TRAIN_AT = 1,
+    QUANGEVIT_RECORD_FROM_AT = 2,
+    QUANGEVIT_RECORD_TO_AT = 3
+};
+
+/* Frame: two bytes of length, 0 and 5, version byte 1, then kind, train, from post, to post. */
+enum quangevit_frame_at {
+    QUANGEVIT_FRAME_LENGTH_AT = 0,
+    QUANGEVIT_FRAME_VERSION_AT = 2,
+    QUANGEVIT_FRAME_KIND_AT = 3,
+    QUANGEVIT_FRAME_TRAIN_AT = 4,
+    QUANGEVIT_FRAME_FROM_AT = 5,
+    QUANGEVIT_FRAME_TO_AT = 6
+};
 
 enum quangevit_kind {
     QUANGEVIT_FA = 1,  /* request for a move (Fahranfrage) */
     QUANGEVIT_FE = 2,  /* authority for it (Fahrerlaubnis) */
     QUANGEVIT_AFE = 3, /* authority declined for now (Ablehnung der Fahrerlaubnis) */
     QUANGEVIT_AM = 4   /* arrival reported (Ankunftmeldung) */
+};
+
+/* Unit: the five bytes of a driver's unit. Five bytes with another phase encode no unit. */
+enum quangevit_unit_at {
+    QUANGEVIT_UNIT_TRAIN_AT = 0,
+    QUANGEVIT_UNIT_START_AT = 1,
+    QUANGEVIT_UNIT_END_AT = 2,
+    QUANGEVIT_UNIT_POST_AT = 3,
+    QUANGEVIT_UNIT_PHASE_AT = 4
+};
+
+enum quangevit_phase {
+    QUANGEVIT_PHASE_STANDING = 0,
+    QUANGEVIT_PHASE_ASKED = 1,
+    QUANGEVIT_PHASE_DECLINED = 2,
+    QUANGEVIT_PHASE_GRANTED = 3,
+    QUANGEVIT_PHASE_UNDER_WAY = 4,
+    QUANGEVIT_PHASE_ARRIVED = 5
 };
 
 enum quangevit_button {
@@ -104,26 +194,33 @@ enum quangevit_refusal {
     QUANGEVIT_POSTS = 15,           /* posts not 2 to 8 */
     QUANGEVIT_TRACKS = 16,          /* a track count not 1 to 4 */
     QUANGEVIT_TRAINS = 17,          /* trains not 1 to 6 */
-    QUANGEVIT_OFF_THE_LINE = 18,    /* start or end not on the line; a unit's numbers out of range */
+    QUANGEVIT_OFF_THE_LINE = 18,    /* start or end off the line; a unit's numbers out of range */
     QUANGEVIT_OVERFULL = 19,        /* more trains start at a post than it has tracks */
     QUANGEVIT_NO_WAY_THROUGH = 20,  /* the trains cannot all reach their ends */
     QUANGEVIT_NOT_NOW = 21,         /* button in the wrong phase, or no button */
     QUANGEVIT_NOT_AWAITED = 22      /* FE in the wrong phase or for another move */
 };
 
+/* The version of the library that is linked: QUANGEVIT_VERSION where it fits this header. */
+uint32_t quangevit_version(void);
+
 /* ---- the dispatcher's end */
 
 /*
- * Reads a book and writes the line that it describes. A line buffer that is not 22 bytes is 1, and
- * is left alone. A refused book (4, 14 to 18) writes 22 zeros.
+ * Reads a book and writes the line that it describes. Checks, in this order: 1, a line buffer that
+ * is not 22 bytes, which is left alone; 14, a book under 4 bytes or of another length than it
+ * names; 4; 15; 14, under 5 + P bytes; 16; 17; 14, not 5 + P + 2 T bytes; 18. A book that is
+ * refused by 4 or 14 to 18 writes 22 zeros.
  */
 uint32_t quangevit_read_book(const uint8_t *book, size_t book_len, uint8_t *line, size_t line_len);
 
 /*
  * Opens a book: fills the table and writes the state in which every train is Free at its start and
  * the journal has no record. What the state buffer held is not looked at; the journal is only
- * measured. A state buffer that is not 41 bytes is 1, and nothing is changed. A refused book (2, 4,
- * 14 to 20) writes 41 zeros; the table is then left alone, but for 20, which leaves it filled.
+ * measured. Checks, in this order: 1, a state buffer that is not 41 bytes, and nothing is changed;
+ * 2, table or journal; those of quangevit_read_book from 14 on; 19; 20. A refusal by 2, 4 or 14 to
+ * 20 writes 41 zeros, a state on which quangevit_answer gives 1; the table is then left alone, but
+ * for 20, which leaves it filled.
  */
 uint32_t quangevit_open(const uint8_t *book, size_t book_len, uint8_t *state, size_t state_len,
                         uint8_t *table, size_t table_len, const uint8_t *journal,
@@ -132,7 +229,8 @@ uint32_t quangevit_open(const uint8_t *book, size_t book_len, uint8_t *state, si
 /*
  * Answers a frame (an FA or an AM of a driver's unit): writes the state afterwards, the records of
  * the frame and of its answers from the journal's next record on, and the answers' frames at the
- * beginning of out, 0 to 6 of them, for the units. A refusal (1 to 13) changes nothing.
+ * beginning of out, 0 to 6 of them, for the units. Checks, in this order: 1, then 2 to 9 by their
+ * numbers, then 10 or 11 for an FA, 12 for an AM, then 13. A refusal changes nothing.
  */
 uint32_t quangevit_answer(uint8_t *state, size_t state_len, const uint8_t *table, size_t table_len,
                           uint8_t *journal, size_t journal_len, const uint8_t *frame,
@@ -141,26 +239,41 @@ uint32_t quangevit_answer(uint8_t *state, size_t state_len, const uint8_t *table
 /* ---- the driver's end */
 
 /*
- * Makes a unit for a train (0 to 5) and its route (posts 0 to 7), Standing at its start. A unit
- * buffer that is not 5 bytes is 1, and is left alone. Numbers out of range are 18, which writes the
- * empty unit 255, 0, 0, 0, 0.
+ * The flow of a unit. Its move is from its present post to the next one towards its end.
+ *
+ *   phase      what happens             next phase                   sent
+ *   Standing   Ask                      Asked                        FA for its move
+ *   Asked      FE for its move heard    Granted
+ *   Asked      AFE for its move heard   Declined
+ *   Declined   FE for its move heard    Granted
+ *   Granted    Depart                   Under way
+ *   Under way  Reached                  Arrived
+ *   Arrived    Report                   Standing, at the next post   AM for the move just made
+ *
+ * Another button is 21, and Ask at the end 8. Another FE for its own train is 22. Another AFE, and
+ * an FE for another train, is heard and changes nothing.
+ */
+
+/*
+ * Makes a unit for a train (0 to 5) and its route (posts 0 to 7), Standing at its start. Checks, in
+ * this order: 1, a unit buffer that is not 5 bytes, which is left alone; 18, numbers out of range,
+ * which writes the empty unit 255, 0, 0, 0, 0.
  */
 uint32_t quangevit_make_unit(uint8_t train, uint8_t start, uint8_t end, uint8_t *unit,
                              size_t unit_len);
 
 /*
  * Presses a button. Ask and Report give a frame, an FA and an AM: its seven bytes are at the
- * beginning of `frame` and the answer says 1 sent; else `frame` is left alone. In this order: bytes
- * that encode no unit, or none that is sound, are 1; a frame buffer under 7 bytes is 2; a button in
- * the wrong phase, and a number that is no button's, 21; Ask at the end 8. A refusal changes
- * nothing.
+ * beginning of `frame` and the answer says 1 sent; else `frame` is left alone. Checks, in this
+ * order: 1; 2, a frame buffer under 7 bytes, whatever the button; 21, also for a number that is no
+ * button's; 8. A refusal changes nothing.
  */
 uint32_t quangevit_press(uint8_t *unit, size_t unit_len, uint8_t button, uint8_t *frame,
                          size_t frame_len);
 
 /*
- * Hears a frame of the dispatcher: an FE or an AFE. One for another train changes nothing and is
- * not refused. A refusal (1, 3 to 6, 22) changes nothing.
+ * Hears a frame of the dispatcher: an FE or an AFE. Checks, in this order: 1, 3, 4, 5, 6, 22. A
+ * refusal changes nothing.
  */
 uint32_t quangevit_hear(uint8_t *unit, size_t unit_len, const uint8_t *frame, size_t frame_len);
 

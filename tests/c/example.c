@@ -1,6 +1,7 @@
 /*
  * The run of 01 from C: opens book X, answers eight frames that two drivers' units give, and prints
- * the journal. Exit status 0 where all went as the paper says, else 1.
+ * the journal. Then one unit goes once through its flow. Exit status 0 where all went as the paper
+ * says, else 1.
  *
  *   rt staticlib quangevit
  *   cc -Wall -Wextra -I crates/quangevit tests/c/example.c target/staticlib/libquangevit.a -o example
@@ -47,6 +48,12 @@ static uint32_t press(unsigned t, enum quangevit_button button, uint8_t *frame) 
     return QUANGEVIT_SENT(r);
 }
 
+/* Hands a unit a frame; answers the number of the refusal. */
+static uint32_t hear(unsigned t, const uint8_t *frame) {
+    return QUANGEVIT_REFUSAL(
+        quangevit_hear(units[t], QUANGEVIT_UNIT_BYTES, frame, QUANGEVIT_FRAME_BYTES));
+}
+
 /* Sends a frame to the dispatcher; every unit hears the answers. */
 static void send(const uint8_t *frame) {
     uint32_t r = quangevit_answer(state, sizeof state, table, sizeof table, journal, sizeof journal,
@@ -56,8 +63,7 @@ static void send(const uint8_t *frame) {
         refused_frames++;
     for (k = 0; k < QUANGEVIT_SENT(r); k++)
         for (t = 0; t < 2; t++)
-            expect(quangevit_hear(units[t], QUANGEVIT_UNIT_BYTES, out + QUANGEVIT_FRAME_BYTES * k,
-                                  QUANGEVIT_FRAME_BYTES) == QUANGEVIT_ACCEPTED,
+            expect(hear(t, out + QUANGEVIT_FRAME_BYTES * k) == QUANGEVIT_ACCEPTED,
                    "an answer is not heard");
 }
 
@@ -79,27 +85,74 @@ static void travel(unsigned t) {
 
 static void print_journal(void) {
     static const char *const kinds[] = {"?", "FA", "FE", "AFE", "AM"};
-    unsigned count = state[QUANGEVIT_STATE_BYTES - 1];
+    unsigned count = state[QUANGEVIT_STATE_LOGGED_AT];
     unsigned i;
     for (i = 0; i < count; i++) {
         const uint8_t *r = journal + QUANGEVIT_RECORD_BYTES * i;
-        printf("%u %s %u %u %u\n", i, kinds[r[0] <= 4 ? r[0] : 0], r[1], r[2], r[3]);
+        uint8_t kind = r[QUANGEVIT_RECORD_KIND_AT];
+        printf("%u %s %u %u %u\n", i, kinds[kind <= QUANGEVIT_AM ? kind : 0],
+               r[QUANGEVIT_RECORD_TRAIN_AT], r[QUANGEVIT_RECORD_FROM_AT],
+               r[QUANGEVIT_RECORD_TO_AT]);
     }
     printf("end %u %u\n", count, refused_frames);
+}
+
+/* The unit of train t is in a phase at a post. */
+static void expect_unit(unsigned t, uint8_t post, enum quangevit_phase phase) {
+    expect(units[t][QUANGEVIT_UNIT_POST_AT] == post, "a unit is at another post");
+    expect(units[t][QUANGEVIT_UNIT_PHASE_AT] == phase, "a unit is in another phase");
+}
+
+/* Presses a button of a unit, which must be refused by a number. */
+static void press_refused(unsigned t, enum quangevit_button button, uint32_t number) {
+    uint8_t frame[QUANGEVIT_FRAME_BYTES];
+    expect(quangevit_press(units[t], QUANGEVIT_UNIT_BYTES, (uint8_t)button, frame,
+                           QUANGEVIT_FRAME_BYTES) == number,
+           "a press is not refused as it should be");
+}
+
+/* The unit of train 5 from post 0 to post 1: declined first, then granted, and home. */
+static void flow(void) {
+    const uint8_t fe[] = {0, 5, 1, QUANGEVIT_FE, 5, 0, 1};
+    const uint8_t afe[] = {0, 5, 1, QUANGEVIT_AFE, 5, 0, 1};
+    uint8_t frame[QUANGEVIT_FRAME_BYTES];
+    expect(quangevit_make_unit(5, 0, 1, units[0], QUANGEVIT_UNIT_BYTES) == QUANGEVIT_ACCEPTED,
+           "a unit is not made");
+    expect_unit(0, 0, QUANGEVIT_PHASE_STANDING);
+    expect(hear(0, fe) == QUANGEVIT_NOT_AWAITED, "an FE that nobody asked for is heard");
+    expect(press(0, QUANGEVIT_ASK, frame) == 1, "no FA");
+    expect(frame[QUANGEVIT_FRAME_KIND_AT] == QUANGEVIT_FA, "Ask gives no FA");
+    expect_unit(0, 0, QUANGEVIT_PHASE_ASKED);
+    expect(hear(0, afe) == QUANGEVIT_ACCEPTED, "the AFE is not heard");
+    expect_unit(0, 0, QUANGEVIT_PHASE_DECLINED);
+    press_refused(0, QUANGEVIT_DEPART, QUANGEVIT_NOT_NOW);
+    expect(hear(0, fe) == QUANGEVIT_ACCEPTED, "the FE is not heard");
+    expect_unit(0, 0, QUANGEVIT_PHASE_GRANTED);
+    expect(press(0, QUANGEVIT_DEPART, frame) == 0, "a frame at departure");
+    expect_unit(0, 0, QUANGEVIT_PHASE_UNDER_WAY);
+    expect(press(0, QUANGEVIT_REACHED, frame) == 0, "a frame at the post");
+    expect_unit(0, 0, QUANGEVIT_PHASE_ARRIVED);
+    expect(press(0, QUANGEVIT_REPORT, frame) == 1, "no AM");
+    expect(frame[QUANGEVIT_FRAME_KIND_AT] == QUANGEVIT_AM, "Report gives no AM");
+    expect_unit(0, 1, QUANGEVIT_PHASE_STANDING);
+    press_refused(0, QUANGEVIT_ASK, QUANGEVIT_AT_ITS_END);
 }
 
 int main(void) {
     static uint8_t line[QUANGEVIT_LINE_BYTES];
     static const uint8_t line_x[QUANGEVIT_LINE_BYTES] = {3, 1, 2, 1, 0, 0, 0, 0, 0, 2, 0, 2, 2, 0};
+    const uint8_t *route = line + QUANGEVIT_LINE_ROUTES_AT;
     unsigned t;
+    expect(quangevit_version() == QUANGEVIT_VERSION, "the library has another version");
     expect(quangevit_read_book(BOOK_X, sizeof BOOK_X, line, sizeof line) == QUANGEVIT_ACCEPTED,
            "book X is not read");
     expect(memcmp(line, line_x, sizeof line) == 0, "book X is another line");
     expect(quangevit_open(BOOK_X, sizeof BOOK_X, state, sizeof state, table, sizeof table, journal,
                           sizeof journal) == QUANGEVIT_ACCEPTED,
            "book X does not open");
-    for (t = 0; t < 2; t++)
-        expect(quangevit_make_unit((uint8_t)t, line[10 + 2 * t], line[11 + 2 * t], units[t],
+    for (t = 0; t < 2; t++, route += QUANGEVIT_ROUTE_BYTES)
+        expect(quangevit_make_unit((uint8_t)t, route[QUANGEVIT_ROUTE_START_AT],
+                                   route[QUANGEVIT_ROUTE_END_AT], units[t],
                                    QUANGEVIT_UNIT_BYTES) == QUANGEVIT_ACCEPTED,
                "a unit is not made");
     ask(0);
@@ -111,8 +164,9 @@ int main(void) {
     travel(0);
     travel(1);
     print_journal();
-    expect(state[QUANGEVIT_STATE_BYTES - 1] == RECORDS, "not 13 records");
+    expect(state[QUANGEVIT_STATE_LOGGED_AT] == RECORDS, "not 13 records");
     expect(memcmp(journal, RUN, sizeof RUN) == 0, "other records");
     expect(refused_frames == 0, "a frame is refused");
+    flow();
     return off;
 }

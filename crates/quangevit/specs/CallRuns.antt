@@ -53,7 +53,7 @@ pub record AsRun (book table journal : List ℕ) (inputs : List Input) (c : Call
   pub encodes : encodesState (c .state) ≡ true
   pub same : let o = opening book table (recordsIn journal) in
       decoded c ≡ run (o .table) (o .state) (recordsIn journal) inputs
-  -- of the journal's bytes only those of its records are other ones
+  -- the bytes past the journal's last whole record are those that were lent
   pub rest : c .journal ≡ withRecords journal (recordsIn (c .journal))
   -- so that demand 3 holds of it
   pub assured : let l = lineOf book in Assured l (decoded c) (observe (atOpening l) (c .exchanges))

@@ -48,7 +48,7 @@ pub record HandedOn : Type 0 where
   pub refused : (state table journal frame out : List ℕ) → encodesState state ≡ true
       → (n : ℕ) → ruled state table journal frame out .verdict ≡ RefusedBy n
       → answerCall state table journal frame out ≡ answerCallOf (wordOf n 0) state journal out
-  -- the same of a unit; a refusal is a low byte other than 0
+  -- the same of a unit: the bytes that a call leaves are read as the unit that the rules give
   pub unit-made : (train start end : ℕ) (unit : List ℕ) → length unit ≡ unitLength
       → ReadAsUnit (makeUnitCall train start end unit .unit) (makeUnit train start end .unit)
   pub unit-heard : (unit frame : List ℕ) → encodesUnit unit ≡ true
@@ -56,6 +56,7 @@ pub record HandedOn : Type 0 where
   pub unit-pressed : (unit : List ℕ) (button : ℕ) (frame : List ℕ)
       → refusal (pressCallChecks unit button (length frame)) ≡ 0
       → ReadAsUnit (pressCall unit button frame .unit) (pressButton (unitIn unit) (buttonOf button) .unit)
+  -- and a refusal, which is a low byte other than 0, changes nothing
   pub hearing-refused : (unit frame : List ℕ) → refusalIn (hearCall unit frame .answer) ≢ 0
       → hearCall unit frame .unit ≡ unit
   pub press-refused : (unit : List ℕ) (button : ℕ) (frame : List ℕ)
