@@ -8,5 +8,6 @@ pub mod Grants
 pub mod Settling
 pub mod Acceptance
 pub mod Frames
+pub mod Refusals
 pub mod Taking
 pub mod OpeningCases
