@@ -17,7 +17,7 @@ use Rattle.completion.specs.Configuration.{distanceOf}
 use Rattle.rules.specs.declared.state.Status.{Status}
 use Rattle.rules.specs.declared.state.Status.the-variants.{Free, Asked, Running}
 use Rattle.rules.specs.declared.state.Train.{Train}
-use Rattle.rules.specs.State.{isAsked, isRunning, trainOf, lineOf, withStatus, arrivedNext}
+use Rattle.rules.specs.State.{isAsked, isRunning, reachedBy, trainOf, lineOf, withStatus, arrivedNext}
 use Rattle.rules.specs.Granting.{Work, granted, settled}
 use Rattle.rules.specs.Answer.{taken, declined, accepted, answer}
 use Rattle.rules.proofs.Trains.{asked-idle, running-is, route-of}
@@ -28,14 +28,14 @@ use Rattle.rules.proofs.Acceptance.{Taken, request, arrival, by-verdict}
 use Rattle.assurance.specs.Types.{Move, Message, Fa, Am, Record, State}
 use Rattle.assurance.specs.Run.{Input, run}
 use Rattle.assurance.specs.Observer.{Observer}
-use Rattle.assurance.specs.Arrival.{isSent, acceptedFrames, framesBy, mostFrames}
+use Rattle.assurance.specs.Arrival.{isSent, acceptedFrames, framesTold, mostFrames}
 use Rattle.assurance.proofs.Invariant.{Invariant}
 use Rattle.assurance.proofs.Records.{changed-sum}
 use Rattle.assurance.proofs.Told.{at-post, asked-told, authority-told}
 
 abbrev framesOf : Train → ℕ
 framesOf x =
-    2 * distance (x .route .start .0) (x .at .0) + (ofBool (isAsked (x .status)) + ofBool (isRunning (x .status)))
+    distance (x .route .start .0) (x .at .0) + (reachedBy x + ofBool (isAsked (x .status)))
 
 abbrev pub framesIn : State → ℕ
 framesIn s = sumBelow (s .trains) (λ t. framesOf (trainOf s t))
@@ -48,7 +48,7 @@ module _ (table : List ℕ) where
       let s = w .state in
       let asks = grantable-facts table s t (f .can) .asks in
       let one : framesOf (trainOf s t) ≡ framesOf (withStatus (trainOf s t) Running) =
-      rw (asks, asked-idle (trainOf s t .status) asks) in
+      rw (asks, asked-idle (trainOf s t .status) asks) (omega arith) in
       omega (
         arith,
         changed-sum framesOf s t (withStatus (trainOf s t) Running) (s .logged + 1) (f .known)
@@ -97,8 +97,8 @@ module _ (table : List ℕ) where
       omega (arith, answer-frames s j (i .frame) (i .out), run-frames is (a .state) (a .journal))
 
   pub frames-told : (s : State) (j : List Record) (o : Observer) → Invariant table s j o
-      → framesIn s ≡ sumBelow (s .trains) (framesBy (lineOf s) o)
-  frames-told s j o inv = sum-cong (s .trains) (λ t. framesOf (trainOf s t)) (framesBy (lineOf s) o) (λ t kt.
+      → framesIn s ≡ sumBelow (s .trains) (framesTold (lineOf s) o)
+  frames-told s j o inv = sum-cong (s .trains) (λ t. framesOf (trainOf s t)) (framesTold (lineOf s) o) (λ t kt.
       rw (
         at-post table s j o inv t kt,
         route-of s t,
@@ -113,7 +113,8 @@ frames-within s d = sum-mono (s .trains) (λ t. framesOf (trainOf s t)) (λ t. 2
   where
     at : (t : ℕ) → t < s .trains → (w : Status) → trainOf s t .status ≡ w
         → let x = trainOf s t in
-        2 * distance (x .route .start .0) (x .at .0) + (ofBool (isAsked w) + ofBool (isRunning w))
+        let far = distance (x .route .start .0) (x .at .0) in
+        far + ((far + ofBool (isRunning w)) + ofBool (isAsked w))
         ≤ 2 * distance (x .route .start .0) (x .route .end .0)
     at t kt Free e = omega (arith, travelled-within _ _ _ (d .each t kt .inside))
     at t kt (Asked n) e = omega (arith, next-within _ _ _ (d .each t kt .inside) (d .each t kt .busy (rw e)))

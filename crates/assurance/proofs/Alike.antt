@@ -1,6 +1,6 @@
 -- Alike states: the same tests pass, the same trains are granted, and a train's new record leaves them alike.
 -- Assumes nothing.
-use mathlib.Core.Path.{_≡_, refl, sym, ap, _∙_}
+use mathlib.Core.Path.{_≡_, refl, sym, ap, subst, _∙_}
 use mathlib.Core.Bool.{Bool, true, cond}
 use mathlib.Core.Option.{Option, none, some}
 use mathlib.Core.List.{List, [], _∷_, _++_}
@@ -30,7 +30,7 @@ use Rattle.rules.specs.Valid.{valid}
 use Rattle.rules.specs.Granting.{grantable, older, oldest, Work, granted, proceed, grants}
 use Rattle.rules.specs.Answer.{isFa, isAm, moveIn, moveChecks, frameChecks}
 use Rattle.rules.proofs.Trains.{route-of, in-fleet, changed, changed-own, changed-other}
-use Rattle.rules.proofs.Validity.{Valid, valid-facts, is-valid, asked-short, next-post-below}
+use Rattle.rules.proofs.Validity.{TrainValid, Valid, valid-facts, is-valid, asked-short, next-post-below}
 use Rattle.rules.proofs.Changes.{grantable-facts, is-grantable}
 use Rattle.rules.proofs.Oldest.{oldest-some}
 use Rattle.rules.proofs.Grants.{Turn, granted-place}
@@ -90,7 +90,8 @@ module _ (s u : State) (a : Alike s u) where
           starts = λ t k. rw (a .posts, route-same t (trains t k)) (d .line .starts t (trains t k));
           ends = λ t k. rw (a .posts, route-same t (trains t k)) (d .line .ends t (trains t k));
         };
-        each = λ t k. rw (a .logged, a .train t (trains t k)) (d .each t (trains t k));
+        each = λ t k. rw (a .train t (trains t k))
+            (subst (TrainValid (trainOf s t)) (sym (a .logged)) (d .each t (trains t k)));
         sections = λ i k. rw (section-same i) (d .sections i (posts i k));
         posts = λ p k. rw (post-same p, a .tracks p (posts p k)) (d .posts p (posts p k));
         few-logged = rw (a .logged) (d .few-logged);

@@ -14,6 +14,7 @@ use Rattle.common.proofs.Sums.{sum-le}
 use Rattle.line.specs.Line.{routeOf}
 use Rattle.line.specs.Book.{lineOf as lineIn}
 use Rattle.frame.specs.Frame.{readFrame, bytesOf}
+use Rattle.frame.proofs.RoundTrip.{round-trip}
 use Rattle.completion.specs.Table.{tableLength, filled}
 use Rattle.rules.specs.declared.state.Status.{Status}
 use Rattle.rules.specs.declared.state.Status.the-variants.{Free, Asked, Running}
@@ -24,20 +25,19 @@ use Rattle.rules.proofs.Trains.{running-is, route-of}
 use Rattle.rules.proofs.Acceptance.{NextMove, Taken, request, arrival, by-verdict}
 use Rattle.rules.proofs.Taking.{taken-accepted}
 use Rattle.assurance.specs.Types.{Line, Message, Fa, Record, State, Sent, RefusedBy}
-use Rattle.assurance.specs.Run.{Input, Ran, run}
+use Rattle.assurance.specs.Run.{Input, Ran, run, answerAfter}
 use Rattle.assurance.specs.Observer.{Observer, atOpening, observe}
 use Rattle.assurance.specs.WholeList.{Unhindered, Assured}
-use Rattle.assurance.specs.Arrival.{dueBy, due, acceptedFrames, framesBy, verdictAfter, Arrives}
-use Rattle.assurance.specs.Arrival.{Arrival}
+use Rattle.assurance.specs.Homecoming.{AllAtEnds}
+use Rattle.assurance.specs.Arrival.{dueBy, due, acceptedFrames, framesTold, Arrives, Arrival}
 use Rattle.assurance.proofs.Invariant.{claimOf, Invariant}
 use Rattle.assurance.proofs.Exchanged.{Settled}
 use Rattle.assurance.proofs.Accepted.{framesIn, run-frames, frames-told, frames-within, few-frames}
 use Rattle.assurance.proofs.NeverRefused.{Counted, opened-counted}
 use Rattle.assurance.proofs.Opened.{opening-accepted, opened-line, opened-settled}
 use Rattle.assurance.proofs.Ran.{run-kept}
-use Rattle.assurance.proofs.Told.{seen, at-post, asked-told, assured}
-use Rattle.assurance.proofs.InVain.{same-next}
-use Rattle.assurance.proofs.Homecoming.{next-move, run-counted, long-table}
+use Rattle.assurance.proofs.Told.{seen, at-post, asked-told, next-told, assured}
+use Rattle.assurance.proofs.Homecoming.{next-move, taken-message, run-counted, long-table}
 
 -- ---- the frame that a train has before it
 
@@ -47,7 +47,7 @@ dueOf s w t = dueBy (claimOf w (trainOf s t .at .0) (nextOf (trainOf s t))) (nex
 
 module _ (table : List ℕ) (s : State) (j : List Record) (o : Observer) (inv : Invariant table s j o) where
   due-told : (t : ℕ) → t < s .trains → due (lineOf s) o t ≡ dueOf s (trainOf s t .status) t
-  due-told t kt = rw (same-next table s j o inv t kt, seen table s j o inv t kt)
+  due-told t kt = rw (next-told table s j o inv t kt, seen table s j o inv t kt)
 
   -- a train that does not wait
   due-taken : Counted s → (u : Unhindered (lineOf s) o) → Taken s (due (lineOf s) o (u .train))
@@ -102,7 +102,7 @@ module _ (table : List ℕ) (long : tableLength ≤ length table) (r : Ran) (o :
   s = r .state
 
   due-accepted : (u : Unhindered (lineOf s) o) (out : List ℕ) → outLength ≤ length out
-      → (n : ℕ) × (verdictAfter table r (bytesOf (due (lineOf s) o (u .train))) out ≡ Sent n)
+      → (n : ℕ) × (answerAfter table r (bytesOf (due (lineOf s) o (u .train))) out .verdict ≡ Sent n)
   unfolding answer
   due-accepted u out room =
       let a = due (lineOf s) o (u .train) in
@@ -113,18 +113,22 @@ module _ (table : List ℕ) (long : tableLength ≤ length table) (r : Ran) (o :
       let same = accepts (answered (s .logged) (r .journal) out w) (refused s (r .journal) out) e in
       (length (sent w), ap (λ (b : Answer). b .verdict) same)
 
-  accepted-due : (frame out : List ℕ) (n : ℕ) → verdictAfter table r frame out ≡ Sent n
-      → (u : Unhindered (lineOf s) o) × (readFrame frame ≡ due (lineOf s) o (u .train))
+  accepted-due : (frame out : List ℕ) (n : ℕ) → answerAfter table r frame out .verdict ≡ Sent n
+      → (u : Unhindered (lineOf s) o) × (frame ≡ bytesOf (due (lineOf s) o (u .train)))
   accepted-due frame out n =
       by-verdict s table (r .journal) frame out
       (λ (a : Answer). a .verdict ≡ Sent n
-      → (u : Unhindered (lineOf s) o) × (readFrame frame ≡ due (lineOf s) o (u .train)))
+      → (u : Unhindered (lineOf s) o) × (frame ≡ bytesOf (due (lineOf s) o (u .train))))
       (λ m q e. absurd (let z : _≡_ {A = ℕ} 0 1 = cc in omega arith))
-      (λ p e. taken-due table s (r .journal) o (k .kept) (readFrame frame) (p .message))
+      (λ p e.
+      let d = taken-due table s (r .journal) o (k .kept) (readFrame frame) (p .message) in
+      let written = round-trip .only frame (taken-message s (readFrame frame) (p .message)) in
+      (d .0, sym written ∙ ap bytesOf (d .1)))
 
   all-ended : Assured (lineOf s) r o
-      → ((frame out : List ℕ) → outLength ≤ length out → (n : ℕ) × (verdictAfter table r frame out ≡ RefusedBy n))
-      → (t : ℕ) → t < s .trains → o t .post ≡ routeOf (lineOf s) t .end .0
+      → ((frame out : List ℕ) → outLength ≤ length out
+      → (n : ℕ) × (answerAfter table r frame out .verdict ≡ RefusedBy n))
+      → AllAtEnds (lineOf s) o
   all-ended sure none t kt = by-equality (o t .post) (routeOf (lineOf s) t .end .0) (λ e. e) (λ short.
       let u = sure .onward t kt short in
       let a = due-accepted u (replicate outLength 0) (omega arith) in
@@ -156,11 +160,12 @@ arrival-of-all book table journal inputs e =
     let a = opening-accepted book table journal e in
     let k = opened-settled l table journal (a .1) (opened-line book) in
     let counted : Counted (openedState l) = rw (a .0) at (opened-counted book table journal e) in
-    let told : framesIn (openedState l) ≡ sumBelow (l .trains) (framesBy l (atOpening l)) =
-    subst (λ (z : Line). framesIn (openedState l) ≡ sumBelow (l .trains) (framesBy z (atOpening l))) (opened-line book)
+    let told : framesIn (openedState l) ≡ sumBelow (l .trains) (framesTold l (atOpening l)) =
+    subst (λ (z : Line). framesIn (openedState l) ≡ sumBelow (l .trains) (framesTold z (atOpening l)))
+    (opened-line book)
     (frames-told (filled l table) (openedState l) journal (atOpening l) (k .kept)) in
     let none : framesIn (openedState l) ≡ 0 =
-    omega (arith, sum-le (l .trains) 0 (framesBy l (atOpening l)) (λ t kt. omega arith)) in
+    omega (arith, sum-le (l .trains) 0 (framesTold l (atOpening l)) (λ t kt. omega arith)) in
     subst
     (λ (o : Opening).
     let r = run (o .table) (o .state) journal inputs in Arrives (o .table) l r (observe (atOpening l) (r .exchanges)))

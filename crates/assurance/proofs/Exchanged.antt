@@ -1,12 +1,12 @@
 -- One frame: the answers are read back from the out buffer, and the answer to any frame, accepted or refused, keeps the
 -- invariant.
 -- Assumes nothing.
-use mathlib.Core.Path.{_≡_, refl}
+use mathlib.Core.Path.{_≡_, refl, ap, _∙_}
 use mathlib.Core.List.{List, [], _∷_, _++_, append-assoc, map, List·Memᴰ, List·Memᴰ·head, List·Memᴰ·tail}
 use mathlib.Core.List.{List·Memᴰ·not-nil}
 use Prim.Native.Nat.{ℕ, _+_}
 use native.Mathlib.Omega.{arith}
-use lib.ListN.{length, drop}
+use lib.ListN.{length, take, drop}
 use lib.Seq.{take-at, drop-at}
 use Rattle.common.specs.Part.{replaced}
 use Rattle.common.proofs.Part.{replaced-before}
@@ -33,15 +33,16 @@ read-back : (l : List Message) (rest : List ℕ) → ((a : Message) → List·Me
 unfolding readFrames framesOf
 read-back [] rest h = refl
 read-back (a ∷ l) rest h =
-    let message : readFrame (bytesOf a) ≡ a = round-trip .back a (h a (List·Memᴰ·head refl)) in
-    let others : readFrames (length l) (framesOf l ++ rest) ≡ l = read-back l rest (λ b q. h b (List·Memᴰ·tail q)) in
-    rw (
-      append-assoc (bytesOf a) (framesOf l) rest,
-      take-at (bytesOf a) (framesOf l ++ rest) 7 (bytes-length a),
-      drop-at (bytesOf a) (framesOf l ++ rest) 7 (bytes-length a),
-      message,
-      others,
-    )
+    let bytes = append-assoc (bytesOf a) (framesOf l) rest in
+    let first : take 7 (framesOf (a ∷ l) ++ rest) ≡ bytesOf a =
+    ap (take 7) bytes ∙ take-at (bytesOf a) (framesOf l ++ rest) 7 (bytes-length a) in
+    let others : drop 7 (framesOf (a ∷ l) ++ rest) ≡ framesOf l ++ rest =
+    ap (drop 7) bytes ∙ drop-at (bytesOf a) (framesOf l ++ rest) 7 (bytes-length a) in
+    let message : readFrame (take 7 (framesOf (a ∷ l) ++ rest)) ≡ a =
+    ap readFrame first ∙ round-trip .back a (h a (List·Memᴰ·head refl)) in
+    ap (λ (b : Message). b ∷ readFrames (length l) (drop 7 (framesOf (a ∷ l) ++ rest))) message
+    ∙ ap (λ (z : List ℕ). a ∷ readFrames (length l) z) others
+    ∙ ap (λ (z : List Message). a ∷ z) (read-back l rest (λ b q. h b (List·Memᴰ·tail q)))
 
 pub answers-back : (l : List Message) (out : List ℕ) → ((a : Message) → List·Memᴰ a l → IsMessage a)
     → readFrames (length l) (replaced out 0 (framesOf l)) ≡ l

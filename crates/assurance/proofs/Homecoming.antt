@@ -57,7 +57,7 @@ next-frame s k u known short free = by-cases (isRunning (trainOf s u .status))
     (λ e. (Fa (nextMove s u), request (nextMove s u) (next-move s k u known short) free e))
 
 -- what is taken is a message
-taken-message : (s : State) (a : Message) → Taken s a → IsMessage a
+pub taken-message : (s : State) (a : Message) → Taken s a → IsMessage a
 unfolding IsMessage
 taken-message s a (request m q free idle) = tt
 taken-message s a (arrival m q runs) = tt

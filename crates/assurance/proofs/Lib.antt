@@ -16,11 +16,11 @@ pub mod Unread
 pub mod Records
 pub mod NeverRefused
 pub mod Homecoming
-pub mod InVain
-pub mod Recorded
+pub mod Waiting
 pub mod Accepted
 pub mod Arrival
 pub mod Order
 pub mod Turns
+pub mod Recorded
 pub mod Serving
 pub mod Replies

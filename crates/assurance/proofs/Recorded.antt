@@ -1,10 +1,10 @@
--- The journal of a run is what was heard and said.
+-- The journal of a run, told by its exchanges: each adds its records after those that were there.
 -- Assumes nothing.
 use mathlib.Core.Path.{_≡_, refl, sym, ap, subst, _∙_}
 use mathlib.Core.List.{List, [], _∷_, _++_, append-assoc, append-nil, map}
 use Prim.Native.Nat.{ℕ, _+_}
 use native.Mathlib.Omega.{arith}
-use lib.ListN.{length, take, drop, length-append, length-map}
+use lib.ListN.{length, take, drop, length-append, length-map, take-append-drop}
 use lib.Seq.{take-at, drop-at, length-take-le, drop-drop}
 use Rattle.common.specs.Part.{replaced}
 use Rattle.frame.specs.Frame.{readFrame}
@@ -14,10 +14,11 @@ use Rattle.line.specs.Book.{lineOf as lineIn}
 use Rattle.rules.specs.Answer.{accepted, framesOf, sent, answered, answer}
 use Rattle.rules.specs.Opening.{Opening, openedState}
 use Rattle.rules.proofs.Acceptance.{Passed, by-verdict, accepted-facts}
-use Rattle.assurance.specs.Types.{Record, State}
+use Rattle.assurance.specs.Types.{Message, Record, State, Sent}
 use Rattle.assurance.specs.Run.{Input, run}
 use Rattle.assurance.specs.Observer.{readFrames}
-use Rattle.assurance.specs.Recorded.{heardAndSaid, minutes, Recorded, JournalTold}
+use Rattle.assurance.specs.Replies.{loggedBy}
+use Rattle.assurance.specs.Recorded.{loggedIn, Recorded, JournalTold}
 use Rattle.assurance.proofs.Exchanged.{answers-back}
 use Rattle.assurance.proofs.Opened.{opening-accepted}
 
@@ -27,25 +28,30 @@ pub record Adds (s : State) (j : List Record) (u : State) (k : List Record) (new
   pub records : take (u .logged) k ≡ take (s .logged) j ++ new
   pub rest : drop (u .logged) k ≡ drop (u .logged) j
 
+-- the whole journal
+pub all-records : {s u : State} {j k new : List Record} → Adds s j u k new
+    → k ≡ take (s .logged) j ++ new ++ drop (u .logged) j
+all-records {u = u} {k = k} a = sym (take-append-drop (u .logged) k) ∙ rw (a .records, a .rest)
+
 module _ (table : List ℕ) (s : State) (j : List Record) (frame out : List ℕ) where
   accepted-adds : Passed s table j frame out
       → let a = answered (s .logged) j out (accepted table s (readFrame frame)) in
-      Adds s j (a .state) (a .journal) (heardAndSaid (a .verdict) frame (a .out))
+      Adds s j (a .state) (a .journal) (loggedBy (a .verdict) frame (a .out))
   unfolding replaced
   accepted-adds p =
       let w = accepted table s (readFrame frame) in
       let facts = accepted-facts table s (p .valid-state) (readFrame frame) (p .message) in
-      let back : readFrames (length (sent w)) (replaced out 0 (framesOf (sent w))) ≡ sent w =
-      answers-back (sent w) out (facts .messages) in
-      let new : map recordOf (w .logged) ≡ recordOf (readFrame frame) ∷ map recordOf (sent w) =
-      ap (map recordOf) (facts .first) in
+      let after = replaced out 0 (framesOf (sent w)) in
+      let back : readFrames (length (sent w)) after ≡ sent w = answers-back (sent w) out (facts .messages) in
+      let new : map recordOf (w .logged) ≡ loggedBy (Sent (length (sent w))) frame after =
+      ap (map recordOf) (facts .first ∙ ap (λ (z : List Message). readFrame frame ∷ z) (sym back)) in
       let size : length (map recordOf (w .logged)) ≡ length (w .logged) = length-map (w .logged) recordOf in
       let old : length (take (s .logged) j) ≡ s .logged =
       length-take-le (s .logged) j (omega (arith, p .long-journal, p .valid-state .few-logged)) in
       let whole : length (take (s .logged) j ++ map recordOf (w .logged)) ≡ w .state .logged =
       length-append (take (s .logged) j) (map recordOf (w .logged)) ∙ omega (arith, facts .counted) in
       let reach : s .logged + length (map recordOf (w .logged)) ≡ w .state .logged = omega (arith, facts .counted) in
-      rw (back, ← new) (record {
+      subst (Adds s j (w .state) (replaced j (s .logged) (map recordOf (w .logged)))) new (record {
         count = facts .counted ∙ rw size;
         records = take-at (take (s .logged) j ++ map recordOf (w .logged)) _ (w .state .logged) whole;
         rest = drop-at (take (s .logged) j ++ map recordOf (w .logged)) _ (w .state .logged) whole
@@ -53,23 +59,23 @@ module _ (table : List ℕ) (s : State) (j : List Record) (frame out : List ℕ)
       })
 
   pub answer-adds : let a = answer s table j frame out in
-      Adds s j (a .state) (a .journal) (heardAndSaid (a .verdict) frame (a .out))
+      Adds s j (a .state) (a .journal) (loggedBy (a .verdict) frame (a .out))
   answer-adds = by-verdict s table j frame out
-      (λ a. Adds s j (a .state) (a .journal) (heardAndSaid (a .verdict) frame (a .out)))
+      (λ a. Adds s j (a .state) (a .journal) (loggedBy (a .verdict) frame (a .out)))
       (λ n e. record { count = omega arith; records = sym (append-nil (take (s .logged) j)); rest = refl })
       accepted-adds
 
 run-adds : (table : List ℕ) (inputs : List Input) (s : State) (j : List Record)
-    → let r = run table s j inputs in Adds s j (r .state) (r .journal) (minutes (r .exchanges))
-unfolding run minutes
+    → let r = run table s j inputs in Adds s j (r .state) (r .journal) (loggedIn (r .exchanges))
+unfolding run loggedIn
 run-adds table [] s j =
     record { count = omega arith; records = sym (append-nil (take (s .logged) j)); rest = refl }
 run-adds table (i ∷ is) s j =
     let a = answer s table j (i .frame) (i .out) in
     let f = answer-adds table s j (i .frame) (i .out) in
     let r = run-adds table is (a .state) (a .journal) in
-    let new = heardAndSaid (a .verdict) (i .frame) (a .out) in
-    let more = minutes (run table (a .state) (a .journal) is .exchanges) in
+    let new = loggedBy (a .verdict) (i .frame) (a .out) in
+    let more = loggedIn (run table (a .state) (a .journal) is .exchanges) in
     let end = run table (a .state) (a .journal) is .state .logged in
     record {
       count = r .count ∙ omega (arith, f .count, length-append new more);
@@ -89,4 +95,4 @@ journal-told book table journal inputs e =
     let a = opening-accepted book table journal e in
     let f = run-adds (filled l table) inputs (openedState l) journal in
     subst (λ (o : Opening). Recorded journal (run (o .table) (o .state) journal inputs)) (sym (a .0))
-    (record { count = f .count ∙ omega arith; records = f .records; rest = f .rest })
+    (record { count = f .count ∙ omega arith; records = all-records f })

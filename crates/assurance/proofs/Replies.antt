@@ -27,7 +27,7 @@ use Rattle.assurance.specs.Replies.{Awaited, Authorities, Reply, OnlyAdd
 use Rattle.assurance.specs.Replies as replies
 use Rattle.assurance.proofs.Serving.{Serves, begins, settled-serves}
 use Rattle.assurance.proofs.Exchanged.{answers-back}
-use Rattle.assurance.proofs.Recorded.{answer-adds}
+use Rattle.assurance.proofs.Recorded.{all-records, answer-adds}
 
 -- ---- from the state before the frame on
 
@@ -70,7 +70,8 @@ module _ (s : State) (m : Move) (n : NextMove s m) where
       (λ e. rw (e, drop-append-le 1 (w .logged) (Afe m ∷ []) (k .begun)) (replies.declined m (sent w) all (λ q h same.
       let g = k .each (Fe q) h in
       let is : q ≡ g .0 = let y = g .1 in cc in
-      clash (isAsked (trainOf (w .state) t .status)) e (rw (← is, same) at (g .2 .runs)))))
+      let own : g .0 .train .0 ≡ t = ap (λ (z : Move). z .train .0) (sym is) ∙ same in
+      clash (isAsked (trainOf (w .state) t .status)) e (rw own at (g .2 .runs)))))
       (λ e. rw e (replies.granted m (sent w) all
       (rw mine at (k .served t (rw (changed-own s t asking (s .logged + 1) place)) e))))
     where
@@ -144,8 +145,7 @@ module _ (s : State) (table : List ℕ) (journal : List Record) (frame out : Lis
       record {
         rest = rest-kept e;
         count = f .count ∙ omega (arith, length-map (readFrames n (a .out)) recordOf, read-count n (a .out));
-        records = f .records;
-        past = f .rest;
+        records = all-records f;
       }
 
 pub all-replies : Replies

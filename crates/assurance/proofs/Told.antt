@@ -1,22 +1,27 @@
 -- The observer tells of each train what its record says, so that the invariant says what is claimed.
 -- Assumes nothing.
 use mathlib.Core.Path.{_≡_, refl, sym, ap, _∙_}
+use mathlib.Core.Logic.{_≢_}
+use mathlib.Core.Bool.{false}
 use mathlib.Core.List.{List}
-use Prim.Native.Nat.{ℕ, _<_}
+use Prim.Native.Nat.{ℕ, _+_, _<_}
 use native.Mathlib.Omega.{arith}
+use Rattle.common.specs.Below.{ofBool}
 use Rattle.common.proofs.Below.{count-cong}
-use Rattle.line.specs.Route.{nextPost}
+use Rattle.line.specs.Route.{nextPost, distance}
 use Rattle.line.specs.Line.{routeOf}
-use Rattle.line.specs.Holding.{Whereabouts, holdsPost}
+use Rattle.line.specs.Holding.{Whereabouts, holdsPost, holdsSection, postHolders, sectionHolders}
 use Rattle.rules.specs.declared.state.Status.{Status}
 use Rattle.rules.specs.declared.state.Status.the-variants.{Free, Asked, Running}
 use Rattle.rules.specs.declared.state.Train.{Train}
-use Rattle.rules.specs.State.{isAsked, isRunning, nextOf, trainOf, lineOf, locatedBy as recordedBy, located as recorded}
+use Rattle.rules.specs.State.{isFree, isAsked, isRunning, nextOf, trainOf, lineOf, locatedBy as recordedBy}
+use Rattle.rules.specs.State.{located as recorded, reached}
 use Rattle.rules.proofs.Trains.{route-of}
 use Rattle.rules.proofs.Validity.{one-holder, is-valid}
 use Rattle.assurance.specs.Types.{Record, State}
 use Rattle.assurance.specs.Run.{Ran}
-use Rattle.assurance.specs.Observer.{authority, Seen, Observer, locatedBy, located, hasAuthority, hasAsked}
+use Rattle.assurance.specs.Observer.{nothing, authority, Seen, Observer, locatedBy, located, hasAuthority}
+use Rattle.assurance.specs.Observer.{hasAsked, nextTold, reachedTold}
 use Rattle.assurance.specs.WholeList.{ShortOfEnd, Unhindered, Assured}
 use Rattle.assurance.proofs.Invariant.{claimOf, seenOf, Invariant}
 use Rattle.assurance.proofs.Standstill.{goes-on}
@@ -45,6 +50,11 @@ claim-move Free a b p q e = absurd (let z : _≡_ {A = ℕ} 0 1 = cc in omega ar
 claim-move (Asked n) a b p q e = absurd (let z : _≡_ {A = ℕ} 0 1 = cc in omega arith)
 claim-move Running a b p q e = (cc, cc)
 
+some-claim : (w : Status) (p q : ℕ) → claimOf w p q ≢ nothing → isFree w ≡ false
+some-claim Free p q h = absurd (h refl)
+some-claim (Asked n) p q h = refl
+some-claim Running p q h = refl
+
 -- ---- each train, by its record
 
 module _ (table : List ℕ) (s : State) (j : List Record) (o : Observer) (inv : Invariant table s j o) (t : ℕ)
@@ -67,6 +77,25 @@ module _ (table : List ℕ) (s : State) (j : List Record) (o : Observer) (inv : 
   pub authority-told : hasAuthority (o t .claim) ≡ isRunning (x .status)
   authority-told = ap (λ (y : Seen). hasAuthority (y .claim)) seen ∙ authority-as (x .status) (x .at .0) (nextOf x)
 
+  pub next-told : nextTold (lineOf s) o t ≡ nextOf x
+  next-told = ap (λ (p : ℕ). nextPost p (routeOf (lineOf s) t .end .0)) at-post ∙ rw (route-of s t)
+
+  pub reached-told : reachedTold (lineOf s) o t ≡ reached s t
+  reached-told =
+      ap (λ (y : Seen). distance (routeOf (lineOf s) t .start .0) (y .post) + ofBool (hasAuthority (y .claim))) seen
+      ∙ rw (route-of s t, authority-as (x .status) (x .at .0) (nextOf x))
+
+-- ---- who holds
+
+module _ (table : List ℕ) (s : State) (j : List Record) (o : Observer) (inv : Invariant table s j o) where
+  pub sections-told : (i : ℕ) → sectionHolders (s .trains) (located o) i ≡ sectionHolders (s .trains) (recorded s) i
+  sections-told i = count-cong (s .trains) (λ u. holdsSection (located o u) i) (λ u. holdsSection (recorded s u) i)
+      (λ u ku. ap (λ (w : Whereabouts). holdsSection w i) (told table s j o inv u ku))
+
+  pub posts-told : (p : ℕ) → postHolders (s .trains) (located o) p ≡ postHolders (s .trains) (recorded s) p
+  posts-told p = count-cong (s .trains) (λ u. holdsPost (located o u) p) (λ u. holdsPost (recorded s u) p)
+      (λ u ku. ap (λ (w : Whereabouts). holdsPost w p) (told table s j o inv u ku))
+
 -- ---- the claim over a list
 
 module _ (table : List ℕ) (r : Ran) (o : Observer) (k : Settled table (r .state) (r .journal) o) where
@@ -74,12 +103,20 @@ module _ (table : List ℕ) (r : Ran) (o : Observer) (k : Settled table (r .stat
   inv = k .kept
 
   onward-move : (t p q : ℕ) → t < r .state .trains → o t .claim ≡ authority p q
-      → (p ≡ o t .post) × (q ≡ nextPost p (routeOf (lineOf (r .state)) t .end .0))
+      → (p ≡ o t .post) × (q ≡ nextTold (lineOf (r .state)) o t)
   onward-move t p q kt e =
       let x = trainOf (r .state) t in
       let same = ap (λ (y : Seen). y .claim) (seen table (r .state) (r .journal) o inv t kt) in
       let m = claim-move (x .status) (x .at .0) (nextOf x) p q (sym same ∙ e) in
-      (m .0 ∙ sym (at-post table _ _ o inv t kt), m .1 ∙ rw (m .0, route-of (r .state) t))
+      (m .0 ∙ sym (at-post table _ _ o inv t kt), m .1 ∙ sym (next-told table _ _ o inv t kt))
+
+  short-of-end : (t : ℕ) → t < r .state .trains → o t .claim ≢ nothing → ShortOfEnd (lineOf (r .state)) o t
+  short-of-end t kt some e =
+      let s = r .state in
+      let here = at-post table _ _ o inv t kt in
+      let same = ap (λ (y : Seen). y .claim) (seen table s (r .journal) o inv t kt) in
+      inv .valid-state .each t kt .busy (some-claim (trainOf s t .status) _ _ (λ q. some (same ∙ q)))
+      (sym here ∙ e ∙ rw (route-of s t))
 
   not-waiting : (t : ℕ) → t < r .state .trains → ShortOfEnd (lineOf (r .state)) o t → Unhindered (lineOf (r .state)) o
   not-waiting t kt short =
@@ -102,15 +139,13 @@ module _ (table : List ℕ) (r : Ran) (o : Observer) (k : Settled table (r .stat
         sections = λ i t u kt ku p q.
             one-holder s (inv .valid-state) i t u kt ku (rw (told t kt) at p) (rw (told u ku) at q);
         posts = λ p kp.
-            rw (count-cong (s .trains) (λ t. holdsPost (located o t) p) (λ t. holdsPost (recorded s t) p)
-            (λ t kt. ap (λ (w : Whereabouts). holdsPost w p) (told t kt)))
-            (inv .valid-state .posts p kp);
+            rw (posts-told table s (r .journal) o inv p) (inv .valid-state .posts p kp);
         moves = onward-move;
+        short = short-of-end;
         requests = requested;
         onward = not-waiting;
         authorities-given = λ t kt. inv .each t kt .authorities;
         authorities-seen = λ t kt.
-            inv .each t kt .authorities
-            ∙ rw (at-post table _ _ o inv t kt, route-of s t, authority-told table _ _ o inv t kt);
+            inv .each t kt .authorities ∙ sym (reached-told table _ _ o inv t kt);
         valid-state = is-valid s (inv .valid-state);
       }

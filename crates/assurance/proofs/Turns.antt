@@ -37,8 +37,8 @@ use Rattle.assurance.proofs.Steps.{request-kept, arrival-kept}
 use Rattle.assurance.proofs.Accept.{Room, Worked, granted-worked, taken-worked}
 use Rattle.assurance.proofs.Exchanged.{Settled, answers-back, answer-kept}
 use Rattle.assurance.proofs.Opened.{opening-accepted, opened-line, opened-settled}
-use Rattle.assurance.proofs.Told.{at-post, asked-told}
-use Rattle.assurance.proofs.InVain.{same-next, could-granted, granted-could}
+use Rattle.assurance.proofs.Told.{at-post, asked-told, next-told}
+use Rattle.assurance.proofs.Waiting.{could-granted, granted-could}
 use Rattle.assurance.proofs.WholeList.{opened-run}
 
 -- ---- the answers to one frame
@@ -78,7 +78,7 @@ module _ (table : List ℕ) (c : ℕ) (j : List Record) (o : Observer) (long : j
     turn : InTurn (lineOf s) k (hearAnswers o (sent w)) (nextMove s t)
     turn = record {
       known = f .known;
-      next = rw (same-next table s _ _ inv t (f .known), at-post table s _ _ inv t (f .known));
+      next = rw (next-told table s _ _ inv t (f .known), at-post table s _ _ inv t (f .known));
       could = granted-could table s _ _ inv t (f .known) (f .can);
       first = λ u ku other could.
           let g = could-granted table s _ _ inv u ku could in

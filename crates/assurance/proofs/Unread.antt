@@ -17,12 +17,12 @@ use Rattle.rules.specs.declared.state.Status.the-variants.{Asked}
 use Rattle.rules.specs.State.{isAsked, trainOf, withStatus, arrivedNext}
 use Rattle.rules.specs.Granting.{Work, log, grants, settled}
 use Rattle.rules.specs.Answer.{mostLogged, moveIn, frameChecks, taken, declined, accepted, answered, refused, answer}
-use Rattle.rules.proofs.Trains.{changed, changed-other}
+use Rattle.rules.proofs.Trains.{changed, changed-other, changed-each}
 use Rattle.rules.proofs.Validity.{Valid}
 use Rattle.rules.proofs.Changes.{short-place, valid-request, valid-arrival}
-use Rattle.rules.proofs.Grants.{grants-keep}
+use Rattle.rules.proofs.Grants.{grants-keep, granted-place}
 use Rattle.rules.proofs.Settling.{Roomy, settled-settles}
-use Rattle.rules.proofs.Acceptance.{Taken, request, arrival, frame-passed, by-verdict}
+use Rattle.rules.proofs.Acceptance.{NextMove, Taken, request, arrival, frame-passed, by-verdict}
 use Rattle.assurance.specs.Types.{Line, Move, Message, Fa, Afe, Am, Record, State}
 use Rattle.assurance.specs.Unread.{Alike, SameAnswer, Unread, Kept, LeftAlone}
 use Rattle.assurance.proofs.Alike.{SameWork, refusal-same, changed-alike, logged-same, grants-same}
@@ -119,22 +119,32 @@ unread s u table journal frame out a =
 
 -- ---- nor written
 
-kept-changed : (s v : State) (t : ℕ) (x : Train) (n : ℕ) → Kept s v → t < s .trains → Kept s (changed v t x n)
-kept-changed s v t x n k known = record {
+kept-changed : (s v : State) (t : ℕ) (x : Train) (n : ℕ) → Kept s v → t < s .trains → t < length (v .fleet)
+    → x .route ≡ trainOf v t .route → Kept s (changed v t x n)
+kept-changed s v t x n k known place same = record {
   posts = k .posts;
   tracks = k .tracks;
   trains = k .trains;
   size = length-set (v .fleet) t x ∙ k .size;
+  routes = λ i. changed-each v t x n (λ u y. y .route ≡ trainOf s u .route) place (same ∙ k .routes t) i
+      (λ h. k .routes i);
   places = λ i h. changed-other v t x n i (λ e. omega arith) ∙ k .places i h;
 }
 
 unchanged : (s : State) → Kept s s
-unchanged s = record { posts = refl; tracks = refl; trains = refl; size = refl; places = λ t h. refl }
+unchanged s = record {
+  posts = refl;
+  tracks = refl;
+  trains = refl;
+  size = refl;
+  routes = λ t. refl;
+  places = λ t h. refl;
+}
 
 settled-kept : (table : List ℕ) (s : State) (w : Work) → Kept s (w .state)
     → Kept s (settled table w .state)
 settled-kept table s w = grants-keep table (λ (v : Work). Kept s (v .state))
-    (λ v t k f. kept-changed s (v .state) t _ _ k (omega (arith, f .known, k .trains)))
+    (λ v t k f. kept-changed s (v .state) t _ _ k (omega (arith, f .known, k .trains)) (granted-place table v t f) refl)
     (w .state .trains) w
 
 declined-kept : (s : State) (m : Move) (w : Work) → Kept s (w .state) → Kept s (declined m w .state)
@@ -144,19 +154,26 @@ declined-kept s m w k = by-cases (isAsked (trainOf (w .state) (m .train .0) .sta
       tracks = k .tracks;
       trains = k .trains;
       size = k .size;
+      routes = k .routes;
       places = k .places;
     }))
     (λ e. rw e k)
+
+-- the frame's own change of its train's record
+own-kept : (s : State) (m : Move) → NextMove s m → (x : Train) → x .route ≡ trainOf s (m .train .0) .route
+    → Kept s (changed s (m .train .0) x (s .logged + 1))
+own-kept s m n x same =
+    kept-changed s s (m .train .0) x _ (unchanged s) (n .known) (short-place s (m .train .0) (n .short)) same
 
 accepted-kept : (table : List ℕ) (s : State) (b : Message) → Taken s b → Kept s (accepted table s b .state)
 unfolding accepted
 accepted-kept table s b (request m n free idle) =
     let w = taken s (Fa m) (withStatus (trainOf s (m .train .0)) (Asked (s .logged))) in
     declined-kept s m (settled table w)
-    (settled-kept table s w (kept-changed s s (m .train .0) _ _ (unchanged s) (n .known)))
+    (settled-kept table s w (own-kept s m n _ refl))
 accepted-kept table s b (arrival m n runs) =
     settled-kept table s (taken s (Am m) (arrivedNext (trainOf s (m .train .0))))
-    (kept-changed s s (m .train .0) _ _ (unchanged s) (n .known))
+    (own-kept s m n _ refl)
 
 pub left-alone : LeftAlone
 left-alone s table journal frame out = by-verdict s table journal frame out (λ a. Kept s (a .state))

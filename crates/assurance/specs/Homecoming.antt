@@ -7,9 +7,9 @@ use Rattle.line.specs.Refusal.{strangeState, journalFull}
 use Rattle.line.specs.Line.{routeOf}
 use Rattle.line.specs.Book.{lineOf}
 use Rattle.rules.specs.Opening.{opening}
-use Rattle.assurance.specs.Types.{Record, RefusedBy}
+use Rattle.assurance.specs.Types.{Line, Record, RefusedBy}
 use Rattle.assurance.specs.Run.{Input, Exchange, run}
-use Rattle.assurance.specs.Observer.{atOpening, observe}
+use Rattle.assurance.specs.Observer.{Observer, atOpening, observe}
 
 -- in a run from an accepted opening the state is never strange and the journal never full
 pub record NeverRefused : Type 0 where
@@ -22,10 +22,14 @@ pub record NeverRefused : Type 0 where
       o .number ≡ 0 → (e : Exchange) → List·Memᴰ e (run (o .table) (o .state) journal inputs .exchanges)
       → e .verdict ≢ RefusedBy journalFull
 
--- after every list of frames some further list brings every train to its end, as the observer tells it
+-- every train is at its end, as the observer tells it
+abbrev pub AllAtEnds : Line → Observer → Type 0
+AllAtEnds l o = (t : ℕ) → t < l .trains → o t .post ≡ routeOf l t .end .0
+
+-- after every list of frames some further list brings every train to its end
 abbrev pub Homecoming : Type 0
 Homecoming = (book table : List ℕ) (journal : List Record) (inputs : List Input)
     → let o = opening book table journal in
     o .number ≡ 0 → (further : List Input)
     × (let l = lineOf book in let r = run (o .table) (o .state) journal (inputs ++ further) in
-    (t : ℕ) → t < l .trains → observe (atOpening l) (r .exchanges) t .post ≡ routeOf l t .end .0)
+    AllAtEnds l (observe (atOpening l) (r .exchanges)))

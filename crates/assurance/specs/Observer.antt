@@ -2,13 +2,16 @@
 -- never from state or journal."
 use mathlib.Core.Bool.{Bool, true, false, cond, _&&_}
 use mathlib.Core.List.{List, [], _∷_}
-use Prim.Native.Nat.{ℕ, zero, suc}
+use Prim.Native.Nat.{ℕ, zero, suc, _+_}
 use lib.Dec.{eqb}
 use lib.ListN.{take, drop}
+use Rattle.common.specs.Below.{ofBool}
 use Rattle.common.specs.Update.{update}
+use Rattle.line.specs.Route.{nextPost, distance}
 use Rattle.line.specs.Line.{routeOf}
 use Rattle.line.specs.Holding.{Whereabouts, at, moving}
 use Rattle.frame.specs.Frame.{readFrame}
+use Rattle.completion.specs.Configuration.{Configuration}
 use Rattle.assurance.specs.Types.{Line, Message, Fa, Fe, Afe, Am, Refused, Verdict, Sent, RefusedBy}
 use Rattle.assurance.specs.Run.{Exchange}
 
@@ -104,3 +107,15 @@ abbrev pub hasAsked : Claim → Bool
 hasAsked nothing = false
 hasAsked asked = true
 hasAsked (authority p q) = false
+
+-- its next post, on the way from its post to its end
+abbrev pub nextTold : Line → Observer → ℕ → ℕ
+nextTold l o t = nextPost (o t .post) (routeOf l t .end .0)
+
+-- the posts that it has travelled
+abbrev pub travelledTold : Line → Observer → ℕ → ℕ
+travelledTold l o t = distance (routeOf l t .start .0) (o t .post)
+
+-- the placing in which every train with an authority has reached its next post
+abbrev pub reachedTold : Line → Observer → Configuration
+reachedTold l o t = travelledTold l o t + ofBool (hasAuthority (o t .claim))

@@ -1,4 +1,4 @@
--- What an accepted frame is answered by, and what it leaves alone: for every state that is handed in, every table,
+-- What an accepted frame is answered by, and what it leaves as it was: for every state that is handed in, every table,
 -- right or altered, and every journal, frame and out buffer.
 use mathlib.Core.Path.{_≡_}
 use mathlib.Core.Logic.{_≢_, _⊎_}
@@ -10,10 +10,10 @@ use Rattle.frame.specs.Frame.{readFrame}
 use Rattle.journal.specs.Journal.{recordOf}
 use Rattle.rules.specs.State.{isAsked, trainOf, nextMove}
 use Rattle.rules.specs.Answer.{Answer, answer}
-use Rattle.assurance.specs.Types.{Move, Message, Fa, Fe, Afe, Am, Record, State, Sent}
+use Rattle.assurance.specs.Types.{Move, Message, Fa, Fe, Afe, Am, Record, State, Verdict, Sent, RefusedBy}
 use Rattle.assurance.specs.Observer.{readFrames}
 
--- the move of a train that waits: it was Asked in s, or asks by the frame a itself
+-- the next move of a train that waits: it was Asked in s, or asks by the frame a itself
 pub record Awaited (s : State) (a : Message) (m : Move) : Type 0 where
   pub known : m .train .0 < s .trains
   pub next : m ≡ nextMove s (m .train .0)
@@ -34,15 +34,19 @@ pub data Reply (s : State) : Message → List Message → Type 0 where
       → ((q : Move) → List·Memᴰ (Fe q) answers → q .train .0 ≢ m .train .0) → Reply s (Fa m) (answers ++ Afe m ∷ [])
   arrived : (m : Move) (answers : List Message) → Authorities s (Am m) answers → Reply s (Am m) answers
 
--- the journal and the out buffer after an accepted frame and its n answers
+-- the records of one exchange: "An accepted frame is logged, then each answer in order of sending."
+abbrev pub loggedBy : Verdict → List ℕ → List ℕ → List Record
+loggedBy (RefusedBy n) frame out = []
+loggedBy (Sent n) frame out = map recordOf (readFrame frame ∷ readFrames n out)
+
+-- the out buffer and the journal after an accepted frame with n answers
 pub record OnlyAdded (s : State) (journal : List Record) (frame out : List ℕ) (n : ℕ) (a : Answer) : Type 0 where
   -- "later bytes of the buffer are untouched"
   pub rest : drop (7 * n) (a .out) ≡ drop (7 * n) out
-  -- "An accepted frame is logged, then each answer in order of sending. .. Records past the count are untouched."
   pub count : a .state .logged ≡ s .logged + (1 + n)
-  pub records : take (a .state .logged) (a .journal)
-      ≡ take (s .logged) journal ++ map recordOf (readFrame frame ∷ readFrames n (a .out))
-  pub past : drop (a .state .logged) (a .journal) ≡ drop (a .state .logged) journal
+  -- the records that were there, the new ones, and "Records past the count are untouched."
+  pub records : a .journal
+      ≡ take (s .logged) journal ++ loggedBy (Sent n) frame (a .out) ++ drop (a .state .logged) journal
 
 pub record Replies : Type 0 where
   pub reply : (s : State) (table : List ℕ) (journal : List Record) (frame out : List ℕ) (n : ℕ)

@@ -32,3 +32,7 @@ run table s journal (i ∷ is) =
     let a = answer s table journal (i .frame) (i .out) in
     let r = run table (a .state) (a .journal) is in
     record { state = r .state; journal = r .journal; exchanges = exchange i a ∷ r .exchanges }
+
+-- the answer to one frame more, after a run with that table
+abbrev pub answerAfter : List ℕ → Ran → List ℕ → List ℕ → Answer
+answerAfter table r frame out = answer (r .state) table (r .journal) frame out

@@ -8,14 +8,13 @@ use lib.ListN.{length}
 use Rattle.common.specs.Update.{update}
 use Rattle.line.specs.Book.{lineOf}
 use Rattle.frame.specs.Frame.{moveOf, readFrame}
-use Rattle.rules.specs.Answer.{answer}
 use Rattle.rules.specs.Opening.{opening}
 use Rattle.assurance.specs.Types.{Line, Move, Message, Fa, Fe, Afe, Am, Refused, Record, Verdict, Sent, RefusedBy}
-use Rattle.assurance.specs.Run.{Input, Exchange, run}
-use Rattle.assurance.specs.Observer.{Observer, atOpening, hearFrame, hearAnswers, answersOf, observe}
-use Rattle.assurance.specs.InVain.{nextTold, CouldGo}
+use Rattle.assurance.specs.Run.{Input, Exchange, run, answerAfter}
+use Rattle.assurance.specs.Observer.{Observer, atOpening, hearFrame, hearAnswers, answersOf, observe, nextTold}
+use Rattle.assurance.specs.Waiting.{CouldGo}
 
--- by train: which frame of the list was its last accepted FA
+-- by train: the number in the list of its last accepted FA
 abbrev pub Turns : Type 0
 Turns = ℕ → ℕ
 
@@ -37,6 +36,7 @@ unfoldable pub turnsFrom : ℕ → Turns → List Exchange → Turns
 turnsFrom n k [] = k
 turnsFrom n k (e ∷ es) = turnsFrom (n + 1) (turnIn n k (e .frame) (e .verdict)) es
 
+-- a train that has not asked has 0, which nothing reads
 abbrev pub turns : List Exchange → Turns
 turns es = turnsFrom 0 (λ t. 0) es
 
@@ -55,7 +55,7 @@ TurnByTurn = (book table : List ℕ) (journal : List Record) (inputs : List Inpu
     o .number ≡ 0 → (i : Input)
     → let l = lineOf book in
     let r = run (o .table) (o .state) journal inputs in
-    let a = answer (r .state) (o .table) (r .journal) (i .frame) (i .out) in
+    let a = answerAfter (o .table) r (i .frame) (i .out) in
     let heard = hearFrame (observe (atOpening l) (r .exchanges)) (readFrame (i .frame)) in
     (said : List Message) (m : Move) (rest : List Message)
     → answersOf (a .verdict) (a .out) ≡ said ++ Fe m ∷ rest

@@ -29,15 +29,16 @@ abbrev pub Unread : Type 0
 Unread = (s u : State) (table : List ℕ) (journal : List Record) (frame out : List ℕ) → Alike s u
     → SameAnswer (answer s table journal frame out) (answer u table journal frame out)
 
--- P, T and the track counts are those of s, and so are the places for trains from T on
+-- P, T, the track counts and the routes are those of s, and so are the places for trains from T on
 pub record Kept (s v : State) : Type 0 where
   pub posts : v .posts ≡ s .posts
   pub tracks : v .tracks ≡ s .tracks
   pub trains : v .trains ≡ s .trains
   pub size : length (v .fleet) ≡ length (s .fleet)
+  pub routes : (t : ℕ) → trainOf v t .route ≡ trainOf s t .route
   pub places : (t : ℕ) → s .trains ≤ t → trainOf v t ≡ trainOf s t
 
--- nor are they written
+-- nor are they written, and no frame changes the line
 abbrev pub LeftAlone : Type 0
 LeftAlone = (s : State) (table : List ℕ) (journal : List Record) (frame out : List ℕ)
     → Kept s (answer s table journal frame out .state)

@@ -5,10 +5,9 @@ use mathlib.Core.Path.{_≡_}
 use mathlib.Core.Logic.{_≢_}
 use mathlib.Core.Bool.{Bool, true, false, _&&_}
 use mathlib.Core.List.{List, List·Memᴰ}
-use Prim.Native.Nat.{ℕ, _+_, _≤_, _<_}
+use Prim.Native.Nat.{ℕ, _≤_, _<_}
 use lib.Dec.{eqb}
-use Rattle.common.specs.Below.{ofBool, countBelow}
-use Rattle.line.specs.Route.{nextPost, distance}
+use Rattle.common.specs.Below.{countBelow}
 use Rattle.line.specs.Line.{routeOf, tracksAt}
 use Rattle.line.specs.Holding.{holdsSection, postHolders}
 use Rattle.line.specs.Book.{lineOf}
@@ -18,8 +17,8 @@ use Rattle.rules.specs.Valid.{valid}
 use Rattle.rules.specs.Opening.{opening}
 use Rattle.assurance.specs.Types.{Line, Move, Fa, Fe, Record}
 use Rattle.assurance.specs.Run.{Input, Exchange, Ran, run}
-use Rattle.assurance.specs.Observer.{authority, Observer, atOpening, answersOf, observe, located, hasAuthority}
-use Rattle.assurance.specs.Observer.{hasAsked}
+use Rattle.assurance.specs.Observer.{nothing, authority, Observer, atOpening, answersOf, observe, located}
+use Rattle.assurance.specs.Observer.{hasAsked, nextTold, reachedTold}
 
 -- "An authority written, that is an FE, has its logged request if, below the journal count, the journal has that FE
 -- and, at a lower number, an FA of the same train, from and to."
@@ -57,7 +56,9 @@ pub record Assured (l : Line) (r : Ran) (o : Observer) : Type 0 where
   pub posts : (p : ℕ) → p < l .posts → postHolders (l .trains) (located o) p ≤ tracksAt l p
   -- an authority is for the move from the train's post to its next one, so that the section between them is one
   pub moves : (t p q : ℕ) → t < l .trains → o t .claim ≡ authority p q
-      → (p ≡ o t .post) × (q ≡ nextPost p (routeOf l t .end .0))
+      → (p ≡ o t .post) × (q ≡ nextTold l o t)
+  -- a train that has asked or has an authority is short of its end
+  pub short : (t : ℕ) → t < l .trains → o t .claim ≢ nothing → ShortOfEnd l o t
   -- "Every authority written has its logged request."
   pub requests : (e : Exchange) → List·Memᴰ e (r .exchanges) → (m : Move)
       → List·Memᴰ (Fe m) (answersOf (e .verdict) (e .out)) → Requested r m
@@ -67,8 +68,7 @@ pub record Assured (l : Line) (r : Ran) (o : Observer) : Type 0 where
   -- "a train's FE records number its posts travelled, plus one while it is Running": by the state, and as the observer
   -- tells it
   pub authorities-given : (t : ℕ) → t < l .trains → authorities r t ≡ reached (r .state) t
-  pub authorities-seen : (t : ℕ) → t < l .trains
-      → authorities r t ≡ distance (routeOf l t .start .0) (o t .post) + ofBool (hasAuthority (o t .claim))
+  pub authorities-seen : (t : ℕ) → t < l .trains → authorities r t ≡ reachedTold l o t
   -- the state is valid, so that no frame of a run is refused by 1
   pub valid-state : valid (r .state) ≡ true
 
