@@ -4,11 +4,11 @@ use mathlib.Core.Path.{refl}
 use Rattle.common.specs.Below.{countBelow}
 use Rattle.frame.specs.Frame.{bytesOf}
 use Rattle.journal.specs.Journal.{recordOf}
-use Rattle.examples.specs.Reading.{opened, ranFrom, answersIn}
+use Rattle.examples.specs.Reading.{opened, ranWith, answersIn}
 use Rattle.examples.specs.Examples.{Examples, PrintedRun}
 
 pub examples : Examples
-unfolding countBelow bytesOf opened ranFrom answersIn
+unfolding countBelow bytesOf opened ranWith answersIn
 examples = record {
   a = refl;
   b = refl;
@@ -25,5 +25,5 @@ examples = record {
 }
 
 pub printed-run : PrintedRun
-unfolding bytesOf recordOf opened ranFrom
+unfolding bytesOf recordOf opened ranWith
 printed-run = refl

@@ -7,33 +7,38 @@ use Rattle.common.specs.Tabulate.{valuesFrom}
 use Rattle.line.specs.Line.{wellFormed}
 use Rattle.line.specs.Route.{between, nextPost}
 use Rattle.frame.specs.Frame.{readFrame, bytesOf}
+use Rattle.journal.specs.Journal.{recordOf}
 use Rattle.rules.specs.Valid.{valid}
 use Rattle.rules.specs.Answer.{answer}
-use Rattle.examples.specs.Reading.{opened, ranFrom, answersIn, seenIn}
-use Rattle.examples.specs.Further.{OlderThen, FullPost, Parked, SixTrains, BothHome, Precedence}
+use Rattle.examples.specs.Reading.{opened, ranWith, answersIn, seenIn}
+use Rattle.examples.specs.Further.{OlderThen, Stores, FullPost, Parked, SixTrains, BothHome, Precedence}
 
 pub older-then : OlderThen
-unfolding bytesOf opened ranFrom answersIn
+unfolding bytesOf opened ranWith answersIn
 older-then = refl
 
+pub stores : Stores
+unfolding bytesOf recordOf valuesFrom opened ranWith
+stores = record { verdicts = refl; out = refl; journal = refl }
+
 pub full-post : FullPost
-unfolding bytesOf opened ranFrom answersIn
+unfolding bytesOf opened ranWith answersIn
 full-post = refl
 
 pub parked : Parked
-unfolding bytesOf opened ranFrom answersIn
+unfolding bytesOf opened ranWith answersIn
 parked = record { passed = refl; blocks = refl; stays = refl }
 
 pub six-trains : SixTrains
-unfolding bytesOf opened ranFrom answersIn
+unfolding bytesOf opened ranWith answersIn
 six-trains = refl
 
 pub both-home : BothHome
-unfolding bytesOf opened ranFrom seenIn
+unfolding bytesOf opened ranWith seenIn
 both-home = (refl, refl)
 
 pub precedence : Precedence
-unfolding bytesOf opened ranFrom answer valid wellFormed between nextPost countBelow allBelow valuesFrom
+unfolding bytesOf opened ranWith answer valid wellFormed between nextPost countBelow allBelow valuesFrom
     refusal unlessRefused readFrame
 precedence = record {
   fresh = refl;

@@ -1,18 +1,19 @@
 -- Further examples: what the paper's own do not show.
 use mathlib.Core.Path.{_≡_}
-use mathlib.Core.List.{List, [], _∷_, map}
-use Prim.Native.Nat.{ℕ, _-_}
+use mathlib.Core.List.{List, [], _∷_, _++_, map}
+use Prim.Native.Nat.{ℕ, _+_, _-_}
 use lib.ListN.{replicate}
+use Rattle.common.specs.Tabulate.{valuesFrom, tabulate}
 use Rattle.frame.specs.Frame.{bytesOf}
-use Rattle.journal.specs.Journal.{journalLength, blank}
+use Rattle.journal.specs.Journal.{journalLength, blank, recordOf}
 use Rattle.completion.specs.Table.{tableLength}
 use Rattle.rules.specs.Answer.{outLength, answer}
 use Rattle.rules.specs.Opening.{emptyState}
-use Rattle.assurance.specs.Types.{State, Verdict, Sent, RefusedBy}
-use Rattle.assurance.specs.Run.{Ran}
+use Rattle.assurance.specs.Types.{Record, State, Verdict, Sent, RefusedBy}
+use Rattle.assurance.specs.Run.{Input, Ran}
 use Rattle.assurance.specs.Observer.{Seen, nothing}
-use Rattle.examples.specs.Reading.{fa, fe, afe, am, refusalOf, opened, ranFrom, ran, verdictsOf, answersIn}
-use Rattle.examples.specs.Reading.{seenIn}
+use Rattle.examples.specs.Reading.{fa, fe, afe, am, refusalOf, opened, ranWith, ranFrom, ran, verdictsOf}
+use Rattle.examples.specs.Reading.{answersIn, seenIn}
 use Rattle.examples.specs.Examples.{bookX, bookY, sentInTheRun}
 
 -- ---- an altered table
@@ -29,6 +30,41 @@ altered = 0 ∷ 3 ∷ replicate (tableLength - 2) 0
 abbrev pub OlderThen : Type 0
 OlderThen = answersIn (ranFrom (opened bookZ .state) altered (map bytesOf (fa 0 0 1 ∷ fa 1 3 2 ∷ [])))
     ≡ (afe 0 0 1 ∷ []) ∷ (fe 1 3 2 ∷ fe 0 0 1 ∷ []) ∷ []
+
+-- ---- stores that are not blank
+
+-- a byte and a record for each place, no two alike, so that one that is moved or cleared shows
+abbrev pub lentByte : ℕ → ℕ
+lentByte i = 100 + i
+
+abbrev pub lentRecord : ℕ → Record
+lentRecord i = recordOf (am i i i)
+
+-- a frame with an out buffer of 50 bytes
+abbrev pub lending : List ℕ → Input
+lending frame = record { frame = frame; out = tabulate 50 lentByte }
+
+-- book Z, a table without a bit and a journal of 178 records: train 0 asks
+abbrev pub withoutBits : Ran
+withoutBits =
+    ranWith (opened bookZ .state) (replicate tableLength 0) (tabulate 178 lentRecord)
+    (lending (bytesOf (fa 0 0 1)) ∷ [])
+
+-- then a table with the bit of code 1 alone, by which train 0 may move on: train 1 asks, and reports an arrival
+abbrev pub withBit1 : Ran
+withBit1 =
+    let r = withoutBits in
+    ranWith (r .state) (2 ∷ replicate (tableLength - 1) 0) (r .journal)
+    (map lending (map bytesOf (fa 1 3 2 ∷ am 1 3 2 ∷ [])))
+
+pub record Stores : Type 0 where
+  pub verdicts : verdictsOf withBit1 ≡ Sent 2 ∷ RefusedBy 12 ∷ []
+  -- train 0's FE, then the asker's AFE, then the bytes that were there; a refused frame writes nothing
+  pub out : map (λ e. e .out) (withBit1 .exchanges)
+      ≡ (bytesOf (fe 0 0 1) ++ bytesOf (afe 1 3 2) ++ valuesFrom 14 36 lentByte) ∷ tabulate 50 lentByte ∷ []
+  -- the five records, then those that were there
+  pub journal : withBit1 .journal
+      ≡ map recordOf (fa 0 0 1 ∷ afe 0 0 1 ∷ fa 1 3 2 ∷ fe 0 0 1 ∷ afe 1 3 2 ∷ []) ++ valuesFrom 5 173 lentRecord
 
 -- ---- a full post, a parked train, six trains
 

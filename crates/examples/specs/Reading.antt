@@ -1,5 +1,6 @@
--- How the examples are read: books are opened and frames put to the box with blank stores, and the answers are read
--- from the out buffers. The `unfolding` lines say which definitions are worked out where these are evaluated.
+-- How the examples are read: books are opened with blank stores, frames are put to the box with these or with others,
+-- and the answers are read from the out buffers. The `unfolding` lines say which definitions are worked out where these
+-- are evaluated.
 use mathlib.Core.List.{List, map}
 use Prim.Native.Nat.{ℕ}
 use lib.ListN.{take, replicate}
@@ -52,15 +53,19 @@ refusalOf book = opened book .number
 
 -- ---- runs
 
--- a frame with an out buffer of 42 bytes
+-- inputs put to a box in the state s, with a table and a journal
+unfoldable pub ranWith : State → List ℕ → List Record → List Input → Ran
+unfolding run answer refusal unlessRefused replaced accepted framesOf recordOf readFrame messageOf bytesOf valid
+    wellFormed between nextPost countBelow allBelow grantable oldest grants update codeBelow
+ranWith s table journal inputs = run table s journal inputs
+
+-- a frame with a blank out buffer of 42 bytes
 abbrev pub input : List ℕ → Input
 input frame = record { frame = frame; out = replicate outLength 0 }
 
 -- frames put to a box in the state s, with a table and a blank journal
-unfoldable pub ranFrom : State → List ℕ → List (List ℕ) → Ran
-unfolding run answer refusal unlessRefused replaced accepted framesOf recordOf readFrame messageOf bytesOf valid
-    wellFormed between nextPost countBelow allBelow grantable oldest grants update codeBelow
-ranFrom s table frames = run table s (replicate journalLength blank) (map input frames)
+abbrev pub ranFrom : State → List ℕ → List (List ℕ) → Ran
+ranFrom s table frames = ranWith s table (replicate journalLength blank) (map input frames)
 
 -- frames put to the box that a book opened, with the table that the opening filled
 abbrev pub ran : List ℕ → List (List ℕ) → Ran
