@@ -8,5 +8,6 @@ mod stepping;
 pub use answering::Logged;
 pub use answering::answer;
 pub use answering::answer_log;
+pub use checks::OUT_LENGTH;
 pub use stepping::Outcome;
 pub use stepping::step;

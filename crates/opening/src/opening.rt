@@ -78,7 +78,7 @@ fn refused(number: u8) -> Opened
 }
 
 // 01: "an empty state that is not sound (all 0 and Free".
-fn empty_state() -> State
+pub fn empty_state() -> State
     ensures { λ r. ⌜ r ≡ emptyState ⌝ }
 {
     let tracks = [0u8; 8];

@@ -1,51 +1,58 @@
--- Laws of a list of which n elements are kept.
+-- Laws of a text that is written byte by byte.
 -- Assumes nothing.
 use mathlib.Core.Path.{_≡_, refl, sym, ap, _∙_}
-use mathlib.Core.List.{List, [], _∷_, _++_, append-assoc, append-nil}
-use Prim.Native.Nat.{ℕ, zero, suc, _+_, _≤_, _<_}
+use mathlib.Core.List.{List, [], _∷_, _++_, append-assoc, append-nil, foldl-append}
+use Prim.Native.Nat.{ℕ, suc, _+_, _-_, _≤_, _<_}
 use native.Mathlib.Omega.{arith}
 use native.Mathlib.Numerals.{add-one}
-use lib.ListN.{length, take, set, getD, length-append, length-take}
-use lib.Seq.{take-all, take-suc, take-suc-set, take-append-le, length-take-le}
+use borrow.Author.Tests.{lt-ltb, le-ltb}
+use lib.ListN.{length, take, set, getD, replicate, length-append}
+use lib.Seq.{take-suc, set-at}
+use Rattle.printout.specs.Types.{Text}
+use Rattle.printout.specs.Text.{textLength, padded, textOf, withByte, followed}
 
-module _ {A : Type 0} where
-  -- what is kept of a part may be kept before more is added
-  pub keep-again : (n : ℕ) (a b : List A) → take n (take n a ++ b) ≡ take n (a ++ b)
-  keep-again zero a b = refl
-  keep-again (suc n) [] b = refl
-  keep-again (suc n) (x ∷ a) b = ap (λ (l : List A). x ∷ l) (keep-again n a b)
+-- a list with zeros after it, with one more in the place of the first of them
+pub padded-more : (n : ℕ) (l : List ℕ) (x : ℕ) → length l < n → set (padded n l) (length l) x ≡ padded n (l ++ (x ∷ []))
+padded-more n l x h =
+    let m : n - length l ≡ suc (n - (length l + 1)) = omega arith in
+    let zeros : List ℕ = replicate (n - (length l + 1)) 0 in
+    rw (length-append l (x ∷ []), append-assoc l (x ∷ []), m, set-at l 0 zeros x (length l) refl)
 
-  -- one more, where there is room
-  pub one-more : (n : ℕ) (l : List A) (at : ℕ) (x : A) → length l ≡ n → at < n
-      → take (at + 1) (set l at x) ≡ take n (take at l ++ (x ∷ []))
-  one-more n l at x e h =
-      let room : length (take at l ++ (x ∷ [])) ≤ n =
-      rw (length-append (take at l) (x ∷ []), length-take-le at l (omega arith)) (omega arith) in
-      rw (add-one, take-suc-set l at x (omega arith)) (sym (take-all n _ room))
+-- one byte more, where there is room and where there is none
+pub one-more : (t : Text) (x : ℕ) → t .length < textLength
+    → record { bytes = set (t .bytes) (t .length) x; length = t .length + 1 } ≡ withByte t x
+unfolding withByte
+one-more t x h = rw (lt-ltb (t .length) textLength h)
 
-  -- and where there is none
-  pub none-more : (n : ℕ) (l : List A) (at : ℕ) (x : A) → length l ≡ n → n ≤ at
-      → take n l ≡ take n (take at l ++ (x ∷ []))
-  none-more n l at x e h = rw (take-all at l (omega arith), take-append-le n l (x ∷ []) (omega arith))
+pub none-more : (t : Text) (x : ℕ) → textLength ≤ t .length → t ≡ withByte t x
+unfolding withByte
+none-more t x h = rw (le-ltb (t .length) textLength h)
 
-  -- a word w after what is within the room, one by one
-  pub word-begun : (n : ℕ) (l w : List A) (k : ℕ) → k ≤ n → take k l ≡ take n (take k l ++ take 0 w)
-  word-begun n l w k h = rw append-nil (sym (take-all n (take k l) (rw (length-take k l) (omega arith))))
+-- a word of which i bytes are there, and the next
+pub word-goes-on : (t : Text) (w : List ℕ) (i : ℕ) → i < length w
+    → withByte (followed t (take i w)) (getD w i 0) ≡ followed t (take (i + 1) w)
+word-goes-on t w i h = rw (add-one, take-suc w i 0 h, foldl-append withByte t (take i w) (getD w i 0 ∷ []))
 
-  pub word-goes-on : (n : ℕ) (a w l : List A) (i : ℕ) (x : A) → i < length w → l ≡ take n (a ++ take i w)
-      → take n (l ++ (getD w i x ∷ [])) ≡ take n (a ++ take (i + 1) w)
-  word-goes-on n a w l i x h e =
-      rw (e, keep-again, append-assoc, add-one, take-suc w i x h)
-
--- t is what is kept of the line
-pub record Kept (n : ℕ) (line t : List ℕ) : Type 0 where
-  pub is : t ≡ take n line
+-- t is the text t₀ with a line after it
+pub record Follows (t₀ : Text) (line : List ℕ) (t : Text) : Type 0 where
+  pub is : t ≡ followed t₀ line
 
 -- a word more
-pub then-more : {n : ℕ} {line t₁ t₂ : List ℕ} (w : List ℕ) → Kept n line t₁ → t₂ ≡ take n (t₁ ++ w)
-    → Kept n (line ++ w) t₂
-then-more {n} {line} w k e = record { is = e ∙ rw (k .is, keep-again n line w) }
+pub then-more : {t₀ t₁ t₂ : Text} {line : List ℕ} (w : List ℕ) → Follows t₀ line t₁ → t₂ ≡ followed t₁ w
+    → Follows t₀ (line ++ w) t₂
+then-more {t₀} {t₁} {t₂} {line} w k e = record { is = e ∙ rw (k .is, foldl-append withByte t₀ line w) }
 
--- a line that fits
-pub all-kept : {n : ℕ} {line t : List ℕ} → Kept n line t → length line ≤ n → t ≡ line
-all-kept {n} {line} k h = k .is ∙ take-all n line h
+-- a text that holds l, and a word for which there is room
+pub held : (l w : List ℕ) → length l + length w ≤ textLength → followed (textOf l) w ≡ textOf (l ++ w)
+held l [] h = rw append-nil
+held l (b ∷ w) h =
+    let room : length l < textLength = omega arith in
+    let next : withByte (textOf l) b ≡ textOf (l ++ (b ∷ [])) =
+    sym (one-more (textOf l) b room) ∙ rw (padded-more textLength l b room, length-append l (b ∷ [])) in
+    ap (λ (t : Text). followed t w) next
+    ∙ held (l ++ (b ∷ [])) w (rw (length-append l (b ∷ [])) (omega arith))
+    ∙ ap textOf (append-assoc l (b ∷ []) w)
+
+-- a text that holds a line for which there is room
+pub fits : (l : List ℕ) (t : Text) → length l ≤ textLength → t ≡ textOf l → (t .length ≤ textLength) × (t ≡ textOf l)
+fits l t h e = (omega (arith, ap (λ (t : Text). t .length) e), e)

@@ -3,6 +3,7 @@ use mathlib.Core.Bool.{cond}
 use mathlib.Core.List.{List, [], _∷_, _++_}
 use Prim.Native.Nat.{ℕ, zero, suc, _+_, _/_, _%_}
 use lib.Dec.{eqb, ltb}
+use Rattle.journal.specs.Journal.{recordAt}
 use Rattle.printout.specs.Types.{Record}
 
 -- n in decimal, in at most k digits
@@ -41,3 +42,12 @@ endLine logged refused = (101 ∷ 110 ∷ 100 ∷ []) ++ spaced logged ++ spaced
 -- 01: "for a refused book only `book` and the number"
 abbrev pub bookLine : ℕ → List ℕ
 bookLine n = (98 ∷ 111 ∷ 111 ∷ 107 ∷ []) ++ spaced n ++ newline
+
+-- the lines of the first n records of a journal
+unfoldable pub recordLines : ℕ → List Record → List ℕ
+recordLines zero journal = []
+recordLines (suc n) journal = recordLines n journal ++ recordLine n (recordAt journal n)
+
+-- all that is printed of a run
+abbrev pub runLines : List Record → ℕ → ℕ → List ℕ
+runLines journal logged refused = recordLines logged journal ++ endLine logged refused

@@ -1,17 +1,36 @@
--- A line of text by value.
-use mathlib.Core.List.{List, _++_}
-use Prim.Native.Nat.{ℕ}
-use lib.ListN.{take}
+-- A text by value: its bytes, then zeros, and how many bytes it has.
+use mathlib.Core.Bool.{cond}
+use mathlib.Core.List.{List, _++_, foldl}
+use Prim.Native.Nat.{ℕ, _+_, _-_}
+use lib.Dec.{ltb}
+use lib.ListN.{length, set, replicate}
 use Rattle.printout.specs.Types.{Text}
 
--- as many bytes as the longest line has
-abbrev pub lineLength : ℕ
-lineLength = 29
+-- as many bytes as the longest line of a record has
+abbrev pub recordLength : ℕ
+recordLength = 20
 
--- the line
-abbrev pub written : Text → List ℕ
-written t = take (t .length) (t .bytes)
+-- as many as the longest end line has
+abbrev pub endLength : ℕ
+endLength = 29
 
--- what a text holds of the line with a word after it
-abbrev pub followed : Text → List ℕ → List ℕ
-followed t word = take lineLength (written t ++ word)
+-- as many as 255 lines of records and the end line have
+abbrev pub textLength : ℕ
+textLength = 5129
+
+-- l, and zeros after it as far as n
+abbrev pub padded : ℕ → List ℕ → List ℕ
+padded n l = l ++ replicate (n - length l) 0
+
+-- the text that holds l
+abbrev pub textOf : List ℕ → Text
+textOf l = record { bytes = padded textLength l; length = length l }
+
+-- a text with one byte more, where there is room
+unfoldable pub withByte : Text → ℕ → Text
+withByte t b =
+    cond (ltb (t .length) textLength) (record { bytes = set (t .bytes) (t .length) b; length = t .length + 1 }) t
+
+-- a text with a word after it
+abbrev pub followed : Text → List ℕ → Text
+followed t word = foldl withByte t word

@@ -1,20 +1,20 @@
-// The lines of a run.
+// The lines of a run, each after the text before it.
 ghost use mathlib.Core.Path.{_≡_};
 ghost use Prim.Native.Nat.{_≤_};
-ghost use Rattle.printout.specs.Text.{lineLength, written, followed};
+ghost use lib.ListN.{length};
+ghost use Rattle.printout.specs.Text.{recordLength, endLength, followed};
 ghost use Rattle.printout.specs.Lines.{spaced, kindName, recordLine, endLine, bookLine};
 use crate::text::Text;
-use crate::text::empty;
 use crate::text::with_number;
 use crate::text::with_word;
 use journal::Record;
 
 // 01: "each journal record (number, kind, train, from, to)".
-pub fn record_line(number: u8, entry: Record) -> Text
-    ensures { λ r. ⌜ r .length ≤ lineLength ⌝ }
-    ensures { λ r. ⌜ written r ≡ recordLine number entry ⌝ }
+pub fn with_record(text: Text, number: u8, entry: Record) -> Text
+    ensures { λ r. ⌜ r ≡ followed text (recordLine number entry) ⌝ }
+    ensures { λ r. ⌜ length (recordLine number entry) ≤ recordLength ⌝ }
 {
-    let text = with_number(empty(), number as u64);
+    let text = with_number(text, number as u64);
     let text = with_kind(text, entry.kind);
     let text = with_spaced(text, entry.train.0 as u64);
     let text = with_spaced(text, entry.from.0 as u64);
@@ -23,30 +23,28 @@ pub fn record_line(number: u8, entry: Record) -> Text
 }
 
 // 01: "then `end`, the record count and the count of refused frames".
-pub fn end_line(logged: u8, refused: u64) -> Text
-    ensures { λ r. ⌜ r .length ≤ lineLength ⌝ }
-    ensures { λ r. ⌜ written r ≡ endLine logged refused ⌝ }
+pub fn with_end(text: Text, logged: u8, refused: u64) -> Text
+    ensures { λ r. ⌜ r ≡ followed text (endLine logged refused) ⌝ }
+    ensures { λ r. ⌜ length (endLine logged refused) ≤ endLength ⌝ }
 {
-    let text = with_word(empty(), b"end");
+    let text = with_word(text, b"end");
     let text = with_spaced(text, logged as u64);
     let text = with_spaced(text, refused);
     with_word(text, b"\n")
 }
 
 // 01: "for a refused book only `book` and the number".
-pub fn book_line(refusal: u8) -> Text
-    ensures { λ r. ⌜ r .length ≤ lineLength ⌝ }
-    ensures { λ r. ⌜ written r ≡ bookLine refusal ⌝ }
+pub fn with_book(text: Text, refusal: u8) -> Text
+    ensures { λ r. ⌜ r ≡ followed text (bookLine refusal) ⌝ }
+    ensures { λ r. ⌜ length (bookLine refusal) ≤ endLength ⌝ }
 {
-    let text = with_word(empty(), b"book");
+    let text = with_word(text, b"book");
     let text = with_spaced(text, refusal as u64);
     with_word(text, b"\n")
 }
 
 fn with_kind(text: Text, kind: u8) -> Text
-    requires { ⌜ text .length ≤ lineLength ⌝ }
-    ensures { λ r. ⌜ r .length ≤ lineLength ⌝ }
-    ensures { λ r. ⌜ written r ≡ followed text (kindName kind) ⌝ }
+    ensures { λ r. ⌜ r ≡ followed text (kindName kind) ⌝ }
 {
     match kind {
         1 => with_word(text, b" FA"),
@@ -58,9 +56,7 @@ fn with_kind(text: Text, kind: u8) -> Text
 }
 
 fn with_spaced(text: Text, n: u64) -> Text
-    requires { ⌜ text .length ≤ lineLength ⌝ }
-    ensures { λ r. ⌜ r .length ≤ lineLength ⌝ }
-    ensures { λ r. ⌜ written r ≡ followed text (spaced n) ⌝ }
+    ensures { λ r. ⌜ r ≡ followed text (spaced n) ⌝ }
 {
     with_number(with_word(text, b" "), n)
 }

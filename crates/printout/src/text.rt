@@ -1,53 +1,44 @@
-// A line of text by value. What does not fit any more is left out; each line that is printed fits.
+// A text by value. What does not fit any more is left out; all that is printed fits.
 ghost use mathlib.Core.Path.{_≡_};
-ghost use mathlib.Core.List.{[], _∷_};
-ghost use Prim.Native.Nat.{_≤_};
-ghost use Rattle.printout.specs.Text.{lineLength, written, followed};
+ghost use mathlib.Core.List.{[]};
+ghost use Rattle.printout.specs.Text.{textOf, withByte, followed};
 ghost use Rattle.printout.specs.Lines.{decimal};
 
-// The longest line: `end`, a count of three digits, one of twenty, and what parts and ends them.
-pub const LINE_LENGTH: usize = 29;
+// The longest text: 255 lines of records, of 20 bytes at most, and the end line of 29.
+pub const TEXT_LENGTH: usize = 5129;
 
-// The first `length` bytes are the line.
+// The first `length` bytes are the text.
 pub struct Text {
-    pub bytes: [u8; LINE_LENGTH],
+    pub bytes: [u8; TEXT_LENGTH],
     pub length: usize,
 }
 
 pub fn empty() -> Text
-    ensures { λ r. ⌜ r .length ≤ lineLength ⌝ }
-    ensures { λ r. ⌜ written r ≡ [] ⌝ }
+    ensures { λ r. ⌜ r ≡ textOf [] ⌝ }
 {
-    let bytes = [0u8; LINE_LENGTH];
+    let bytes = [0u8; TEXT_LENGTH];
     Text { bytes, length: 0 }
 }
 
-// The line with one more byte.
-pub fn with_byte(text: Text, byte: u8) -> Text
-    ensures { λ r. ⌜ r .length ≤ lineLength ⌝ }
-    ensures { λ r. ⌜ written r ≡ followed text (byte ∷ []) ⌝ }
+// The text with one more byte.
+fn with_byte(text: Text, byte: u8) -> Text
+    ensures { λ r. ⌜ r ≡ withByte text byte ⌝ }
 {
     let at = text.length;
-    let mut bytes = text.bytes;
-    if at < LINE_LENGTH {
+    if at < TEXT_LENGTH {
+        let mut bytes = text.bytes;
         bytes[at] = byte;
-        Text {
+        return Text {
             bytes,
             length: at + 1,
-        }
-    } else {
-        Text {
-            bytes,
-            length: LINE_LENGTH,
-        }
+        };
     }
+    text
 }
 
-// The line with a word after it.
+// The text with a word after it.
 pub fn with_word(text: Text, word: &[u8]) -> Text
-    requires { ⌜ text .length ≤ lineLength ⌝ }
-    ensures { λ r. ⌜ r .length ≤ lineLength ⌝ }
-    ensures { λ r. ⌜ written r ≡ followed text (now (word .entry)) ⌝ }
+    ensures { λ r. ⌜ r ≡ followed text (now (word .entry)) ⌝ }
 {
     let mut longer = text;
     let mut i: usize = 0;
@@ -58,11 +49,9 @@ pub fn with_word(text: Text, word: &[u8]) -> Text
     longer
 }
 
-// The line with a number after it, in decimal.
+// The text with a number after it, in decimal.
 pub fn with_number(text: Text, n: u64) -> Text
-    requires { ⌜ text .length ≤ lineLength ⌝ }
-    ensures { λ r. ⌜ r .length ≤ lineLength ⌝ }
-    ensures { λ r. ⌜ written r ≡ followed text (decimal n) ⌝ }
+    ensures { λ r. ⌜ r ≡ followed text (decimal n) ⌝ }
 {
     let mut digits = [0u8; 20];
     let count = io::decimal(n, &mut digits);

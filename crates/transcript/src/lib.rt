@@ -1,8 +1,6 @@
 // One run of the box, as the desk prints it: a book and frames of seven bytes from a descriptor,
 // then the records of the journal on standard output.
-mod printing;
 mod reading;
-mod run;
 mod serving;
 
 pub use serving::serve;

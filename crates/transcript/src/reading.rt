@@ -1,68 +1,38 @@
-// Reading a book and frames from a descriptor. A read that fails counts as the end of the input.
-ghost use mathlib.Core.Path.{_≡_};
-ghost use mathlib.Core.Bool.{cond};
-ghost use Prim.Native.Nat.{_+_, _≤_};
-ghost use lib.Dec.{ltb};
-ghost use Rattle.common.specs.Word.{word};
+// Reading to the end of the input. A read that fails is the end, and so is one that gives nothing.
+ghost use Rattle.console.specs.Console.{deskOf, fresh};
+ghost use Rattle.transcript.specs.Reading.{Takes, Ends};
+use console::Console;
 
-// The longest book: eight posts and six trains.
-pub const LONGEST_BOOK: usize = 25;
-
-// The first `length` bytes are the book.
-pub struct Book {
-    pub bytes: [u8; LONGEST_BOOK],
-    pub length: usize,
+// The console after a read, and whether another is to be made.
+struct Turn {
+    pub console: Console,
+    pub more: bool,
 }
 
-// 01: "The book is two bytes and as many as they name, at most as many in all as the longest book
-// has (25), or what there is if input ends".
-pub fn read_book(fd: i32) -> Book
-    ensures { λ r. ⌜ r .length ≤ 25 ⌝ }
+// The console once the input has ended. A proved loop has to end, and nothing says that the input
+// does: the turns are counted down from a number that no run uses up.
+pub fn read_all(fd: i32, table: &mut [u8]) -> Console
+    ensures { λ r. ⌜ Ends (deskOf fresh (now (table .entry))) (deskOf r (now (table .exit))) ⌝ }
 {
-    let mut bytes = [0u8; LONGEST_BOOK];
-    let got = io::read_full(fd, &mut bytes[..2]);
-    if got < 2 {
-        return Book { bytes, length: got };
+    let mut console = console::fresh();
+    let mut more = true;
+    let mut turns = u64::MAX;
+    while turns > 0 && more {
+        let turn = read_some(fd, console, table);
+        console = turn.console;
+        more = turn.more;
+        turns -= 1;
     }
-    let end = book_end(bytes[0], bytes[1]);
-    let rest = io::read_full(fd, &mut bytes[2..end]);
-    Book {
-        bytes,
-        length: after_two(rest),
-    }
+    console::finish(console, table)
 }
 
-// The first `length` bytes are the frame; none where the input has ended.
-pub struct Frame {
-    pub bytes: [u8; 7],
-    pub length: usize,
-}
-
-// 01: "frames of 7 bytes .. a shorter rest after whole frames is one torn frame".
-pub fn read_frame(fd: i32) -> Frame
-    ensures { λ r. ⌜ r .length ≤ 7 ⌝ }
+// One read. Nothing is read after the end, and nothing after a refused book.
+fn read_some(fd: i32, console: Console, table: &mut [u8]) -> Turn
+    ensures { λ r. ⌜ Takes (deskOf console (now (table .entry))) (deskOf (r .console) (now (table .exit))) ⌝ }
 {
-    let mut bytes = [0u8; 7];
-    let length = io::read_full(fd, &mut bytes);
-    Frame { bytes, length }
-}
-
-// Where a book ends whose first two bytes are these.
-fn book_end(high: u8, low: u8) -> usize
-    ensures { λ r. ⌜ (2 ≤ r) × (r ≤ 25) ⌝ }
-    ensures { λ r. ⌜ r ≡ cond (ltb (word high low) 23) (2 + word high low) 25 ⌝ }
-{
-    after_two(line::word::word(high, low) as usize)
-}
-
-// So many bytes and the two before them, at most as many as the longest book has.
-fn after_two(n: usize) -> usize
-    ensures { λ r. ⌜ (2 ≤ r) × (r ≤ 25) ⌝ }
-    ensures { λ r. ⌜ r ≡ cond (ltb n 23) (2 + n) 25 ⌝ }
-{
-    if n < LONGEST_BOOK - 2 {
-        2 + n
-    } else {
-        LONGEST_BOOK
-    }
+    let mut bytes = io::buffer();
+    let n = io::count(libc::read(fd, &mut bytes), &bytes);
+    let console = console::take(console, table, &bytes[..n]);
+    let more = n > 0 && console::awaits(console);
+    Turn { console, more }
 }

@@ -1,39 +1,33 @@
-// The run: the book is opened, and each frame answered, until the input ends.
-use crate::printing::print_refused;
-use crate::printing::print_run;
-use crate::reading::read_book;
-use crate::reading::read_frame;
-use crate::run::Run;
-use crate::run::after_frame;
-use crate::run::begun;
-use crate::run::open;
+// The run is read, and what it leaves is printed.
+ghost use Prim.Native.Nat.{_≤_};
+ghost use Rattle.printout.specs.Text.{textLength};
+ghost use Rattle.transcript.specs.Reading.{Transcript};
+use crate::reading::read_all;
 use completion::TABLE_LENGTH;
+use libc::STDOUT_FILENO;
+use printout::TEXT_LENGTH;
+use printout::Text;
 
 // Reads a book and frames from the descriptor, and prints the run.
 pub fn serve(fd: i32) {
-    let book = read_book(fd);
-    let bytes = book.bytes;
-    let mut table = [0u8; TABLE_LENGTH];
-    let log = journal::blank_log();
-    let opened = open(bytes, book.length, &mut table, log);
-    if opened.refusal != 0 {
-        print_refused(opened.refusal);
-        return;
-    }
-    let state = opened.state;
-    print_run(serve_frames(fd, &table, begun(state, log)));
+    let text = transcript(fd);
+    let bytes = text.bytes;
+    print_first(bytes, text.length);
 }
 
-// A proved loop has to end, and nothing says that the input does: the turns are counted down from a
-// number that no run uses up.
-fn serve_frames(fd: i32, table: &[u8], start: Run) -> Run {
-    let mut run = start;
-    let mut frame = read_frame(fd);
-    let mut turns = u64::MAX;
-    while turns > 0 && frame.length > 0 {
-        run = after_frame(run, table, frame);
-        frame = read_frame(fd);
-        turns -= 1;
-    }
-    run
+// What is printed for the bytes of the descriptor.
+fn transcript(fd: i32) -> Text
+    ensures { λ r. ⌜ r .length ≤ textLength ⌝ }
+    ensures { λ r. ⌜ Transcript r ⌝ }
+{
+    let mut table = [0u8; TABLE_LENGTH];
+    let console = read_all(fd, &mut table);
+    console::printed(console)
+}
+
+// Prints the first `length` bytes. Whether all of them were written is not asked.
+fn print_first(bytes: [u8; TEXT_LENGTH], length: usize)
+    requires { ⌜ length ≤ textLength ⌝ }
+{
+    io::write_all(STDOUT_FILENO, &bytes[..length]);
 }

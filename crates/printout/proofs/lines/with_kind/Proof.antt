@@ -2,12 +2,13 @@
 -- Assumes nothing.
 use mathlib.Core.Path.{_≡_, sym, ap, _∙_}
 use mathlib.Core.Logic.{_≢_}
-use mathlib.Core.List.{List, [], _∷_}
+use mathlib.Core.List.{[], _∷_}
 use Prim.Native.Nat.{ℕ}
 use borrow.Author.Tests.{ne-eqb}
-use borrow.Author.Needs.{needs}
+use Rattle.printout.specs.Types.{Text}
 use Rattle.printout.specs.Text.{followed}
 use Rattle.printout.specs.Lines.{kindName}
+use borrow.Author.Needs.{needs}
 use Rattle.printout.proofs.lines.with_kind.Statement.{statement}
 use Rattle.printout.proofs.lines.with_kind.Tie as tie
 use Rattle.printout.proofs.lines.with_kind.Reads as reads
@@ -15,7 +16,7 @@ use Rattle.printout.proofs.lines.with_kind.Lts as lts
 use Rattle.printout.proofs.text.with_word.Reads as asked
 
 -- the text with the name of the kind k
-abbrev named : lts.Start (asked.Asked, asked.Learnt) reads.Pre reads.Post → ℕ → List ℕ
+abbrev named : lts.Start (asked.Asked, asked.Learnt) reads.Pre reads.Post → ℕ → Text
 named c k = followed (c .args .text) (kindName k)
 
 no-kind : (k : ℕ) → k ≢ 1 → k ≢ 2 → k ≢ 3 → k ≢ 4 → 32 ∷ 63 ∷ [] ≡ kindName k
@@ -54,43 +55,29 @@ with-word-requires-5 c κs = search needs
 
 returns : tie.Need-returns
 unfolding kindName
-returns c = (
-  c .with-word .ensures .0,
-  c .with-word .ensures .1
-      ∙ ap (named (c .before .before .before)) (sym (c .before .before .match .keys1)),
-)
+returns c =
+    c .with-word .ensures ∙ ap (named (c .before .before .before)) (sym (c .before .before .match .keys1))
 
 returns-2 : tie.Need-returns-2
 unfolding kindName
-returns-2 c = (
-  c .with-word2 .ensures .0,
-  c .with-word2 .ensures .1
-      ∙ ap (named (c .before .before .before)) (sym (c .before .before .match .keys2)),
-)
+returns-2 c =
+    c .with-word2 .ensures ∙ ap (named (c .before .before .before)) (sym (c .before .before .match .keys2))
 
 returns-3 : tie.Need-returns-3
 unfolding kindName
-returns-3 c = (
-  c .with-word3 .ensures .0,
-  c .with-word3 .ensures .1
-      ∙ ap (named (c .before .before .before)) (sym (c .before .before .match .keys3)),
-)
+returns-3 c =
+    c .with-word3 .ensures ∙ ap (named (c .before .before .before)) (sym (c .before .before .match .keys3))
 
 returns-4 : tie.Need-returns-4
 unfolding kindName
-returns-4 c = (
-  c .with-word4 .ensures .0,
-  c .with-word4 .ensures .1
-      ∙ ap (named (c .before .before .before)) (sym (c .before .before .match .keys4)),
-)
+returns-4 c =
+    c .with-word4 .ensures ∙ ap (named (c .before .before .before)) (sym (c .before .before .match .keys4))
 
 returns-5 : tie.Need-returns-5
 returns-5 c =
     let no = c .before .before .match .rest in
-    let name = no-kind _ (no .0 .0 .0 .1) (no .0 .0 .1) (no .0 .1) (no .1) in (
-      c .with-word5 .ensures .0,
-      c .with-word5 .ensures .1 ∙ ap (followed (c .before .before .before .args .text)) name,
-    )
+    let name = no-kind _ (no .0 .0 .0 .1) (no .0 .0 .1) (no .0 .1) (no .1) in
+    c .with-word5 .ensures ∙ ap (followed (c .before .before .before .args .text)) name
 
 pub with-kind-spec : {M : Type 1} → statement M
 with-kind-spec =

@@ -1,9 +1,9 @@
 -- `with_number` meets its contract: the digits that `io` gives are the number's decimal.
 -- Assumes nothing.
-use mathlib.Core.Path.{_∙_, ap}
-use borrow.Author.Needs.{needs}
+use mathlib.Core.Path.{ap, _∙_}
 use Rattle.printout.specs.Text.{followed}
 use Rattle.printout.proofs.Decimals.{decimal-of}
+use borrow.Author.Needs.{needs}
 use Rattle.printout.proofs.text.with_number.Statement.{statement}
 use Rattle.printout.proofs.text.with_number.Tie as tie
 
@@ -21,13 +21,10 @@ with-word-requires c κs = search needs
 
 returns : tie.Need-returns
 returns c =
-    let start = c .before .before .before .before in
-    let told = c .before .before .decimal .ensures in (
-      c .with-word .ensures .0,
-      c .with-word .ensures .1
-          ∙ ap (followed (start .args .text))
-          (told .1 .1 ∙ decimal-of (start .args .n) (c .before .before .decimal .result) (search needs) (told .1 .0)),
-    )
+    let a = c .before .before .before .before .args in
+    let told = c .before .before .decimal .ensures in
+    let is = told .1 .1 ∙ decimal-of (a .n) (c .before .before .decimal .result) (search needs) (told .1 .0) in
+    c .with-word .ensures ∙ ap (followed (a .text)) is
 
 pub with-number-spec : {M : Type 1} → statement M
 with-number-spec =

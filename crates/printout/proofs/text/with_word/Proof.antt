@@ -1,26 +1,24 @@
 -- `with_word` meets its contract: each turn adds the next byte of the word.
 -- Assumes nothing.
-use mathlib.Core.Path.{_≡_, _∙_, ap}
+use borrow.Author.Needs.{needs}
+use mathlib.Core.Path.{_≡_, refl, ap, _∙_}
 use Prim.Native.Nat.{_-_, _≤_}
 use native.Mathlib.Omega.{arith}
 use lib.ListN.{length, take}
 use lib.Seq.{take-all}
-use borrow.Author.Needs.{needs}
-use Rattle.printout.specs.Text.{lineLength, written, followed}
-use Rattle.printout.proofs.Room.{word-begun, word-goes-on}
+use Rattle.printout.specs.Text.{followed}
+use Rattle.printout.proofs.Room.{word-goes-on}
 use Rattle.printout.proofs.text.with_word.Statement.{statement}
 use Rattle.printout.proofs.text.with_word.Tie as tie
 
--- the first i bytes of the word are there
 abbrev Inv-loop : tie.InvT-loop
-Inv-loop word longer₀ i₀ longer i =
-    (i ≤ length word) × (longer .length ≤ lineLength) × (written longer ≡ followed longer₀ (take i word))
+Inv-loop word longer₀ i₀ longer i = (i ≤ length word) × (longer ≡ followed longer₀ (take i word))
 
 abbrev μ-loop : tie.MeasureT-loop
 μ-loop word longer₀ i₀ longer i = length word - i
 
 loop-holds : tie.Need-loop-holds Inv-loop μ-loop
-loop-holds c = (omega arith, c .before .pre, word-begun lineLength _ (c .before .args .word .now) _ (c .before .pre))
+loop-holds c = (omega arith, refl)
 
 shared-slice-read-with-byte : tie.Need-shared-slice-read-with-byte Inv-loop μ-loop
 shared-slice-read-with-byte c = search needs
@@ -36,21 +34,16 @@ loop-less c = omega arith
 
 loop-again : tie.Need-loop-again Inv-loop μ-loop
 loop-again c =
-    let start = c .before .before .before .before .before .args in
-    let more = c .before .before .loop-test .taken in (
+    let a = c .before .before .before .loop in
+    let w = c .before .before .before .before .before .args .word .now in (
       omega arith,
-      c .with-byte .ensures .0,
-      c .with-byte .ensures .1 ∙ word-goes-on lineLength (written (start .text)) (start .word .now) _ _ 0 more
-          (c .before .before .before .loop .inv .2),
+      c .with-byte .ensures ∙ rw (a .inv .1) (word-goes-on _ w (a .i) (c .before .before .loop-test .taken)),
     )
 
 returns : tie.Need-returns Inv-loop μ-loop
 returns c =
-    let w = c .before .before .before .args .word .now in (
-      c .before .loop .inv .1,
-      c .before .loop .inv .2
-          ∙ ap (followed (c .before .before .before .args .text)) (take-all _ w (c .loop-test .left)),
-    )
+    let w = c .before .before .before .args .word .now in
+    c .before .loop .inv .1 ∙ ap (followed _) (take-all _ w (c .loop-test .left))
 
 pub with-word-spec : {M : Type 1} → statement M
 with-word-spec =

@@ -1,0 +1,45 @@
+-- `with_book` meets its contract.
+-- Assumes nothing.
+use mathlib.Core.List.{[], _∷_}
+use Rattle.printout.specs.Lines.{spaced, newline}
+use Rattle.printout.proofs.Room.{Follows, then-more}
+use Rattle.printout.proofs.Decimals.{book-fits}
+use borrow.Author.Needs.{needs}
+use Rattle.printout.proofs.lines.with_book.Statement.{statement}
+use Rattle.printout.proofs.lines.with_book.Tie as tie
+
+slice-aggregate-with-word : tie.Need-slice-aggregate-with-word
+slice-aggregate-with-word c = search needs
+
+with-word-requires : tie.Need-with-word-requires
+with-word-requires c κs = search needs
+
+with-spaced-requires : tie.Need-with-spaced-requires
+with-spaced-requires c κs = search needs
+
+slice-aggregate-with-word-2 : tie.Need-slice-aggregate-with-word-2
+slice-aggregate-with-word-2 c = search needs
+
+with-word-requires-2 : tie.Need-with-word-requires-2
+with-word-requires-2 c κs = search needs
+
+returns : tie.Need-returns
+returns c =
+    let numbered = c .before .before in
+    let named = numbered .before in
+    let a = named .before .before .args in
+    let k₁ : Follows (a .text) (98 ∷ 111 ∷ 111 ∷ 107 ∷ []) (named .with-word .result) =
+    record { is = named .with-word .ensures } in
+    let k₂ = then-more (spaced (a .refusal)) k₁ (numbered .with-spaced .ensures) in
+    (then-more newline k₂ (c .with-word2 .ensures) .is, book-fits (a .refusal) (search needs))
+
+pub with-book-spec : {M : Type 1} → statement M
+with-book-spec =
+    tie.close
+    (tie.spec
+    slice-aggregate-with-word
+    with-word-requires
+    with-spaced-requires
+    slice-aggregate-with-word-2
+    with-word-requires-2
+    returns)

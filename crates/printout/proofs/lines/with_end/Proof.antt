@@ -1,0 +1,53 @@
+-- `with_end` meets its contract.
+-- Assumes nothing.
+use mathlib.Core.List.{[], _∷_}
+use Rattle.printout.specs.Lines.{spaced, newline}
+use Rattle.printout.proofs.Room.{Follows, then-more}
+use Rattle.printout.proofs.Decimals.{end-fits}
+use borrow.Author.Needs.{needs}
+use Rattle.printout.proofs.lines.with_end.Statement.{statement}
+use Rattle.printout.proofs.lines.with_end.Tie as tie
+
+slice-aggregate-with-word : tie.Need-slice-aggregate-with-word
+slice-aggregate-with-word c = search needs
+
+with-word-requires : tie.Need-with-word-requires
+with-word-requires c κs = search needs
+
+with-spaced-requires : tie.Need-with-spaced-requires
+with-spaced-requires c κs = search needs
+
+with-spaced-requires-2 : tie.Need-with-spaced-requires-2
+with-spaced-requires-2 c κs = search needs
+
+slice-aggregate-with-word-2 : tie.Need-slice-aggregate-with-word-2
+slice-aggregate-with-word-2 c = search needs
+
+with-word-requires-2 : tie.Need-with-word-requires-2
+with-word-requires-2 c κs = search needs
+
+returns : tie.Need-returns
+returns c =
+    let refused = c .before .before in
+    let logged = refused .before in
+    let named = logged .before in
+    let a = named .before .before .args in
+    let k₁ : Follows (a .text) (101 ∷ 110 ∷ 100 ∷ []) (named .with-word .result) =
+    record { is = named .with-word .ensures } in
+    let k₂ = then-more (spaced (a .logged)) k₁ (logged .with-spaced .ensures) in
+    let k₃ = then-more (spaced (a .refused)) k₂ (refused .with-spaced2 .ensures) in (
+      then-more newline k₃ (c .with-word2 .ensures) .is,
+      end-fits (a .logged) (a .refused) (search needs) (search needs),
+    )
+
+pub with-end-spec : {M : Type 1} → statement M
+with-end-spec =
+    tie.close
+    (tie.spec
+    slice-aggregate-with-word
+    with-word-requires
+    with-spaced-requires
+    with-spaced-requires-2
+    slice-aggregate-with-word-2
+    with-word-requires-2
+    returns)

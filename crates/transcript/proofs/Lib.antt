@@ -1,0 +1,2 @@
+-- Laws of an input that is read in parts.
+pub mod Parts
