@@ -1,5 +1,5 @@
 -- Words of the functions below the entry points: what they hold by value where the definitions have lists, and what
--- they ask of a state. Nothing above the entry points cites them.
+-- they ask of a state. Of these only `Stepped`, the contract of the entry point `step`, is cited from above.
 use mathlib.Core.Path.{_≡_}
 use mathlib.Core.Bool.{true, false}
 use mathlib.Core.List.{List, [], _∷_, _++_}
