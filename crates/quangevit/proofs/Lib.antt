@@ -1,5 +1,2 @@
--- The laws that the functions' proofs cite; `HandedOn` and `CallRuns` prove the claims of `specs/`.
-pub mod UnitSteps
-pub mod HandedOn
-pub mod BoxSteps
-pub mod CallRuns
+-- The law that the proof of `quangevit_answer` cites; those of the other calls are in `calls`.
+pub mod Answering

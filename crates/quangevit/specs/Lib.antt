@@ -1,10 +1,2 @@
--- What the entry points for C and Rust mean: what each call answers and leaves in the buffers that it is lent. The
--- layouts are in `layout`. Read in this order; `HandedOn` and `CallRuns` have the claims, proved in the files of
--- `proofs/` of the same names. Letters: b bytes, u a unit, l a line, s a state, x a train, r a record, n a number.
-pub mod Types
+-- The version of the library. What its calls mean is in `calls`.
 pub mod Version
-pub mod Word
-pub mod UnitCalls
-pub mod BoxCalls
-pub mod HandedOn
-pub mod CallRuns

@@ -1,7 +1,7 @@
 // The dispatcher's end: a book is read or opened, a frame answered.
 ghost use mathlib.Core.Path.{_≡_};
-ghost use Rattle.quangevit.specs.BoxCalls.{bookCall, readBookCall, openCallOf, openCall};
-ghost use Rattle.quangevit.specs.BoxCalls.{answerCallOf, answerCall};
+ghost use Rattle.calls.specs.BoxCalls.{bookCall, readBookCall, openCallOf, openCall};
+ghost use Rattle.calls.specs.BoxCalls.{answerCallOf, answerCall};
 use crate::word::word_of;
 use layout::LINE_LENGTH;
 use layout::RECORD_LENGTH;

@@ -9,7 +9,7 @@ use borrow.Author.Tests.{not-true, not-false}
 use Rattle.unit.specs.State.{validUnit}
 use Rattle.layout.specs.UnitBytes.{encodesUnit, unitIn}
 use Rattle.layout.proofs.Units.{encoded-length}
-use Rattle.quangevit.proofs.UnitSteps.{no-unit, strange, short, no-button, asked}
+use Rattle.calls.proofs.UnitSteps.{no-unit, strange, short, no-button, asked}
 use borrow.Author.Needs.{needs}
 use Rattle.quangevit.proofs.cab.press_refusal.Statement.{statement}
 use Rattle.quangevit.proofs.cab.press_refusal.Tie as tie

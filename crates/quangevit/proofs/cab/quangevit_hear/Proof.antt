@@ -8,7 +8,7 @@ use denote.Ref.{now}
 use borrow.Author.Tests.{not-true, not-false}
 use Rattle.layout.specs.UnitBytes.{encodesUnit}
 use Rattle.layout.proofs.Units.{encoded-length}
-use Rattle.quangevit.proofs.UnitSteps.{not-heard, heard}
+use Rattle.calls.proofs.UnitSteps.{not-heard, heard}
 use borrow.Author.Needs.{needs}
 use Rattle.quangevit.proofs.cab.quangevit_hear.Statement.{statement}
 use Rattle.quangevit.proofs.cab.quangevit_hear.Tie as tie

@@ -1,6 +1,6 @@
 -- `quangevit_make_unit` meets its contract: there is no room for a unit, or the unit that is made is written.
 -- Assumes nothing.
-use Rattle.quangevit.proofs.UnitSteps.{not-made, made}
+use Rattle.calls.proofs.UnitSteps.{not-made, made}
 use borrow.Author.Needs.{needs}
 use Rattle.quangevit.proofs.cab.quangevit_make_unit.Statement.{statement}
 use Rattle.quangevit.proofs.cab.quangevit_make_unit.Tie as tie

@@ -8,9 +8,9 @@ use denote.Ref.{now}
 use lib.ListN.{length}
 use Rattle.common.specs.Check.{refusal}
 use Rattle.layout.specs.UnitBytes.{unitLength}
-use Rattle.quangevit.specs.UnitCalls.{pressCallChecks}
+use Rattle.calls.specs.UnitCalls.{pressCallChecks}
 use Rattle.layout.proofs.Units.{encoded-length}
-use Rattle.quangevit.proofs.UnitSteps.{not-pressed, is-unit, has-room, carried-out}
+use Rattle.calls.proofs.UnitSteps.{not-pressed, is-unit, has-room, carried-out}
 use borrow.Author.Needs.{needs}
 use Rattle.quangevit.proofs.cab.quangevit_press.Statement.{statement}
 use Rattle.quangevit.proofs.cab.quangevit_press.Tie as tie

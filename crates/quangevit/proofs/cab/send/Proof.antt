@@ -1,5 +1,5 @@
 use denote.Ref.{now}
-use Rattle.quangevit.proofs.UnitSteps.{none-sent, one-sent}
+use Rattle.calls.proofs.UnitSteps.{none-sent, one-sent}
 -- `send` meets its contract: nothing is written, or the seven bytes, for which there is room.
 -- Assumes nothing.
 use borrow.Author.Tests.{not-true, not-false}

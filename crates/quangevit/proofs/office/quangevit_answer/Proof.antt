@@ -7,7 +7,8 @@ use denote.Ref.{now}
 use borrow.Author.Tests.{not-true, not-false}
 use Rattle.layout.specs.StateBytes.{encodesState}
 use Rattle.layout.proofs.Statuses.{encoded-length}
-use Rattle.quangevit.proofs.BoxSteps.{verdictWord, not-answered, answered, answer-refused}
+use Rattle.calls.proofs.BoxSteps.{not-answered}
+use Rattle.quangevit.proofs.Answering.{verdictWord, answered, answer-refused}
 use borrow.Author.Needs.{needs}
 use Rattle.quangevit.proofs.office.quangevit_answer.Statement.{statement}
 use Rattle.quangevit.proofs.office.quangevit_answer.Tie as tie

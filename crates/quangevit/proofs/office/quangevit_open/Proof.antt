@@ -1,7 +1,7 @@
 -- `quangevit_open` meets its contract: there is no room for a state, or what the opening gives is written.
 -- Assumes nothing.
 use denote.Ref.{now}
-use Rattle.quangevit.proofs.BoxSteps.{not-opened, opened}
+use Rattle.calls.proofs.BoxSteps.{not-opened, opened}
 use borrow.Author.Needs.{needs}
 use Rattle.quangevit.proofs.office.quangevit_open.Statement.{statement}
 use Rattle.quangevit.proofs.office.quangevit_open.Tie as tie

@@ -12,13 +12,13 @@ use Rattle.unit.specs.Pressing.{pressButton}
 use Rattle.unit.specs.Hearing.{hearFrame}
 use Rattle.rules.specs.Answer.{Answer, answer}
 use Rattle.rules.specs.Opening.{openingWith}
-use Rattle.quangevit.specs.Types.{Unit, State, RefusedBy}
-use Rattle.quangevit.specs.Word.{wordOf, refusalIn}
+use Rattle.calls.specs.Types.{Unit, State, RefusedBy}
+use Rattle.calls.specs.Word.{wordOf, refusalIn}
 use Rattle.layout.specs.UnitBytes.{unitLength, encodesUnit, unitIn, buttonOf}
 use Rattle.layout.specs.StateBytes.{stateLength, encodesState, stateIn}
 use Rattle.layout.specs.JournalBytes.{recordCount, recordsIn}
-use Rattle.quangevit.specs.UnitCalls.{makeUnitCall, hearCall, pressed, pressCallChecks, pressCall}
-use Rattle.quangevit.specs.BoxCalls.{AnswerCall, openCall, answerCallOf, answerCall}
+use Rattle.calls.specs.UnitCalls.{makeUnitCall, hearCall, pressed, pressCallChecks, pressCall}
+use Rattle.calls.specs.BoxCalls.{AnswerCall, openCall, answerCallOf, answerCall}
 
 -- the bytes are read as the state s
 pub record ReadAs (b : List ℕ) (s : State) : Type 0 where

@@ -8,12 +8,12 @@ use Rattle.common.specs.Below.{ofBool}
 use Rattle.common.specs.Check.{Check, check, refusal, unlessRefused}
 use Rattle.common.specs.Part.{replaced}
 use Rattle.line.specs.Refusal.{strangeState, shortStore, notNow}
-use Rattle.quangevit.specs.Types.{Unit, Pressed}
+use Rattle.calls.specs.Types.{Unit, Pressed}
 use Rattle.unit.specs.State.{validUnit}
 use Rattle.unit.specs.Making.{makeUnit}
 use Rattle.unit.specs.Pressing.{pressButton}
 use Rattle.unit.specs.Hearing.{hearFrame}
-use Rattle.quangevit.specs.Word.{wordOf}
+use Rattle.calls.specs.Word.{wordOf}
 use Rattle.layout.specs.UnitBytes.{unitLength, unitBytes, encodesUnit, unitIn, buttonOf}
 
 pub record UnitCall : Type 0 where

@@ -24,17 +24,17 @@ use Rattle.unit.proofs.Validity.{validity}
 use Rattle.rules.specs.Answer.{Answer, answer, mostLogged}
 use Rattle.rules.specs.Opening.{Opening, openingWith}
 use Rattle.rules.proofs.Acceptance.{Taken, request, arrival, by-verdict, refusal-leaves, accepted-facts}
-use Rattle.quangevit.specs.Types.{Button, Ask, Depart, Reached, Report, Unit, Pressed}
-use Rattle.quangevit.specs.Types.{Line, Message, Record, State, RefusedBy}
-use Rattle.quangevit.specs.Word.{wordOf, refusalIn}
+use Rattle.calls.specs.Types.{Button, Ask, Depart, Reached, Report, Unit, Pressed}
+use Rattle.calls.specs.Types.{Line, Message, Record, State, RefusedBy}
+use Rattle.calls.specs.Word.{wordOf, refusalIn}
 use Rattle.layout.specs.UnitBytes.{unitLength, unitBytes, encodesUnit, unitIn, buttonOf}
-use Rattle.quangevit.specs.UnitCalls.{makeUnitCall, hearCall, pressed, pressCallChecks, pressAfter, pressCall}
+use Rattle.calls.specs.UnitCalls.{makeUnitCall, hearCall, pressed, pressCallChecks, pressAfter, pressCall}
 use Rattle.layout.specs.StateBytes.{stateLength, stateBytes, encodesState, stateIn}
 use Rattle.layout.specs.JournalBytes.{recordCount, recordsIn}
-use Rattle.quangevit.specs.BoxCalls.{openCall, answerCallOf, answerCall}
+use Rattle.calls.specs.BoxCalls.{openCall, answerCallOf, answerCall}
 use Rattle.layout.specs.RoundTrip.{Shaped}
-use Rattle.quangevit.specs.HandedOn.{ReadAs, LeftAs, ReadAsUnit, ruled, HandedOn}
-use Rattle.quangevit.proofs.UnitSteps.{is-unit}
+use Rattle.calls.specs.HandedOn.{ReadAs, LeftAs, ReadAsUnit, ruled, HandedOn}
+use Rattle.calls.proofs.UnitSteps.{is-unit}
 use Rattle.layout.proofs.Journals.{record-count, own-records}
 use Rattle.layout.proofs.RoundTrip.{unit-only, state-back, state-encoded, state-only, records-back, round-trip}
 

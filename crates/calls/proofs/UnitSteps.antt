@@ -18,11 +18,11 @@ use Rattle.unit.specs.State.{validUnit}
 use Rattle.unit.specs.Making.{makeUnit}
 use Rattle.unit.specs.Pressing.{pressButton}
 use Rattle.unit.specs.Hearing.{hearFrame}
-use Rattle.quangevit.specs.Types.{Button, Unit, Made, Heard, Pressed}
-use Rattle.quangevit.specs.Word.{wordOf}
+use Rattle.calls.specs.Types.{Button, Unit, Made, Heard, Pressed}
+use Rattle.calls.specs.Word.{wordOf}
 use Rattle.layout.specs.UnitBytes.{unitLength, unitBytes, encodesUnit, unitIn, buttonOf}
-use Rattle.quangevit.specs.UnitCalls.{unitCall, makeUnitCall, hearCall}
-use Rattle.quangevit.specs.UnitCalls.{pressed, pressCallChecks, pressAfter, pressCall}
+use Rattle.calls.specs.UnitCalls.{unitCall, makeUnitCall, hearCall}
+use Rattle.calls.specs.UnitCalls.{pressed, pressCallChecks, pressAfter, pressCall}
 
 -- ---- making
 

@@ -16,9 +16,9 @@ use Rattle.assurance.specs.Observer.{atOpening, observe}
 use Rattle.assurance.specs.WholeList.{Assured}
 use Rattle.layout.specs.StateBytes.{encodesState, stateIn}
 use Rattle.layout.specs.JournalBytes.{recordsIn, withRecords}
-use Rattle.quangevit.specs.Types.{Verdict, Sent, RefusedBy}
-use Rattle.quangevit.specs.Word.{wordOf, refusalIn}
-use Rattle.quangevit.specs.BoxCalls.{openCall, AnswerCall, answerCallOf, answerCall}
+use Rattle.calls.specs.Types.{Verdict, Sent, RefusedBy}
+use Rattle.calls.specs.Word.{wordOf, refusalIn}
+use Rattle.calls.specs.BoxCalls.{openCall, AnswerCall, answerCallOf, answerCall}
 
 -- what a word says: the low byte is the number of the refusal, or 0, and the next the number of frames written
 abbrev pub verdictIn : ℕ → Verdict

@@ -6,7 +6,6 @@ pub use Rattle.unit.specs.declared.making.Made.{Made}
 pub use Rattle.unit.specs.declared.hearing.Heard.{Heard}
 pub use Rattle.unit.specs.declared.pressing.Pressed.{Pressed}
 pub use Rattle.line.specs.declared.book.Line.{Line}
-pub use Rattle.dispatcher.specs.declared.stepping.Outcome.{Outcome}
 pub use Rattle.line.specs.declared.book.Reading.{Reading}
 pub use Rattle.frame.specs.declared.message.Message.{Message}
 pub use Rattle.journal.specs.declared.record.Record.{Record}

@@ -8,7 +8,7 @@ use Rattle.line.specs.Refusal.{strangeState}
 use Rattle.line.specs.Book.{readBook, outcomeNumber}
 use Rattle.rules.specs.Answer.{Answer, answer}
 use Rattle.rules.specs.Opening.{openingWith}
-use Rattle.quangevit.specs.Word.{wordOf}
+use Rattle.calls.specs.Word.{wordOf}
 use Rattle.layout.specs.LineBytes.{lineLength, lineBytes}
 use Rattle.layout.specs.StateBytes.{stateLength, stateBytes, encodesState, stateIn}
 use Rattle.layout.specs.JournalBytes.{recordCount, recordsIn, withRecords}

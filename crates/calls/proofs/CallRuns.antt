@@ -28,13 +28,13 @@ use Rattle.assurance.proofs.WholeList.{whole-list}
 use Rattle.layout.specs.StateBytes.{stateLength, encodesState, stateIn}
 use Rattle.layout.specs.JournalBytes.{recordCount, recordsIn, withRecords}
 use Rattle.layout.proofs.Journals.{record-count, own-records, with-again}
-use Rattle.quangevit.specs.Types.{Record, State, Verdict, Sent, RefusedBy}
-use Rattle.quangevit.specs.Word.{wordOf}
-use Rattle.quangevit.specs.BoxCalls.{OpenCall, openCall, AnswerCall, answerCallOf, answerAfter, answerCall}
-use Rattle.quangevit.specs.HandedOn.{ReadAs, ruled}
-use Rattle.quangevit.specs.CallRuns.{verdictIn, exchangeOf, calls, decoded, AsRun, CallRuns}
-use Rattle.quangevit.proofs.HandedOn.{either, answer-records, handed-on}
-use Rattle.quangevit.proofs.BoxSteps.{not-opened, not-answered}
+use Rattle.calls.specs.Types.{Record, State, Verdict, Sent, RefusedBy}
+use Rattle.calls.specs.Word.{wordOf}
+use Rattle.calls.specs.BoxCalls.{OpenCall, openCall, AnswerCall, answerCallOf, answerAfter, answerCall}
+use Rattle.calls.specs.HandedOn.{ReadAs, ruled}
+use Rattle.calls.specs.CallRuns.{verdictIn, exchangeOf, calls, decoded, AsRun, CallRuns}
+use Rattle.calls.proofs.HandedOn.{either, answer-records, handed-on}
+use Rattle.calls.proofs.BoxSteps.{not-opened, not-answered}
 
 -- ---- the verdict, read from the word
 

@@ -1,0 +1,5 @@
+-- How each call comes out, by the tests that the code makes, and the proofs of the claims of `specs/`.
+pub mod UnitSteps
+pub mod BoxSteps
+pub mod HandedOn
+pub mod CallRuns
