@@ -9,7 +9,7 @@
  * its own.
  *
  * What a call answers, and every byte it leaves in a buffer, is proved to be what the rules say
- * (crates/quangevit/specs), for every content and every length of the buffers. It is proved too
+ * (crates/calls/specs), for every content and every length of the buffers. It is proved too
  * that after a quangevit_open that answers 0, where each quangevit_answer gets the bytes that the
  * call before it left, whatever the frames, no section has two holders, no post more trains than
  * tracks, every authority has its logged request, and the trains never all wait for each other.

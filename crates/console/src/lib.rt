@@ -1,19 +1,12 @@
-// The desk as a machine over bytes: it takes the bytes of a book and of frames as they come, in
-// parts of any size, and says what is printed once the input has ended.
-mod book;
+// The desk as a machine over bytes, as the paper says it: what it makes of each byte of a book and of
+// frames and of the end of the input, and what is printed then. The types are declared here; the
+// code is in `intake`.
 mod console;
-mod finishing;
-mod frame;
 mod piece;
 mod run;
-mod taking;
 
 pub use console::Console;
 pub use console::Phase;
-pub use console::awaits;
-pub use console::fresh;
-pub use console::printed;
-pub use finishing::finish;
+pub use piece::LONGEST_BOOK;
 pub use piece::Piece;
 pub use run::Run;
-pub use taking::take;

@@ -14,7 +14,7 @@ struct Turn {
 pub fn read_all(fd: i32, table: &mut [u8]) -> Console
     ensures { λ r. ⌜ Ends (deskOf fresh (now (table .entry))) (deskOf r (now (table .exit))) ⌝ }
 {
-    let mut console = console::fresh();
+    let mut console = intake::fresh();
     let mut more = true;
     let mut turns = u64::MAX;
     while turns > 0 && more {
@@ -23,7 +23,7 @@ pub fn read_all(fd: i32, table: &mut [u8]) -> Console
         more = turn.more;
         turns -= 1;
     }
-    console::finish(console, table)
+    intake::finish(console, table)
 }
 
 // One read. Nothing is read after the end, and nothing after a refused book.
@@ -32,7 +32,7 @@ fn read_some(fd: i32, console: Console, table: &mut [u8]) -> Turn
 {
     let mut bytes = io::buffer();
     let n = io::count(libc::read(fd, &mut bytes), &bytes);
-    let console = console::take(console, table, &bytes[..n]);
-    let more = n > 0 && console::awaits(console);
+    let console = intake::take(console, table, &bytes[..n]);
+    let more = n > 0 && intake::awaits(console);
     Turn { console, more }
 }

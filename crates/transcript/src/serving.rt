@@ -22,7 +22,7 @@ fn transcript(fd: i32) -> Text
 {
     let mut table = [0u8; TABLE_LENGTH];
     let console = read_all(fd, &mut table);
-    console::printed(console)
+    intake::printed(console)
 }
 
 // Prints the first `length` bytes. Whether all of them were written is not asked.

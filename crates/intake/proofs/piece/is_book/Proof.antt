@@ -1,0 +1,29 @@
+-- `is_book` meets its contract: the first two bytes say where the book ends.
+-- Assumes nothing.
+use mathlib.Core.Path.{ap}
+use Prim.Native.Nat.{ℕ}
+use lib.Dec.{leb}
+use Rattle.console.specs.Piece.{bookLength, isBook}
+use borrow.Author.Needs.{needs}
+use Rattle.intake.proofs.piece.is_book.Statement.{statement}
+use Rattle.intake.proofs.piece.is_book.Tie as tie
+
+array-read-book-length : tie.Need-array-read-book-length
+array-read-book-length c = search needs
+
+array-read-book-length-2 : tie.Need-array-read-book-length-2
+array-read-book-length-2 c = search needs
+
+book-length-requires : tie.Need-book-length-requires
+book-length-requires c κs = search needs
+
+returns : tie.Need-returns
+unfolding isBook bookLength
+returns c =
+    let p = c .before .before .before .args .piece in
+    ap (λ (n : ℕ). leb n (p .length)) (c .before .book-length .ensures)
+
+pub is-book-spec : {M : Type 1} → statement M
+is-book-spec =
+    tie.close
+    (tie.spec array-read-book-length array-read-book-length-2 book-length-requires returns)

@@ -1,0 +1,69 @@
+-- `take` meets its contract: each turn takes the next byte.
+-- Assumes nothing.
+use borrow.Author.Needs.{needs}
+use mathlib.Core.Path.{_≡_, refl, ap, _∙_}
+use Prim.Native.Nat.{_-_, _≤_}
+use native.Mathlib.Omega.{arith}
+use lib.ListN.{length, take}
+use lib.Seq.{take-all}
+use Rattle.console.specs.Console.{deskOf, taken}
+use Rattle.console.proofs.Steps.{taken-next}
+use Rattle.intake.proofs.taking.take.Statement.{statement}
+use Rattle.intake.proofs.taking.take.Tie as tie
+
+abbrev Inv-loop : tie.InvT-loop
+Inv-loop table₀ bytes after₀ i₀ table after i =
+    (i ≤ length bytes) × (length table ≡ length table₀)
+    × (deskOf after table ≡ taken (deskOf after₀ table₀) (take i bytes))
+
+abbrev μ-loop : tie.MeasureT-loop
+μ-loop table₀ bytes after₀ i₀ table after i = length bytes - i
+
+loop-holds : tie.Need-loop-holds Inv-loop μ-loop
+loop-holds c = (omega arith, refl, refl)
+
+shared-slice-read-take-byte : tie.Need-shared-slice-read-take-byte Inv-loop μ-loop
+shared-slice-read-take-byte c = search needs
+
+take-byte-requires : tie.Need-take-byte-requires Inv-loop μ-loop
+take-byte-requires c κs = search needs
+
+add-i : tie.Need-add-i Inv-loop μ-loop
+add-i c = search needs
+
+loop-less : tie.Need-loop-less Inv-loop μ-loop
+loop-less c = omega arith
+
+loop-again : tie.Need-loop-again Inv-loop μ-loop
+loop-again c =
+    let takes = c .before .before in
+    let turn = takes .before .before .before in
+    let a = turn .before .loop in
+    let bytes = turn .before .before .before .before .args .bytes .now in (
+      omega arith,
+      search needs,
+      taken-next _ _ _ bytes (a .i) (turn .loop-test .taken) (a .inv .2) (takes .take-byte .ensures),
+    )
+
+same-length : tie.Need-same-length Inv-loop μ-loop
+same-length c = search needs
+
+returns : tie.Need-returns Inv-loop μ-loop
+returns c =
+    let bytes = c .before .before .before .before .args .bytes .now in
+    c .before .loop .inv .2 ∙ ap (taken _) (take-all _ bytes (c .loop-test .left))
+
+pub take-spec : {M : Type 1} → statement M
+take-spec =
+    tie.close
+    (tie.spec
+    Inv-loop
+    μ-loop
+    loop-holds
+    shared-slice-read-take-byte
+    take-byte-requires
+    add-i
+    loop-less
+    loop-again
+    same-length
+    returns)
