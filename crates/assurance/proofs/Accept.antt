@@ -1,6 +1,5 @@
 -- The work on an accepted frame, message by message: it keeps the invariant, and each FE among the answers has its
 -- request in the journal.
--- Assumes nothing.
 use mathlib.Core.Path.{_≡_, refl, ap, _∙_}
 use mathlib.Core.Logic.{⊎-elim}
 use mathlib.Core.List.{List, [], _∷_, _++_, List·Memᴰ, List·Memᴰ·append-cases, List·Memᴰ·eq-of-singleton}

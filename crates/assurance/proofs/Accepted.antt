@@ -1,6 +1,5 @@
 -- How many frames were accepted: two for each post travelled, and one for a train that is Asked or Running. Each
 -- accepted frame adds one to the sum, and a grant leaves it. For any table.
--- Assumes nothing.
 use mathlib.Core.Path.{_≡_, refl}
 use mathlib.Core.List.{List, [], _∷_}
 use Prim.Native.Nat.{ℕ, _+_, _*_, _≤_, _<_}

@@ -1,5 +1,4 @@
 -- Alike states: the same tests pass, the same trains are granted, and a train's new record leaves them alike.
--- Assumes nothing.
 use mathlib.Core.Path.{_≡_, refl, sym, ap, subst, _∙_}
 use mathlib.Core.Bool.{Bool, true, cond}
 use mathlib.Core.Option.{Option, none, some}

@@ -1,6 +1,5 @@
 -- Arrival. By the invariant the frame that the observer tells of a train that does not wait passes every check, and
 -- every frame that passes them is one of these. How many were accepted is `Accepted`'s.
--- Assumes nothing.
 use mathlib.Core.Path.{_≡_, refl, sym, ap, subst, _∙_}
 use mathlib.Core.Bool.{false, false≢true}
 use mathlib.Core.List.{List}

@@ -1,6 +1,5 @@
 -- One frame: the answers are read back from the out buffer, and the answer to any frame, accepted or refused, keeps the
 -- invariant.
--- Assumes nothing.
 use mathlib.Core.Path.{_≡_, refl, ap, _∙_}
 use mathlib.Core.List.{List, [], _∷_, _++_, append-assoc, map, List·Memᴰ, List·Memᴰ·head, List·Memᴰ·tail}
 use mathlib.Core.List.{List·Memᴰ·not-nil}

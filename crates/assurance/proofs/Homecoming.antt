@@ -1,7 +1,6 @@
 -- Every train can still come home. While one is short of its end, some such train is not waiting: its AM, or its FA, is
 -- accepted. Every accepted frame raises the number of records that the trains can have taken, which is at most 168, so
 -- that this ends, with every train at its end.
--- Assumes nothing.
 use mathlib.Core.Path.{_≡_, refl, ap, subst, _∙_}
 use mathlib.Core.Bool.{Bool, false, not}
 use mathlib.Core.List.{List, [], _∷_, _++_}

@@ -1,6 +1,5 @@
 -- What is logged and heard, message by message. The journal is written once, at the end of a frame: `journalOf` is what
 -- it would be so far.
--- Assumes nothing.
 use mathlib.Core.Path.{_≡_, refl, ap, _∙_}
 use mathlib.Core.Logic.{_⊎_, inl, inr, ⊎-elim}
 use mathlib.Core.List.{List, [], _∷_, _++_, map, map-append}

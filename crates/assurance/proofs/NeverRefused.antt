@@ -1,6 +1,5 @@
 -- In a run from an accepted opening no frame is refused by 1 or by 13: the state is valid and its count bounded, before
 -- each frame.
--- Assumes nothing.
 use mathlib.Core.Path.{_≡_, refl, _∙_}
 use mathlib.Core.Logic.{_≢_, ⊎-elim}
 use mathlib.Core.List.{List, [], _∷_, List·Memᴰ, List·Memᴰ·not-nil, List·Memᴰ·cases-cons}

@@ -1,5 +1,4 @@
 -- The claims of `specs/OneFrame.antt`, proved over the laws of an accepted frame and of the granting.
--- Assumes nothing.
 use mathlib.Core.Path.{_≡_, refl, sym, ap, _∙_}
 use mathlib.Core.Bool.{true, false≢true}
 use mathlib.Core.Option.{Option, none, some}

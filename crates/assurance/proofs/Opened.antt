@@ -1,6 +1,5 @@
 -- An accepted opening establishes the invariant: the line is that of the book and well formed, the table is right, and
 -- every train stands at its start.
--- Assumes nothing.
 use mathlib.Core.Path.{_≡_, refl, sym, subst}
 use mathlib.Core.Bool.{Bool, true, false≢true, true≢false}
 use mathlib.Core.List.{List}

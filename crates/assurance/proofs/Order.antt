@@ -1,6 +1,5 @@
 -- The numbers of the Asked trains stand in the order in which their frames came: a train that asks is the last, and one
 -- that waits no more leaves the others as they were.
--- Assumes nothing.
 use mathlib.Core.Path.{_≡_}
 use mathlib.Core.Bool.{true, false}
 use Prim.Native.Nat.{ℕ, _+_, _<_}

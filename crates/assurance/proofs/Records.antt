@@ -1,7 +1,6 @@
 -- How many records there can be. Each post travelled takes at most four, FA, AFE, FE and AM, so that a train's record
 -- says how many it can have taken so far, and the journal's count is at most their sum: at most 168, since six trains
 -- travel at most seven posts each. Every accepted frame raises the sum. For any table.
--- Assumes nothing.
 use mathlib.Core.Path.{_≡_, refl, sym, ap}
 use mathlib.Core.Bool.{true, false, false≢true}
 use mathlib.Core.List.{List}

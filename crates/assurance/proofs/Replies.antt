@@ -1,5 +1,4 @@
 -- What an accepted frame is answered by: what `Serving` says of the granting, told of the state before the frame.
--- Assumes nothing.
 use mathlib.Core.Path.{_≡_, refl, sym, ap, _∙_}
 use mathlib.Core.Logic.{inl, inr}
 use mathlib.Core.Bool.{true, false≢true}

@@ -1,6 +1,5 @@
 -- The granting, from a state b on: each FE is the next move of a train that was Asked in b; it makes the train Running,
 -- so that none gets a second one, and a train that was Asked and is not any more has got its own.
--- Assumes nothing.
 use mathlib.Core.Path.{_≡_, refl, ap}
 use mathlib.Core.Logic.{_≢_, ⊎-elim}
 use mathlib.Core.Bool.{true, false, false≢true}

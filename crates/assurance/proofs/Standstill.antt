@@ -1,6 +1,5 @@
 -- No standstill: where nobody can be granted, some train that is short of its end is not waiting. With no train
 -- Running, the first move of a completion is one that can be granted.
--- Assumes nothing.
 use mathlib.Core.Path.{_≡_, sym, ap, _∙_}
 use mathlib.Core.Logic.{_≢_}
 use mathlib.Core.Bool.{Bool, true, false, not, _&&_}

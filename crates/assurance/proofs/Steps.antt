@@ -1,6 +1,5 @@
 -- A request, an arrival, a grant and an AFE keep the invariant: each is a change of one train's record with one message
 -- logged.
--- Assumes nothing.
 use mathlib.Core.Path.{_≡_, refl, sym, ap, subst, _∙_}
 use mathlib.Core.Bool.{true, false, false≢true}
 use mathlib.Core.List.{List}

@@ -1,5 +1,4 @@
 -- The observer tells of each train what its record says, so that the invariant says what is claimed.
--- Assumes nothing.
 use mathlib.Core.Path.{_≡_, refl, sym, ap, _∙_}
 use mathlib.Core.Logic.{_≢_}
 use mathlib.Core.Bool.{false}

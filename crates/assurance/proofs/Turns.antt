@@ -1,6 +1,5 @@
 -- Turns by order of asking. The numbers of the Asked trains stand in the order in which the frames came (`Order`), so
 -- that the oldest that can be granted is the one that asked first of those that could go.
--- Assumes nothing.
 use mathlib.Core.Path.{_≡_, refl, sym, ap, subst, _∙_}
 use mathlib.Core.Logic.{⊎-elim}
 use mathlib.Core.Bool.{false}

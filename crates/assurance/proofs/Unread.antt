@@ -1,5 +1,4 @@
 -- The claims of `specs/Unread.antt`, proved over the laws of alike states.
--- Assumes nothing.
 use mathlib.Core.Path.{_≡_, refl, sym, ap, subst, _∙_}
 use mathlib.Core.Logic.{_≢_}
 use mathlib.Core.List.{List}

@@ -1,6 +1,5 @@
 -- Nobody who could go is left waiting: by the invariant, a train could go, as the observer tells it, exactly where it
 -- can be granted.
--- Assumes nothing.
 use mathlib.Core.Path.{_≡_, sym, subst, _∙_}
 use mathlib.Core.Bool.{true}
 use mathlib.Core.List.{List}

@@ -1,6 +1,5 @@
 -- Demand 3 over a whole list of frames, proved by citation: an accepted opening establishes the invariant (`Opened`),
 -- every answer keeps it (`Exchanged`), so that it holds after the run (`Ran`), where it says what is claimed (`Told`).
--- Assumes nothing.
 use mathlib.Core.Path.{_≡_, sym, subst, _∙_}
 use mathlib.Core.List.{List}
 use Prim.Native.Nat.{ℕ}

@@ -1,6 +1,5 @@
 -- The Asked trains in the order of their requests: what the search for the next one finds, train by train, and what it
 -- means to have tried all whose numbers are below a bound.
--- Assumes nothing.
 use mathlib.Core.Path.{_≡_, refl, sym, ap, _∙_}
 use mathlib.Core.Bool.{true, false, false≢true}
 use mathlib.Core.List.{List}

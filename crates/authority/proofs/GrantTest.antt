@@ -1,6 +1,5 @@
 -- The test of a grant in the order in which the code makes it, and the configuration whose bit it reads, train by
 -- train.
--- Assumes nothing.
 use mathlib.Core.Path.{_≡_, ap, _∙_}
 use mathlib.Core.Logic.{_≢_}
 use mathlib.Core.Bool.{true, false}

@@ -1,5 +1,4 @@
 -- What one train's record says, in the words of the functions that read it.
--- Assumes nothing.
 use mathlib.Core.Path.{_≡_, ap, _∙_}
 use Prim.Native.Nat.{ℕ}
 use Rattle.authority.specs.Types.{TrainNo, PostNo, Move, Free, Train, State}

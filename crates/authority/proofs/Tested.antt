@@ -1,6 +1,5 @@
 -- The tests of a state in the order in which the code makes them: the first that fails decides, and else the last.
 -- Together they are those of `rules`.
--- Assumes nothing.
 use mathlib.Core.Path.{_≡_, refl, sym, ap, _∙_}
 use mathlib.Core.Bool.{Bool, true, false, not, _&&_, and-false}
 use Prim.Native.Nat.{ℕ, _≤_, _<_}

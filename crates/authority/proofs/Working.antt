@@ -1,5 +1,4 @@
 -- The work on a frame as the code holds it: the state, and the batch of what was logged. The granting turn by turn.
--- Assumes nothing.
 use mathlib.Core.Path.{_≡_, refl, sym, ap, subst, _∙_}
 use mathlib.Core.Bool.{true}
 use mathlib.Core.List.{List, [], _∷_, _++_}

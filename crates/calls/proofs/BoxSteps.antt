@@ -1,5 +1,4 @@
 -- How the calls of the dispatcher's end come out, by the tests that the code makes.
--- Assumes nothing.
 use mathlib.Core.Path.{_≡_, ap}
 use mathlib.Core.Logic.{_≢_}
 use mathlib.Core.Bool.{false}

@@ -1,7 +1,6 @@
 -- The claims of `specs/CallRuns`. A list of calls is a run of the rules: call by call, by what each leaves
 -- (`HandedOn`), and since a word says which verdict it was: a refusal's number is not 0 and fits in the low byte. A
 -- refused opening leaves bytes of another length than a state's, or the empty state, which is not valid.
--- Assumes nothing.
 use mathlib.Core.Path.{_≡_, refl, sym, ap, subst, _∙_}
 use mathlib.Core.Logic.{_≢_}
 use mathlib.Core.Bool.{Bool, true, false, _&&_}

@@ -1,6 +1,5 @@
 -- The claims of `specs/HandedOn`: the state that the rules give keeps the lengths of its lists, and the journal its
 -- own, so that both read back.
--- Assumes nothing.
 use mathlib.Core.Path.{_≡_, refl, ap, _∙_}
 use mathlib.Core.Logic.{_≢_}
 use mathlib.Core.Bool.{true}

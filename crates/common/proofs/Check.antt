@@ -1,5 +1,4 @@
 -- Laws of checks in order. A proof about a refusal passes the checks one by one and stops at the one that fails.
--- Assumes nothing.
 use mathlib.Core.Path.{_≡_, refl, sym, subst, _∙_}
 use mathlib.Core.Logic.{_≢_}
 use mathlib.Core.Bool.{Bool, true, false, not, _&&_, _||_}

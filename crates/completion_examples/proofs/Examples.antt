@@ -1,5 +1,4 @@
 -- The examples: the table's bit is the test of the code, and the test is evaluated.
--- Assumes nothing.
 use mathlib.Core.Path.{refl}
 use lib.Dec.{lit<}
 use Rattle.common.specs.Below.{countBelow, allBelow, anyBelow}

@@ -1,5 +1,4 @@
 -- What is printed is the paper's transcript: from a begun frame on, then from a begun book on.
--- Assumes nothing.
 use mathlib.Core.Path.{_≡_, refl, sym, ap, _∙_}
 use mathlib.Core.Logic.{_≢_}
 use mathlib.Core.Bool.{true, false, cond, true≢false}

@@ -1,6 +1,5 @@
 -- What a batch of at most seven messages has: their records, in order. So the journal with the batch appended, and the
 -- frames of the answers, are those of the definitions, which have the messages in a list.
--- Assumes nothing.
 use mathlib.Core.Path.{_≡_, refl, sym, ap, subst, _∙_}
 use mathlib.Core.List.{List, [], _∷_, _++_, append-assoc, append-nil, map, List·Memᴰ, List·Memᴰ·head, List·Memᴰ·tail}
 use Prim.Native.Nat.{ℕ, suc, _+_, _-_, _≤_, _<_}

@@ -1,5 +1,4 @@
 -- An accepted frame, as the code works on it: the frame's own change before the granting, and the asker's AFE after it.
--- Assumes nothing.
 use mathlib.Core.Path.{_≡_, subst⁻¹, _∙_}
 use mathlib.Core.Bool.{Bool, true, false}
 use mathlib.Core.List.{List, []}

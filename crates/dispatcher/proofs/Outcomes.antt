@@ -1,5 +1,4 @@
 -- The step on a frame: what it leaves by value is the answer, with every journal of the length that was handed in.
--- Assumes nothing.
 use mathlib.Core.Path.{_≡_, refl, sym, ap, subst, _∙_}
 use mathlib.Core.Logic.{_≢_}
 use mathlib.Core.List.{List, map}

@@ -1,5 +1,4 @@
 -- The checks of a frame in the order in which the code makes them: which number is given where one fails.
--- Assumes nothing.
 use mathlib.Core.Path.{_≡_, refl, sym, ap, subst, _∙_}
 use mathlib.Core.Logic.{_≢_}
 use mathlib.Core.Bool.{Bool, true, false, not, _&&_, _||_}

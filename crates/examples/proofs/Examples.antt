@@ -1,5 +1,4 @@
 -- The paper's examples, evaluated.
--- Assumes nothing.
 use mathlib.Core.Path.{refl}
 use Rattle.common.specs.Below.{countBelow}
 use Rattle.frame.specs.Frame.{bytesOf}

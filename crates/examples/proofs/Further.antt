@@ -1,5 +1,4 @@
 -- The further examples, evaluated.
--- Assumes nothing.
 use mathlib.Core.Path.{refl}
 use Rattle.common.specs.Below.{countBelow, allBelow}
 use Rattle.common.specs.Check.{refusal, unlessRefused}

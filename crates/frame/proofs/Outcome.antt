@@ -1,6 +1,5 @@
 -- What a frame reads as tells how the checks of reading went: what reads as a message passed them, and a refusal has
 -- the number of the first that failed.
--- Assumes nothing.
 use mathlib.Core.Path.{_≡_, refl, _∙_}
 use mathlib.Core.Bool.{true}
 use mathlib.Core.List.{List}

@@ -1,5 +1,4 @@
 -- What is written reads back, and only what is written is read: `specs/RoundTrip.antt`, proved.
--- Assumes nothing.
 use mathlib.Core.Path.{_≡_, refl, sym, ap, _∙_}
 use mathlib.Core.Bool.{cond}
 use mathlib.Core.List.{List, [], _∷_}

@@ -1,5 +1,4 @@
 -- A message is logged with the kind, train, from and to of its frame: each kind by computation.
--- Assumes nothing.
 use mathlib.Core.Path.{refl}
 use Rattle.frame.specs.Frame.{bytesOf}
 use Rattle.frame.specs.RoundTrip.{IsMessage}

@@ -1,5 +1,4 @@
 -- Bytes put into a buffer: the loop's turn and the ways out, over plain lists.
--- Assumes nothing.
 use mathlib.Core.Path.{_≡_, refl, sym, subst, _∙_}
 use mathlib.Core.List.{List, append-nil}
 use Prim.Native.Nat.{ℕ, zero, suc, _+_, _≤_, _<_}

@@ -1,6 +1,5 @@
 -- Laws of the bytes of some things, one after the other, each of which has w bytes: their length, each byte, and one
 -- thing replaced by another.
--- Assumes nothing.
 use mathlib.Core.Path.{_≡_, sym, ap, _∙_}
 use mathlib.Core.List.{List, [], _∷_, _++_, append-assoc}
 use Prim.Native.Nat.{ℕ, zero, suc, _+_, _*_, _<_}

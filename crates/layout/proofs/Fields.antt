@@ -1,5 +1,4 @@
 -- A line and a state byte by byte: the length, and what stands past the first ten bytes, for every train at once.
--- Assumes nothing.
 use mathlib.Core.Path.{_≡_, refl, sym, ap, subst, _∙_}
 use mathlib.Core.Logic.{_≢_}
 use mathlib.Core.List.{List, [], _∷_, _++_}

@@ -1,5 +1,4 @@
 -- Laws of the first ten bytes of a line and of a state: what stands at each place, and where the rest begins.
--- Assumes nothing.
 use mathlib.Core.Path.{_≡_, refl, sym, ap, subst, _∙_}
 use mathlib.Core.List.{List, _∷_}
 use Prim.Native.Nat.{ℕ, suc, _+_, _-_, _≤_, _<_}

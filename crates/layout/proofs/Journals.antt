@@ -1,6 +1,5 @@
 -- The journal as bytes: its records and the bytes past them are the buffer, and one record is replaced by its four
 -- bytes. Then the loop that writes a batch.
--- Assumes nothing.
 use mathlib.Core.Path.{_≡_, refl, sym, ap, _∙_}
 use mathlib.Core.List.{List, _++_}
 use Prim.Native.Nat.{ℕ, zero, suc, _+_, _*_, _-_, _/_, _%_, _≤_, _<_}

@@ -1,6 +1,5 @@
 -- The round trips of `specs/RoundTrip`: each by the byte at a free place, with cases only over the few bytes of one
 -- train or one unit.
--- Assumes nothing.
 use mathlib.Core.Path.{_≡_, refl, sym, ap, _∙_}
 use mathlib.Core.Bool.{true}
 use mathlib.Core.List.{List}

@@ -1,5 +1,4 @@
 -- Laws of statuses as numbers, of which bytes encode a state, and of a list that a loop has filled.
--- Assumes nothing.
 use mathlib.Core.Path.{_≡_}
 use mathlib.Core.Logic.{_≢_}
 use mathlib.Core.Bool.{true, false}

@@ -1,5 +1,4 @@
 -- Laws of the bytes of a unit: which bytes encode one, the last of its phases and buttons, and how a call comes out.
--- Assumes nothing.
 use mathlib.Core.Path.{_≡_, refl}
 use mathlib.Core.Logic.{_≢_}
 use mathlib.Core.Bool.{true, false}

@@ -1,6 +1,5 @@
 -- Rows of bytes in a book: the values at a row of places make that part of it, and a route's two bytes stand at its two
 -- places.
--- Assumes nothing.
 use mathlib.Core.Path.{_≡_, refl, sym}
 use mathlib.Core.List.{List, [], _∷_, _++_}
 use Prim.Native.Nat.{ℕ, zero, suc, _+_, _*_, _≤_, _<_}

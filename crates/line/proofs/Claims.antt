@@ -1,6 +1,5 @@
 -- The claims about the line book. What is read passes every check, so its bytes are spelled out part by part (`only`);
 -- the bytes of a well-formed line stand where the reading looks for them, so every check passes (`back`).
--- Assumes nothing.
 use mathlib.Core.Path.{_≡_, refl, sym, ap, _∙_}
 use mathlib.Core.Logic.{_≢_}
 use mathlib.Core.Bool.{true}

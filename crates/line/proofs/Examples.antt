@@ -1,6 +1,5 @@
 -- 01's examples C, D, E and F, those that a book meets when it is read alone, and their neighbours, computed from the
 -- definition.
--- Assumes nothing.
 use mathlib.Core.Path.{_≡_, refl}
 use mathlib.Core.List.{List, [], _∷_, _++_}
 use Prim.Native.Nat.{ℕ}

@@ -1,6 +1,5 @@
 -- The stages of the reading, one after the other, are the checks of a book in order: a stage that stops gives the
 -- book's refusal, and one that passes leaves the checks after its own.
--- Assumes nothing.
 use mathlib.Core.Path.{_≡_, refl, sym, ap, _∙_}
 use mathlib.Core.List.{List, [], _++_}
 use Prim.Native.Nat.{ℕ, zero, suc, _+_, _*_, _≤_, _<_}

@@ -1,5 +1,4 @@
 -- What each stage of the reading answers, a law for each case, in the order of the checks.
--- Assumes nothing.
 use mathlib.Core.Path.{_≡_}
 use mathlib.Core.Logic.{_≢_}
 use mathlib.Core.Bool.{true, false, _&&_, and-false}

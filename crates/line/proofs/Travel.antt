@@ -1,6 +1,5 @@
 -- A train on its way: the next post, the posts travelled, and the post that they lead to. All of it is arithmetic of a
 -- start a, a post p and an end e.
--- Assumes nothing.
 use mathlib.Core.Path.{_≡_, sym}
 use mathlib.Core.Logic.{_⊎_, inl, inr, ⊎-elim, _≢_}
 use mathlib.Core.Bool.{true, false, _&&_}

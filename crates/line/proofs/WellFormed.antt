@@ -1,5 +1,4 @@
 -- A well-formed line, as facts about its numbers: what `completion` and `dispatcher` rest on.
--- Assumes nothing.
 use mathlib.Core.Path.{_≡_}
 use mathlib.Core.Bool.{true, false, _&&_, and-false}
 use Prim.Native.Nat.{ℕ, _≤_, _<_}

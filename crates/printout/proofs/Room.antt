@@ -1,5 +1,4 @@
 -- Laws of a text that is written byte by byte.
--- Assumes nothing.
 use mathlib.Core.Path.{_≡_, refl, sym, ap, _∙_}
 use mathlib.Core.List.{List, [], _∷_, _++_, append-assoc, append-nil, foldl-append}
 use Prim.Native.Nat.{ℕ, suc, _+_, _-_, _≤_, _<_}

@@ -1,5 +1,4 @@
 -- How `quangevit_answer` comes out, by what `step` hands back.
--- Assumes nothing.
 use mathlib.Core.Path.{_≡_, sym, ap, _∙_}
 use mathlib.Core.Bool.{true}
 use mathlib.Core.List.{List}

@@ -1,6 +1,5 @@
 -- What the checks say of an accepted frame, and what an accepted frame leaves: a valid state of the same line, in which
 -- nobody can be granted, with at most seven messages logged and counted.
--- Assumes nothing.
 use mathlib.Core.Path.{_≡_, refl, sym, ap, subst, _∙_}
 use mathlib.Core.Logic.{_≢_, ⊎-elim}
 use mathlib.Core.Bool.{true, false, not, _&&_, _||_, false≢true}

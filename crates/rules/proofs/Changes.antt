@@ -1,7 +1,6 @@
 -- What keeps a state valid: one law for every change of one train's record, with or without a record logged, and its
 -- four uses, a request, an arrival, a grant and a record logged alone. The change may count a train as a holder where
 -- the old record was one, or where there is room.
--- Assumes nothing.
 use mathlib.Core.Path.{_≡_, refl, sym, subst, _∙_}
 use mathlib.Core.Logic.{_≢_}
 use mathlib.Core.Bool.{Bool, true, false, not, _||_, or-false, false≢true, true≢false}

@@ -1,5 +1,4 @@
 -- The frames of some messages: seven bytes to each, one after the other.
--- Assumes nothing.
 use mathlib.Core.Path.{_≡_, refl, sym}
 use mathlib.Core.List.{List, [], _∷_, _++_, append-assoc, append-nil}
 use Prim.Native.Nat.{_*_}

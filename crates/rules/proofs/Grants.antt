@@ -1,7 +1,6 @@
 -- The granting, for any table. `grants-keep` is the loop's rule: what a grant to the oldest keeps, the granting keeps.
 -- The others say that the loop ends where nobody can be granted, goes on with the oldest, and spends an Asked train for
 -- each answer, so that its fuel is enough.
--- Assumes nothing.
 use mathlib.Core.Path.{_≡_, refl, sym, _∙_}
 use mathlib.Core.Bool.{Bool, true}
 use mathlib.Core.Option.{Option, none, some}

@@ -1,6 +1,5 @@
 -- The opening in the order in which the code makes it: a law for each case, over the book, the table and the number of
 -- records. The book's own checks go by the reading: a refused book gives its number, one that is read leaves 19 and 20.
--- Assumes nothing.
 use mathlib.Core.Path.{_≡_, refl, sym, ap, _∙_}
 use mathlib.Core.Logic.{_≢_}
 use mathlib.Core.Bool.{Bool, true, false, _&&_, and-false}

@@ -1,5 +1,4 @@
 -- Which number refuses a frame: the checks before its own pass, and its own fails.
--- Assumes nothing.
 use mathlib.Core.Path.{_≡_, refl, sym, ap, subst}
 use mathlib.Core.Logic.{_≢_, _⊎_, ⊎-elim}
 use mathlib.Core.Bool.{true, false, not, _&&_, _||_, and-false, false≢true}

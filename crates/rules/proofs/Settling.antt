@@ -1,6 +1,5 @@
 -- What the granting leaves of the work that it begins with: lines, routes and posts are the same, and each answer is
 -- paid for by an Asked train. In a valid state with room in the journal for every Asked train it leaves a valid state.
--- Assumes nothing.
 use mathlib.Core.Path.{_≡_, refl, sym, ap, subst, _∙_}
 use mathlib.Core.Logic.{⊎-elim}
 use mathlib.Core.List.{List, [], _∷_, _++_, append-assoc, append-nil, List·Memᴰ, List·Memᴰ·append-cases}

@@ -1,6 +1,5 @@
 -- A frame that passes the checks of its content is accepted in a valid state with long stores: the converse of
 -- `frame-passed`.
--- Assumes nothing.
 use mathlib.Core.Path.{_≡_, refl}
 use mathlib.Core.Bool.{true, _||_}
 use mathlib.Core.List.{List}

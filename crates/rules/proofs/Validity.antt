@@ -1,5 +1,4 @@
 -- Valid states as facts, both ways: `Valid s` holds exactly where the test `valid s` passes.
--- Assumes nothing.
 use mathlib.Core.Path.{_≡_, refl, sym}
 use mathlib.Core.Logic.{_≢_, ⊎-elim}
 use mathlib.Core.Bool.{Bool, true, false, not, _||_, false≢true, true≢false}

@@ -25,9 +25,11 @@ fn transcript(fd: i32) -> Text
     intake::printed(console)
 }
 
-// Prints the first `length` bytes. Whether all of them were written is not asked.
+// Prints the first `length` bytes, the transcript of some input. Whether all of them were written is
+// not asked.
 fn print_first(bytes: [u8; TEXT_LENGTH], length: usize)
     requires { ⌜ length ≤ textLength ⌝ }
+    requires { ⌜ Transcript (record { bytes = bytes; length = length }) ⌝ }
 {
     io::write_all(STDOUT_FILENO, &bytes[..length]);
 }

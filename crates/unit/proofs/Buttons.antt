@@ -1,5 +1,4 @@
 -- Which case of `pressButton` holds, by the tests that the code makes.
--- Assumes nothing.
 use mathlib.Core.Path.{_≡_, sym, ap, _∙_}
 use mathlib.Core.Logic.{_≢_}
 use mathlib.Core.Bool.{true, false}

@@ -1,5 +1,4 @@
 -- Which case of `hearFrame` holds, by what the frame reads as and the tests that the code makes.
--- Assumes nothing.
 use mathlib.Core.Path.{_≡_, refl, sym, ap, _∙_}
 use mathlib.Core.Logic.{_≢_}
 use mathlib.Core.Bool.{true, false, _&&_}

@@ -1,6 +1,5 @@
 -- The history of a unit is orderly: `specs/History.antt`, proved. `Tied` is the invariant: what the events so far say
 -- of the unit's phase and post. Each input keeps it, and finds the events so far as the claim wants them (`Due`).
--- Assumes nothing.
 use mathlib.Core.Path.{_≡_, refl, sym, ap, subst, subst⁻¹, _∙_}
 use mathlib.Core.Logic.{_≢_}
 use mathlib.Core.Bool.{true}

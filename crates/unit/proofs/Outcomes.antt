@@ -1,6 +1,5 @@
 -- How a press and a frame come out, turned round from the definitions: a refusal leaves the unit as it was, and what is
 -- accepted passed every check.
--- Assumes nothing.
 use mathlib.Core.Path.{_≡_, refl}
 use mathlib.Core.Logic.{_≢_}
 use mathlib.Core.Bool.{true, _&&_, false≢true}

@@ -1,5 +1,4 @@
 -- Laws of phases: two of the same number are the same, and who awaits an FE is not Standing.
--- Assumes nothing.
 use mathlib.Core.Path.{_≡_, refl, sym, ap, _∙_}
 use mathlib.Core.Bool.{true, false, false≢true}
 use Prim.Native.Nat.{ℕ, zero, suc}

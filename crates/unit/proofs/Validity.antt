@@ -1,6 +1,5 @@
 -- When a unit is valid, by the tests that the code makes, and that a valid unit stays valid: `specs/Validity.antt`,
 -- proved.
--- Assumes nothing.
 use mathlib.Core.Path.{_≡_, refl, sym, ap, _∙_}
 use mathlib.Core.Logic.{_≢_}
 use mathlib.Core.Bool.{true, false, false≢true}

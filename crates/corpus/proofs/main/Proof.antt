@@ -1,5 +1,4 @@
 -- `main` ends: the arguments are taken one by one.
--- Assumes nothing.
 use Prim.Native.Nat.{_-_}
 use native.Mathlib.Omega.{arith}
 use borrow.Author.Needs.{needs}

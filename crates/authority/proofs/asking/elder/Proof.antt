@@ -1,5 +1,4 @@
 -- `elder` meets its contract: each arm has what the definition says of the status.
--- Assumes nothing.
 use mathlib.Core.Path.{_∙_}
 use borrow.Author.Needs.{needs}
 use Rattle.authority.proofs.Askers.{elder-early, elder-late}

@@ -1,5 +1,4 @@
 -- `lower` meets its contract: each arm has what the definition says of the best so far.
--- Assumes nothing.
 use borrow.Author.Needs.{needs}
 use Rattle.authority.proofs.Askers.{lower-own, lower-other, lower-first}
 use Rattle.authority.proofs.asking.lower.Statement.{statement}

@@ -1,5 +1,4 @@
 -- `next_asked` meets its contract. The loop's invariant: the best so far is the next one among the trains passed.
--- Assumes nothing.
 use mathlib.Core.Path.{_≡_, sym}
 use Prim.Native.Nat.{_≤_, _-_}
 use native.Mathlib.Numerals.{add-one}

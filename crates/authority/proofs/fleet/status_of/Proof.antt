@@ -1,5 +1,4 @@
 -- `status_of` meets its contract.
--- Assumes nothing.
 use mathlib.Core.Path.{ap}
 use borrow.Author.Needs.{needs}
 use Rattle.authority.specs.Types.{Train}

@@ -1,5 +1,4 @@
 -- `tracks_at` meets its contract: there are eight places, so that past them 0 is read.
--- Assumes nothing.
 use mathlib.Core.Path.{_≡_, sym}
 use native.Mathlib.Omega.{arith}
 use lib.ListN.{length, List·getD-eq-default}

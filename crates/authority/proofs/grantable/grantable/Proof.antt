@@ -1,5 +1,4 @@
 -- `grantable` meets its contract: the tests are those of the definition, in its order.
--- Assumes nothing.
 use mathlib.Core.Path.{_≡_, sym, ap, _∙_}
 use mathlib.Core.Bool.{true}
 use Prim.Native.Nat.{_<_}

@@ -1,5 +1,4 @@
 -- `travelled_by` meets its contract: what the train has reached, and one post more for train t.
--- Assumes nothing.
 use mathlib.Core.Path.{_≡_, ap, _∙_}
 use native.Mathlib.Omega.{arith}
 use Rattle.authority.specs.Types.{Train}

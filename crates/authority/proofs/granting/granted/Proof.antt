@@ -1,5 +1,4 @@
 -- `granted` meets its contract.
--- Assumes nothing.
 use borrow.Author.Needs.{needs}
 use Rattle.authority.proofs.granting.granted.Statement.{statement}
 use Rattle.authority.proofs.granting.granted.Tie as tie

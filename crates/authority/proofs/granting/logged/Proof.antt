@@ -1,5 +1,4 @@
 -- `logged` meets its contract.
--- Assumes nothing.
 use borrow.Author.Needs.{needs}
 use Rattle.authority.proofs.granting.logged.Statement.{statement}
 use Rattle.authority.proofs.granting.logged.Tie as tie

@@ -1,6 +1,5 @@
 -- `settle` meets its contract. Outer loop: the work is one that ends as the work it began with, and each turn has one
 -- Asked train fewer. Inner loop: nothing is changed, and nobody whose request has a number below `from` can be granted.
--- Assumes nothing.
 use mathlib.Core.Path.{_≡_, refl, sym, ap, subst, _∙_}
 use mathlib.Core.Bool.{true}
 use mathlib.Core.List.{List, []}

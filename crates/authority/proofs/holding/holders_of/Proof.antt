@@ -1,5 +1,4 @@
 -- `holders_of` meets its contract. The loop's invariant: the sets have the holders among the trains passed.
--- Assumes nothing.
 use mathlib.Core.Path.{_≡_}
 use Prim.Native.Nat.{_≤_, _-_}
 use native.Mathlib.Omega.{arith}

@@ -1,5 +1,4 @@
 -- `nobody` meets its contract.
--- Assumes nothing.
 use Rattle.authority.proofs.HolderSets.{held-none}
 use Rattle.authority.proofs.holding.nobody.Statement.{statement}
 use Rattle.authority.proofs.holding.nobody.Tie as tie

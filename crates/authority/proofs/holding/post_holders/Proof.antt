@@ -1,5 +1,4 @@
 -- `post_holders` meets its contract: the ones of the set are its members.
--- Assumes nothing.
 use borrow.Author.Needs.{needs}
 use Rattle.authority.proofs.HolderSets.{posts-counted}
 use Rattle.authority.proofs.holding.post_holders.Statement.{statement}

@@ -1,5 +1,4 @@
 -- `section_holders` meets its contract: the ones of the set are its members.
--- Assumes nothing.
 use borrow.Author.Needs.{needs}
 use Rattle.authority.proofs.HolderSets.{sections-counted}
 use Rattle.authority.proofs.holding.section_holders.Statement.{statement}

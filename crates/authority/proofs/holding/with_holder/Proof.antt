@@ -1,5 +1,4 @@
 -- `with_holder` meets its contract: the set of that number is stored anew, or there is none.
--- Assumes nothing.
 use borrow.Author.Needs.{needs}
 use Rattle.authority.proofs.HolderSets.{joined-own, joined-none}
 use Rattle.authority.proofs.holding.with_holder.Statement.{statement}

@@ -1,5 +1,4 @@
 -- `with_places` meets its contract: a train that is not Running holds one post, a Running one two and their section.
--- Assumes nothing.
 use mathlib.Core.Path.{sym, _∙_}
 use borrow.Author.Needs.{needs}
 use borrow.Author.Tests.{not-true, not-false}

@@ -1,5 +1,4 @@
 -- `arrived` meets its contract: the next post is the one that `next_post` gives.
--- Assumes nothing.
 use Rattle.authority.proofs.Located.{arrived-at}
 use borrow.Author.Needs.{needs}
 use Rattle.authority.proofs.train.arrived.Statement.{statement}

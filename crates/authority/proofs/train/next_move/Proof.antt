@@ -1,5 +1,4 @@
 -- `next_move` meets its contract.
--- Assumes nothing.
 use borrow.Author.Needs.{needs}
 use Rattle.authority.proofs.Located.{move-next}
 use Rattle.authority.proofs.train.next_move.Statement.{statement}

@@ -1,5 +1,4 @@
 -- `reached` meets its contract: each arm has what the definition says of its status.
--- Assumes nothing.
 use native.Mathlib.Omega.{arith}
 use borrow.Author.Needs.{needs}
 use Rattle.authority.proofs.train.reached.Statement.{statement}

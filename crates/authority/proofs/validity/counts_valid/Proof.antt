@@ -1,5 +1,4 @@
 -- `counts_valid` meets its contract: the first test that fails decides, and else the last.
--- Assumes nothing.
 use borrow.Author.Tests.{le-leb, lt-leb}
 use Rattle.line.proofs.WellFormed.{ranged, below-range, above-range}
 use Rattle.authority.proofs.validity.counts_valid.Statement.{statement}

@@ -1,5 +1,4 @@
 -- `has_number` meets its contract: each arm has what the definition says of its status.
--- Assumes nothing.
 use borrow.Author.Needs.{needs}
 use Rattle.authority.proofs.validity.has_number.Statement.{statement}
 use Rattle.authority.proofs.validity.has_number.Tie as tie

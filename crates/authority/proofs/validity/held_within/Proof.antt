@@ -1,5 +1,4 @@
 -- `held_within` meets its contract: the first test that fails decides, and else the last.
--- Assumes nothing.
 use lib.Count.{ones}
 use Rattle.authority.proofs.Tested.{no-tracks, many-tracks, too-many, few-enough}
 use Rattle.authority.proofs.validity.held_within.Statement.{statement}

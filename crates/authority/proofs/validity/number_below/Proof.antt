@@ -1,5 +1,4 @@
 -- `number_below` meets its contract: each arm has what the definition says of its status.
--- Assumes nothing.
 use borrow.Author.Needs.{needs}
 use Rattle.authority.proofs.validity.number_below.Statement.{statement}
 use Rattle.authority.proofs.validity.number_below.Tie as tie

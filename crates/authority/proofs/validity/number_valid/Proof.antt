@@ -1,5 +1,4 @@
 -- `number_valid` meets its contract. The loop's invariant: none of the trains passed has train t's number.
--- Assumes nothing.
 use mathlib.Core.Path.{_≡_, sym, ap, _∙_}
 use mathlib.Core.Bool.{true, not}
 use Prim.Native.Nat.{_-_}

@@ -1,5 +1,4 @@
 -- `numbers_valid` meets its contract. The loop's invariant: the numbers of the trains passed are valid.
--- Assumes nothing.
 use mathlib.Core.Path.{sym, _∙_}
 use Prim.Native.Nat.{_-_}
 use native.Mathlib.Omega.{arith}

@@ -1,5 +1,4 @@
 -- `on_line` meets its contract: the first test fails and decides, or else the second does.
--- Assumes nothing.
 use borrow.Author.Tests.{lt-ltb, le-ltb}
 use Rattle.authority.proofs.validity.on_line.Statement.{statement}
 use Rattle.authority.proofs.validity.on_line.Tie as tie

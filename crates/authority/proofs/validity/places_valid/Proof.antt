@@ -1,6 +1,5 @@
 -- `places_valid` meets its contract. The loop's invariant: the posts passed, and the sections after them, have no more
 -- holders than they may.
--- Assumes nothing.
 use mathlib.Core.Path.{_≡_, _∙_}
 use Prim.Native.Nat.{_-_, _<_}
 use native.Mathlib.Omega.{arith}

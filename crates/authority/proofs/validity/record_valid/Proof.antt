@@ -1,5 +1,4 @@
 -- `record_valid` meets its contract: the route is not on the line, or else the record decides.
--- Assumes nothing.
 use mathlib.Core.Path.{sym, _∙_}
 use borrow.Author.Needs.{needs}
 use borrow.Author.Tests.{not-true, not-false}

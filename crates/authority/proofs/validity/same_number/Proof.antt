@@ -1,5 +1,4 @@
 -- `same_number` meets its contract: each arm has what the definition says of the first status.
--- Assumes nothing.
 use borrow.Author.Needs.{needs}
 use Rattle.authority.proofs.validity.same_number.Statement.{statement}
 use Rattle.authority.proofs.validity.same_number.Tie as tie

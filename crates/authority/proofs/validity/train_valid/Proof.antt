@@ -1,5 +1,4 @@
 -- `train_valid` meets its contract: its tests are those of the definition, in its order.
--- Assumes nothing.
 use mathlib.Core.Path.{sym, _∙_}
 use borrow.Author.Needs.{needs}
 use borrow.Author.Tests.{not-true, not-false}

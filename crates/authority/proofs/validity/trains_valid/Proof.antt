@@ -1,5 +1,4 @@
 -- `trains_valid` meets its contract. The loop's invariant: the records of the trains passed are valid.
--- Assumes nothing.
 use mathlib.Core.Path.{_≡_, sym, ap, _∙_}
 use Prim.Native.Nat.{_-_}
 use native.Mathlib.Omega.{arith}

@@ -1,5 +1,4 @@
 -- `valid` meets its contract: its tests together are those of the definition.
--- Assumes nothing.
 use mathlib.Core.Path.{_≡_, sym, _∙_}
 use mathlib.Core.Bool.{true}
 use borrow.Author.Needs.{needs}

@@ -1,5 +1,4 @@
 -- `accept` meets its contract: each arm has what the definition says of its message.
--- Assumes nothing.
 use mathlib.Core.Path.{_≡_, sym, ap, subst, _∙_}
 use denote.Ref.{now}
 use borrow.Author.Needs.{needs}

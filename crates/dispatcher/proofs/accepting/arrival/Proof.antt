@@ -1,5 +1,4 @@
 -- `arrival` meets its contract: the train's new record is the definition's, and then the granting is.
--- Assumes nothing.
 use mathlib.Core.Path.{_≡_, ap, _∙_}
 use denote.Ref.{now}
 use borrow.Author.Needs.{needs}

@@ -1,5 +1,4 @@
 -- `decline` meets its contract: the asker is still Asked, or it was granted.
--- Assumes nothing.
 use mathlib.Core.Path.{_≡_, sym, ap, _∙_}
 use borrow.Author.Needs.{needs}
 use Rattle.dispatcher.specs.Types.{Status}

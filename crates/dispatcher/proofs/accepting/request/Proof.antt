@@ -1,5 +1,4 @@
 -- `request` meets its contract: the train's new record is the definition's, then the granting is, and then its AFE.
--- Assumes nothing.
 use mathlib.Core.Path.{_≡_, ap, subst⁻¹, _∙_}
 use Prim.Native.Nat.{_≤_}
 use denote.Ref.{now}

@@ -1,5 +1,4 @@
 -- `take` meets its contract: the granting begins with the train's new record.
--- Assumes nothing.
 use mathlib.Core.Path.{_≡_, ap, subst⁻¹, _∙_}
 use mathlib.Core.Bool.{true}
 use mathlib.Core.List.{[]}

@@ -1,5 +1,4 @@
 -- `untouched` meets its contract.
--- Assumes nothing.
 use borrow.Author.Needs.{needs}
 use Rattle.authority.specs.Progress.{addRecords}
 use Rattle.dispatcher.proofs.accepting.untouched.Statement.{statement}

@@ -4,7 +4,6 @@
 -- `step` says of the out buffer, and `append` of the journal, is the answer. Places: of the thirteen locals, _i stands
 -- at 2 · (12 − i) after what a comment names in front of them, and is followed by what frees it, shown as "…". A
 -- comment before a step gives the context in brackets.
--- Assumes nothing.
 use mathlib.Core.Path.{_≡_, refl, sym, ap, subst, _∙_}
 use mathlib.Core.List.{[], _∷_, List}
 use Prim.Native.Nat.{ℕ, _<_, _^_}

@@ -1,5 +1,4 @@
 -- `answer_log` meets its contract: the step's records are written to the log, as they would be to a lent journal.
--- Assumes nothing.
 use mathlib.Core.Path.{sym, ap, _∙_}
 use mathlib.Core.List.{List}
 use borrow.Author.Needs.{needs}

@@ -1,5 +1,4 @@
 -- `long_enough` meets its contract: its tests are those of the definition, in its order.
--- Assumes nothing.
 use borrow.Author.Tests.{le-leb, lt-leb}
 use Rattle.dispatcher.proofs.checks.long_enough.Statement.{statement}
 use Rattle.dispatcher.proofs.checks.long_enough.Tie as tie

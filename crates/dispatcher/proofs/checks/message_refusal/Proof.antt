@@ -1,5 +1,4 @@
 -- `message_refusal` meets its contract: each arm has what the definition says of its message.
--- Assumes nothing.
 use borrow.Author.Needs.{needs}
 use Rattle.dispatcher.proofs.checks.message_refusal.Statement.{statement}
 use Rattle.dispatcher.proofs.checks.message_refusal.Tie as tie

@@ -1,5 +1,4 @@
 -- `move_refusal` meets its contract: the checks pass one by one up to the one that fails.
--- Assumes nothing.
 use mathlib.Core.Path.{_≡_, sym, _∙_}
 use mathlib.Core.Bool.{Bool, false}
 use Prim.Native.Nat.{_<_}

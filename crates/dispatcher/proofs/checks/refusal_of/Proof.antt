@@ -1,5 +1,4 @@
 -- `refusal_of` meets its contract: 1, then 2, then what the frame reads as.
--- Assumes nothing.
 use mathlib.Core.Path.{sym, ap, _∙_}
 use denote.Ref.{now}
 use borrow.Author.Needs.{needs}

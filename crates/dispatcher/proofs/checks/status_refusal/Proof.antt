@@ -1,5 +1,4 @@
 -- `status_refusal` meets its contract: with the status and the kind of the frame known, the checks compute.
--- Assumes nothing.
 use borrow.Author.Needs.{needs}
 use Rattle.common.specs.Check.{refusal}
 use Rattle.dispatcher.proofs.checks.status_refusal.Statement.{statement}

@@ -1,6 +1,5 @@
 -- `send` meets its contract. The loop's invariant: the frames of the answers passed are in their places, and the rest
 -- of the buffer is as it was.
--- Assumes nothing.
 use mathlib.Core.Path.{_≡_, refl}
 use Prim.Native.Nat.{_≤_, _-_}
 use native.Mathlib.Omega.{arith}

@@ -1,5 +1,4 @@
 -- `refused` meets its contract.
--- Assumes nothing.
 use borrow.Author.Needs.{needs}
 use Rattle.dispatcher.proofs.stepping.refused.Statement.{statement}
 use Rattle.dispatcher.proofs.stepping.refused.Tie as tie

@@ -1,5 +1,4 @@
 -- `step` meets its contract: a refused frame leaves everything as it was, and an accepted one what the definition says.
--- Assumes nothing.
 use mathlib.Core.Path.{_≡_, ap, subst⁻¹, _∙_}
 use mathlib.Core.List.{List}
 use Prim.Native.Nat.{ℕ}

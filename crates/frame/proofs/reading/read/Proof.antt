@@ -1,5 +1,4 @@
 -- `frame::read` meets its contract: at each `return` the tests that led there say which case of `readFrame` holds.
--- Assumes nothing.
 use mathlib.Core.Path.{_≡_}
 use mathlib.Core.List.{List}
 use Prim.Native.Nat.{ℕ, _≤_}

@@ -1,5 +1,4 @@
 -- `frame::write` meets its contract: each arm has the bytes of its message.
--- Assumes nothing.
 use mathlib.Core.Path.{sym, ap, _∙_}
 use borrow.Author.Needs.{needs}
 use Rattle.frame.specs.Frame.{bytesOf}

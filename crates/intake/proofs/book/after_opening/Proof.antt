@@ -1,5 +1,4 @@
 -- `after_opening` meets its contract.
--- Assumes nothing.
 use Rattle.console.proofs.Steps.{accepted, refused}
 use borrow.Author.Needs.{needs}
 use Rattle.intake.proofs.book.after_opening.Statement.{statement}

@@ -1,5 +1,4 @@
 -- `open` meets its contract: it is `open_log` of the bytes that have come.
--- Assumes nothing.
 use mathlib.Core.Path.{sym}
 use lib.Seq.{length-take-le}
 use borrow.Author.Needs.{needs}

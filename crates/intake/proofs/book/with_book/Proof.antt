@@ -1,5 +1,4 @@
 -- `with_book` meets its contract.
--- Assumes nothing.
 use Rattle.console.proofs.Steps.{book-opened}
 use borrow.Author.Needs.{needs}
 use Rattle.intake.proofs.book.with_book.Statement.{statement}

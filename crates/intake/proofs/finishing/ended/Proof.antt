@@ -1,5 +1,4 @@
 -- `ended` meets its contract.
--- Assumes nothing.
 use borrow.Author.Needs.{needs}
 use Rattle.intake.proofs.finishing.ended.Statement.{statement}
 use Rattle.intake.proofs.finishing.ended.Tie as tie

@@ -1,5 +1,4 @@
 -- `last_frame` meets its contract.
--- Assumes nothing.
 use Rattle.console.proofs.Steps.{no-rest, torn}
 use borrow.Author.Needs.{needs}
 use Rattle.intake.proofs.finishing.last_frame.Statement.{statement}

@@ -1,5 +1,4 @@
 -- `with_frame` meets its contract.
--- Assumes nothing.
 use Rattle.console.proofs.Steps.{frame-answered}
 use borrow.Author.Needs.{needs}
 use Rattle.intake.proofs.frame.with_frame.Statement.{statement}

@@ -1,5 +1,4 @@
 -- `awaits` meets its contract: by what is awaited.
--- Assumes nothing.
 use borrow.Author.Needs.{needs}
 use Rattle.intake.proofs.phases.awaits.Statement.{statement}
 use Rattle.intake.proofs.phases.awaits.Tie as tie

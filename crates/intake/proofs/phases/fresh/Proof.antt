@@ -1,5 +1,4 @@
 -- `fresh` meets its contract.
--- Assumes nothing.
 use borrow.Author.Needs.{needs}
 use Rattle.intake.proofs.phases.fresh.Statement.{statement}
 use Rattle.intake.proofs.phases.fresh.Tie as tie

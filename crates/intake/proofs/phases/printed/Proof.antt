@@ -1,5 +1,4 @@
 -- `printed` meets its contract: by what is awaited.
--- Assumes nothing.
 use mathlib.Core.Path.{sym, ap, _∙_}
 use Rattle.printout.specs.Text.{textOf}
 use Rattle.console.specs.declared.console.Phase.{Phase}

@@ -1,5 +1,4 @@
 -- `book_length` meets its contract.
--- Assumes nothing.
 use borrow.Author.Needs.{needs}
 use Rattle.intake.proofs.piece.book_length.Statement.{statement}
 use Rattle.intake.proofs.piece.book_length.Tie as tie

@@ -1,5 +1,4 @@
 -- `is_book` meets its contract: the first two bytes say where the book ends.
--- Assumes nothing.
 use mathlib.Core.Path.{ap}
 use Prim.Native.Nat.{ℕ}
 use lib.Dec.{leb}

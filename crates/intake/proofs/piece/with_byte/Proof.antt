@@ -1,5 +1,4 @@
 -- `with_byte` meets its contract: the byte is the last, or there is no room for it.
--- Assumes nothing.
 use Rattle.console.proofs.Pieces.{one-more, none-more}
 use borrow.Author.Needs.{needs}
 use Rattle.intake.proofs.piece.with_byte.Statement.{statement}

@@ -1,5 +1,4 @@
 -- `after_frame` meets its contract: the dispatcher's answer, and one more refused or not.
--- Assumes nothing.
 use mathlib.Core.Path.{sym, ap}
 use lib.Seq.{length-take-le}
 use Rattle.console.specs.Run.{runWith, afterFrame}

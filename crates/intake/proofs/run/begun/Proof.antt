@@ -1,5 +1,4 @@
 -- `begun` meets its contract.
--- Assumes nothing.
 use borrow.Author.Needs.{needs}
 use Rattle.intake.proofs.run.begun.Statement.{statement}
 use Rattle.intake.proofs.run.begun.Tie as tie

@@ -1,5 +1,4 @@
 -- `count_after` meets its contract.
--- Assumes nothing.
 use mathlib.Core.Path.{sym, ap, _∙_}
 use borrow.Author.Tests.{lt-ltb, le-ltb}
 use Rattle.console.specs.Run.{most, countAfter}

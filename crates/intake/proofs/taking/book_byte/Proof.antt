@@ -1,5 +1,4 @@
 -- `book_byte` meets its contract.
--- Assumes nothing.
 use mathlib.Core.Path.{sym, _∙_}
 use Rattle.console.proofs.Steps.{book-whole, book-begun}
 use borrow.Author.Needs.{needs}

@@ -1,5 +1,4 @@
 -- `frame_byte` meets its contract.
--- Assumes nothing.
 use Rattle.console.proofs.Steps.{frame-begun, frame-whole}
 use borrow.Author.Needs.{needs}
 use Rattle.intake.proofs.taking.frame_byte.Statement.{statement}

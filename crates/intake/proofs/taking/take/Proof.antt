@@ -1,5 +1,4 @@
 -- `take` meets its contract: each turn takes the next byte.
--- Assumes nothing.
 use borrow.Author.Needs.{needs}
 use mathlib.Core.Path.{_≡_, refl, ap, _∙_}
 use Prim.Native.Nat.{_-_, _≤_}

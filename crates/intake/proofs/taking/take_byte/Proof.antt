@@ -1,5 +1,4 @@
 -- `take_byte` meets its contract: by what is awaited.
--- Assumes nothing.
 use mathlib.Core.Path.{ap, _∙_}
 use Rattle.console.specs.declared.console.Phase.the-variants.{Book, Refused, Frames, Ended}
 use Rattle.console.specs.declared.console.Console.{Console}

@@ -1,5 +1,4 @@
 -- `with_next` meets its contract.
--- Assumes nothing.
 use borrow.Author.Needs.{needs}
 use Rattle.intake.proofs.taking.with_next.Statement.{statement}
 use Rattle.intake.proofs.taking.with_next.Tie as tie

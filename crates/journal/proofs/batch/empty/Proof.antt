@@ -1,5 +1,4 @@
 -- `journal::empty` meets its contract: seven blank records.
--- Assumes nothing.
 use borrow.Author.Needs.{needs}
 use Rattle.journal.proofs.batch.empty.Statement.{statement}
 use Rattle.journal.proofs.batch.empty.Tie as tie

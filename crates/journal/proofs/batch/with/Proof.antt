@@ -1,5 +1,4 @@
 -- `journal::with` meets its contract: the batch has room for the record, or is full.
--- Assumes nothing.
 use native.Mathlib.Omega.{arith}
 use borrow.Author.Needs.{needs}
 use Rattle.journal.proofs.Batches.{with-room, with-full}

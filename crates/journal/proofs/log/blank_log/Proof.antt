@@ -1,5 +1,4 @@
 -- `blank_log` meets its contract: as many blank records as a journal has at least.
--- Assumes nothing.
 use borrow.Author.Needs.{needs}
 use Rattle.journal.proofs.log.blank_log.Statement.{statement}
 use Rattle.journal.proofs.log.blank_log.Tie as tie

@@ -1,5 +1,4 @@
 -- `log_at` meets its contract: past the end there is nothing but the blank record.
--- Assumes nothing.
 use mathlib.Core.Path.{_≡_, sym, _∙_}
 use native.Mathlib.Omega.{arith}
 use lib.ListN.{length, length-map, List·getD-eq-default}

@@ -1,5 +1,4 @@
 -- `log_with` meets its contract: all records of the batch are written, or none.
--- Assumes nothing.
 use mathlib.Core.Path.{_≡_, ap, subst⁻¹, _∙_}
 use Prim.Native.Nat.{ℕ, _≤_}
 use lib.ListN.{length}

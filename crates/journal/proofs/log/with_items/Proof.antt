@@ -1,6 +1,5 @@
 -- `with_items` meets its contract. The loop's invariant: the first k items are in their places, and the rest is as it
 -- was.
--- Assumes nothing.
 use mathlib.Core.Path.{_≡_}
 use Prim.Native.Nat.{_+_, _<_, _≤_, _-_}
 use native.Mathlib.Numerals.{add-one}

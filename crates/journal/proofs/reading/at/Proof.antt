@@ -4,7 +4,6 @@
 -- leave the record in _5, and `tail` hands it out.
 -- Places: of the nine locals, _i stands at 2 · (8 − i) after what a comment names in front of them, and is followed by
 -- what frees it, shown as "…". A comment before a step gives its statement and, in brackets, the context.
--- Assumes nothing.
 use mathlib.Core.Path.{_≡_, refl, sym, _∙_}
 use mathlib.Core.List.{[], _∷_, List}
 use Prim.Native.Nat.{ℕ, _<_, _≤_, _^_, _*_}

@@ -1,5 +1,4 @@
 -- `journal::record_of` meets its contract: each arm has the record of its message.
--- Assumes nothing.
 use mathlib.Core.Path.{sym, ap, _∙_}
 use borrow.Author.Needs.{needs}
 use Rattle.journal.specs.Journal.{recordOf}

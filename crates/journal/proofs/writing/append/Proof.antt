@@ -5,7 +5,6 @@
 -- laws of these lists are those of `Appended`. Places: of the twelve locals, _i stands at 2 · (11 − i) after what a
 -- comment names in front of them, and is followed by what frees it, shown as "…". A comment before a step gives its
 -- statement and, in brackets, the context.
--- Assumes nothing.
 use mathlib.Core.Path.{_≡_, refl, sym, ap, subst, _∙_}
 use mathlib.Core.Bool.{Bool, true, false}
 use mathlib.Core.WellFounded.{InvImage·wf, WellFounded}

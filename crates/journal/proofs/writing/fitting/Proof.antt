@@ -1,5 +1,4 @@
 -- `journal::fitting` meets its contract: there are too many records, or there is no room, or they all fit.
--- Assumes nothing.
 use native.Mathlib.Omega.{arith}
 use Rattle.journal.proofs.Appended.{all-fit, too-many, no-room}
 use Rattle.journal.proofs.writing.fitting.Statement.{statement}

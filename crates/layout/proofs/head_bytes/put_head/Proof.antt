@@ -1,5 +1,4 @@
 -- `put_head` meets its contract: each part is put to its place.
--- Assumes nothing.
 use mathlib.Core.Path.{_≡_, refl}
 use mathlib.Core.List.{List, []}
 use Prim.Native.Nat.{ℕ, _+_, _≤_}

@@ -3,7 +3,6 @@ use denote.Ref.{now}
 use Rattle.journal.specs.Journal.{batchLength}
 -- `append` meets its contract. The loop's invariant: the bytes are those of the journal with the first k records of the
 -- batch in their places.
--- Assumes nothing.
 use mathlib.Core.Path.{_≡_}
 use Prim.Native.Nat.{_-_}
 use native.Mathlib.Omega.{arith}

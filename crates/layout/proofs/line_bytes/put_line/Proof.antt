@@ -1,6 +1,5 @@
 -- `put_line` meets its contract. The loop's invariant: the routes passed are in their places, whatever the buffer was
 -- before the head was put.
--- Assumes nothing.
 use mathlib.Core.Path.{_≡_}
 use mathlib.Core.List.{List}
 use Prim.Native.Nat.{ℕ, _+_, _*_, _-_, _≤_}

@@ -1,6 +1,5 @@
 -- `put` meets its contract. The loop's invariant: the first i bytes are copied, the rest of the buffer is as it was;
 -- the measure is what is left of the bytes.
--- Assumes nothing.
 use Prim.Native.Nat.{_-_}
 use native.Mathlib.Omega.{arith}
 use lib.ListN.{length}

@@ -1,5 +1,4 @@
 -- `encodes_state` meets its contract. The loop's invariant: the trains passed have a status.
--- Assumes nothing.
 use mathlib.Core.Path.{sym, _∙_}
 use Prim.Native.Nat.{_-_}
 use native.Mathlib.Omega.{arith}

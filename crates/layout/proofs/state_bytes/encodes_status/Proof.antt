@@ -1,5 +1,4 @@
 -- `encodes_status` meets its contract: by the tests that led to each `return`.
--- Assumes nothing.
 use Rattle.layout.proofs.Statuses.{no-status, asked-number, other-number}
 use Rattle.layout.proofs.state_bytes.encodes_status.Statement.{statement}
 use Rattle.layout.proofs.state_bytes.encodes_status.Tie as tie

@@ -1,5 +1,4 @@
 -- `fleet_in` meets its contract. The loop's invariant: the trains passed are in their places.
--- Assumes nothing.
 use mathlib.Core.Path.{_≡_, _∙_}
 use Prim.Native.Nat.{_-_, _≤_}
 use native.Mathlib.Omega.{arith}

@@ -1,5 +1,4 @@
 -- `state_in` meets its contract: each part is at its place.
--- Assumes nothing.
 use borrow.Author.Needs.{needs}
 use Rattle.layout.proofs.state_bytes.state_in.Statement.{statement}
 use Rattle.layout.proofs.state_bytes.state_in.Tie as tie

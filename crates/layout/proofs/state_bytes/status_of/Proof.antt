@@ -1,5 +1,4 @@
 -- `status_of` meets its contract: each arm has the status of its number.
--- Assumes nothing.
 use mathlib.Core.Path.{sym, ap}
 use Prim.Native.Nat.{ℕ}
 use native.Mathlib.Omega.{arith}

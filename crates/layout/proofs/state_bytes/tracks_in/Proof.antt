@@ -1,5 +1,4 @@
 -- `tracks_in` meets its contract. The loop's invariant: the counts of the posts passed are in their places.
--- Assumes nothing.
 use mathlib.Core.Path.{_≡_, _∙_}
 use Prim.Native.Nat.{_+_, _-_, _≤_}
 use native.Mathlib.Omega.{arith}

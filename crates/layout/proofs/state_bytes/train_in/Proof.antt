@@ -1,5 +1,4 @@
 -- `train_in` meets its contract: each part is at its byte.
--- Assumes nothing.
 use borrow.Author.Needs.{needs}
 use Rattle.layout.proofs.state_bytes.train_in.Statement.{statement}
 use Rattle.layout.proofs.state_bytes.train_in.Tie as tie

@@ -1,5 +1,4 @@
 -- `button_of` meets its contract: each arm has the button of its number.
--- Assumes nothing.
 use mathlib.Core.Path.{sym, ap}
 use native.Mathlib.Omega.{arith}
 use Rattle.layout.specs.UnitBytes.{buttonOf}

@@ -1,5 +1,4 @@
 -- `bytes_of` meets its contract: the last byte is the number of the phase.
--- Assumes nothing.
 use Rattle.layout.specs.UnitBytes.{unitBytes}
 use borrow.Author.Needs.{needs}
 use Rattle.layout.proofs.unit_bytes.bytes_of.Statement.{statement}

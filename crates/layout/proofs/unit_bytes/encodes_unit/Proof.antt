@@ -1,5 +1,4 @@
 -- `encodes_unit` meets its contract: the length is tested first, then the phase.
--- Assumes nothing.
 use Rattle.layout.proofs.Units.{other-length, by-phase}
 use borrow.Author.Needs.{needs}
 use Rattle.layout.proofs.unit_bytes.encodes_unit.Statement.{statement}

@@ -1,5 +1,4 @@
 -- `phase_of` meets its contract: each arm has the phase of its number.
--- Assumes nothing.
 use mathlib.Core.Path.{sym, ap}
 use native.Mathlib.Omega.{arith}
 use Rattle.layout.specs.UnitBytes.{phaseOf}

@@ -1,7 +1,6 @@
 use Rattle.layout.proofs.Copying.{is-put}
 use Rattle.layout.specs.UnitBytes.{unitBytes}
 -- `put_unit` meets its contract: the five bytes are the whole buffer.
--- Assumes nothing.
 use borrow.Author.Needs.{needs}
 use Rattle.layout.proofs.unit_bytes.put_unit.Statement.{statement}
 use Rattle.layout.proofs.unit_bytes.put_unit.Tie as tie

@@ -1,5 +1,4 @@
 -- `unit_in` meets its contract: each part is at its byte.
--- Assumes nothing.
 use borrow.Author.Needs.{needs}
 use Rattle.layout.proofs.unit_bytes.unit_in.Statement.{statement}
 use Rattle.layout.proofs.unit_bytes.unit_in.Tie as tie

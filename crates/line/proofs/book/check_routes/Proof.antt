@@ -1,5 +1,4 @@
 -- `line::book::check_routes` meets its contract: its one test decides.
--- Assumes nothing.
 use mathlib.Core.Path.{sym, _∙_}
 use borrow.Author.Needs.{needs}
 use borrow.Author.Tests.{not-true, not-false}

@@ -1,5 +1,4 @@
 -- `line::book::in_range` meets its contract: its two tests are those of the definition.
--- Assumes nothing.
 use borrow.Author.Tests.{le-leb, lt-leb}
 use Rattle.line.proofs.book.in_range.Statement.{statement}
 use Rattle.line.proofs.book.in_range.Tie as tie

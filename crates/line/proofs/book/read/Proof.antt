@@ -1,5 +1,4 @@
 -- `line::book::read` meets its contract: at each `return` the stages so far give the book's refusal, or its line.
--- Assumes nothing.
 use mathlib.Core.Path.{refl, _∙_}
 use mathlib.Core.List.{List}
 use Prim.Native.Nat.{ℕ}

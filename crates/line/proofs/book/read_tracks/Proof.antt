@@ -1,6 +1,5 @@
 -- `line::book::read_tracks` meets its contract. The loop's invariant:
 -- the counts of the posts passed are stored, and 0 stands at the other places.
--- Assumes nothing.
 use mathlib.Core.Path.{_≡_}
 use Prim.Native.Nat.{_≤_, _-_}
 use native.Mathlib.Omega.{arith}

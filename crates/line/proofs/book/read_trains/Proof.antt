@@ -1,5 +1,4 @@
 -- `line::book::read_trains` meets its contract: each `return` is one case of the stage's checks.
--- Assumes nothing.
 use mathlib.Core.Path.{_≡_, sym, _∙_}
 use mathlib.Core.Bool.{true}
 use Prim.Native.Nat.{ℕ, _<_}

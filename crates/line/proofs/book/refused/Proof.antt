@@ -1,5 +1,4 @@
 -- `line::book::refused` meets its contract: its answer is made of what its two calls give.
--- Assumes nothing.
 use borrow.Author.Needs.{needs}
 use Rattle.line.proofs.book.refused.Statement.{statement}
 use Rattle.line.proofs.book.refused.Tie as tie

@@ -1,5 +1,4 @@
 -- `routes_on_line` meets its contract. The loop's invariant: the routes of the trains passed start and end on the line.
--- Assumes nothing.
 use mathlib.Core.Bool.{_&&_}
 use Prim.Native.Nat.{_-_}
 use native.Mathlib.Omega.{arith}

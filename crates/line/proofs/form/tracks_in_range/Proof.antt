@@ -1,5 +1,4 @@
 -- `tracks_in_range` meets its contract. The loop's invariant: the counts of the posts passed are in range.
--- Assumes nothing.
 use Prim.Native.Nat.{_-_}
 use native.Mathlib.Omega.{arith}
 use Rattle.common.proofs.Below.{Passing, passing-none, passing-more, passing-fails, passing-all}

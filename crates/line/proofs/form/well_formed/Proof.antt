@@ -1,5 +1,4 @@
 -- `well_formed` meets its contract: the tests are those of the definition, in its order.
--- Assumes nothing.
 use mathlib.Core.Path.{_≡_, sym, _∙_}
 use mathlib.Core.Bool.{true}
 use native.Mathlib.Omega.{arith}

@@ -1,5 +1,4 @@
 -- `line::between` meets its contract: upwards, or else downwards.
--- Assumes nothing.
 use mathlib.Core.Path.{sym, _∙_}
 use borrow.Author.Needs.{needs}
 use Rattle.line.proofs.Travel.{between-up, between-down}

@@ -1,5 +1,4 @@
 -- `in_order` meets its contract: its two tests are those of the definition.
--- Assumes nothing.
 use borrow.Author.Tests.{le-leb, lt-leb}
 use Rattle.common.proofs.Tests.{and-passed, and-failed}
 use Rattle.line.proofs.route.in_order.Statement.{statement}

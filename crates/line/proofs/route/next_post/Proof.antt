@@ -1,5 +1,4 @@
 -- `line::next_post` meets its contract: at each `return` the tests say which way the train goes.
--- Assumes nothing.
 use borrow.Author.Needs.{needs}
 use native.Mathlib.Omega.{arith}
 use Rattle.line.proofs.Travel.{next-up, next-down, next-end}

@@ -1,5 +1,4 @@
 -- `opening::empty_state` meets its contract.
--- Assumes nothing.
 use borrow.Author.Needs.{needs}
 use Rattle.common.specs.Tabulate.{valuesFrom}
 use Rattle.opening.proofs.opening.empty_state.Statement.{statement}

@@ -2,7 +2,6 @@
 -- value, and `open_with` is called on it. The table is given up for good to the call; the book goes there as a copy of
 -- its `&`; the journal stays. Places: of the seven locals, _i stands at 2 · (6 − i) after what a comment names in front
 -- of them, and is followed by what frees it, shown as "…". A comment before a step gives the context in brackets.
--- Assumes nothing.
 use mathlib.Core.Path.{_≡_, refl}
 use mathlib.Core.List.{[], _∷_, List}
 use Prim.Native.Nat.{ℕ, _<_, _^_}

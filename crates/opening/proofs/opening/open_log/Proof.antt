@@ -1,5 +1,4 @@
 -- `open_log` meets its contract: the opening is that of a journal as long as the log.
--- Assumes nothing.
 use mathlib.Core.Path.{ap, _∙_}
 use Rattle.rules.specs.Opening.{openingWith}
 use borrow.Author.Needs.{needs}

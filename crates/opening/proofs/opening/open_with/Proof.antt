@@ -1,6 +1,5 @@
 -- `opening::open_with` meets its contract: at each `return` the checks that passed, and the one that fails, give the
 -- opening's refusal; where all pass, its state. 19 is tested before the table is filled, and 20 after it.
--- Assumes nothing.
 use mathlib.Core.Path.{_≡_, sym, ap, _∙_}
 use mathlib.Core.Bool.{true}
 use mathlib.Core.List.{List}

@@ -1,5 +1,4 @@
 -- `opening::opened_state` meets its contract. The loop's invariant: the trains passed stand at their starts.
--- Assumes nothing.
 use mathlib.Core.Path.{_≡_, _∙_}
 use Prim.Native.Nat.{_≤_, _-_}
 use native.Mathlib.Omega.{arith}

@@ -1,5 +1,4 @@
 -- `with_book` meets its contract.
--- Assumes nothing.
 use mathlib.Core.List.{[], _∷_}
 use Rattle.printout.specs.Lines.{spaced, newline}
 use Rattle.printout.proofs.Room.{Follows, then-more}

@@ -1,5 +1,4 @@
 -- `with_record` meets its contract.
--- Assumes nothing.
 use Rattle.printout.specs.Lines.{decimal, spaced, kindName, newline}
 use Rattle.printout.proofs.Room.{Follows, then-more}
 use Rattle.printout.proofs.Decimals.{record-fits}

@@ -1,5 +1,4 @@
 -- `with_spaced` meets its contract: a space, then the number.
--- Assumes nothing.
 use mathlib.Core.List.{[], _∷_}
 use Rattle.printout.specs.Lines.{decimal}
 use Rattle.printout.proofs.Room.{Follows, then-more}

@@ -1,5 +1,4 @@
 -- `book_text` meets its contract: the line fits.
--- Assumes nothing.
 use mathlib.Core.Path.{ap, _∙_}
 use mathlib.Core.List.{[]}
 use Prim.Native.Nat.{_≤_}

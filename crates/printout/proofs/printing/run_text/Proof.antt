@@ -1,5 +1,4 @@
 -- `run_text` meets its contract: each turn adds the line of the next record.
--- Assumes nothing.
 use borrow.Author.Needs.{needs}
 use mathlib.Core.Path.{_≡_}
 use Prim.Native.Nat.{_-_, _≤_}

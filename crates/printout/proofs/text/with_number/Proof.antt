@@ -1,5 +1,4 @@
 -- `with_number` meets its contract: the digits that `io` gives are the number's decimal.
--- Assumes nothing.
 use mathlib.Core.Path.{ap, _∙_}
 use Rattle.printout.specs.Text.{followed}
 use Rattle.printout.proofs.Decimals.{decimal-of}

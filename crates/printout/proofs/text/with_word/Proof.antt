@@ -1,5 +1,4 @@
 -- `with_word` meets its contract: each turn adds the next byte of the word.
--- Assumes nothing.
 use borrow.Author.Needs.{needs}
 use mathlib.Core.Path.{_≡_, refl, ap, _∙_}
 use Prim.Native.Nat.{_-_, _≤_}

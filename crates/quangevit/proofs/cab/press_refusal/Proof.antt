@@ -1,5 +1,4 @@
 -- `press_refusal` meets its contract: at each `return` the checks that passed, and the one that fails, give the number.
--- Assumes nothing.
 use mathlib.Core.Path.{_≡_, sym, ap, _∙_}
 use mathlib.Core.Bool.{true}
 use mathlib.Core.List.{List}

@@ -1,5 +1,4 @@
 -- `quangevit_hear` meets its contract: the bytes encode no unit, or the unit that has heard the frame is written.
--- Assumes nothing.
 use mathlib.Core.Path.{_≡_, sym, _∙_}
 use mathlib.Core.Bool.{true}
 use mathlib.Core.List.{List}

@@ -1,6 +1,5 @@
 -- `quangevit_press` meets its contract: the press is refused before the unit is asked, or the unit afterwards and the
 -- frame that it gives are written.
--- Assumes nothing.
 use mathlib.Core.Path.{_≡_, sym, _∙_}
 use mathlib.Core.List.{List}
 use Prim.Native.Nat.{ℕ}

@@ -1,7 +1,6 @@
 use denote.Ref.{now}
 use Rattle.calls.proofs.UnitSteps.{none-sent, one-sent}
 -- `send` meets its contract: nothing is written, or the seven bytes, for which there is room.
--- Assumes nothing.
 use borrow.Author.Tests.{not-true, not-false}
 use borrow.Author.Needs.{needs}
 use Rattle.quangevit.proofs.cab.send.Statement.{statement}

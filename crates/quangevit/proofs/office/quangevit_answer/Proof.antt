@@ -1,6 +1,5 @@
 -- `quangevit_answer` meets its contract: the bytes encode no state; or the frame is refused, and nothing is written; or
 -- the records of the step and its state are written as bytes.
--- Assumes nothing.
 use mathlib.Core.Path.{_≡_, sym, ap, _∙_}
 use mathlib.Core.Bool.{true}
 use denote.Ref.{now}

@@ -1,5 +1,4 @@
 -- `quangevit_open` meets its contract: there is no room for a state, or what the opening gives is written.
--- Assumes nothing.
 use denote.Ref.{now}
 use Rattle.calls.proofs.BoxSteps.{not-opened, opened}
 use borrow.Author.Needs.{needs}

@@ -1,5 +1,4 @@
 -- `quangevit_read_book` meets its contract: there is no room for a line, or the line that is read is written.
--- Assumes nothing.
 use Rattle.calls.proofs.BoxSteps.{no-line, read}
 use borrow.Author.Needs.{needs}
 use Rattle.quangevit.proofs.office.quangevit_read_book.Statement.{statement}

@@ -1,5 +1,4 @@
 -- `read_all` meets its contract: each turn takes some bytes more, and the turns are counted down.
--- Assumes nothing.
 use borrow.Author.Needs.{needs}
 use mathlib.Core.Path.{_≡_, refl}
 use native.Mathlib.Omega.{arith}

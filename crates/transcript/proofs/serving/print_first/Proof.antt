@@ -1,5 +1,4 @@
 -- `print_first` is safe: the line is within the text's bytes.
--- Assumes nothing.
 use mathlib.Core.Path.{sym}
 use lib.Seq.{length-take-le}
 use borrow.Author.Needs.{needs}

@@ -1,5 +1,4 @@
 -- `transcript` meets its contract: it is what the console prints of the bytes that were read.
--- Assumes nothing.
 use Rattle.transcript.proofs.Parts.{transcript-of}
 use borrow.Author.Needs.{needs}
 use Rattle.transcript.proofs.serving.transcript.Statement.{statement}

@@ -1,5 +1,4 @@
 -- `for_move` meets its contract: the train's test, then those of the posts.
--- Assumes nothing.
 use mathlib.Core.Path.{_∙_}
 use borrow.Author.Tests.{eq-eqb, ne-eqb}
 use Rattle.common.proofs.Tests.{and-passed, and-failed}

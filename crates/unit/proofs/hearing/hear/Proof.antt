@@ -1,6 +1,5 @@
 -- `hear` meets its contract: at each `return` the message and the tests that led there say which case of `hearFrame`
 -- holds.
--- Assumes nothing.
 use mathlib.Core.Path.{_≡_, sym, _∙_}
 use mathlib.Core.Bool.{true}
 use mathlib.Core.List.{List}

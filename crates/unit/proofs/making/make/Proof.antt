@@ -1,5 +1,4 @@
 -- `make` meets its contract: where the numbers do not fit, the empty unit and 18.
--- Assumes nothing.
 use mathlib.Core.Path.{sym, _∙_}
 use borrow.Author.Tests.{not-true, not-false}
 use Rattle.unit.proofs.Numbers.{makes, makes-none}

@@ -1,5 +1,4 @@
 -- `moved_on` meets its contract: the next post is `next_post`'s.
--- Assumes nothing.
 use borrow.Author.Needs.{needs}
 use Rattle.unit.proofs.pressing.moved_on.Statement.{statement}
 use Rattle.unit.proofs.pressing.moved_on.Tie as tie

@@ -1,5 +1,4 @@
 -- `press` meets its contract: at each `return` the tests that led there say which case of `pressButton` holds.
--- Assumes nothing.
 use mathlib.Core.Path.{_≡_, sym, ap, _∙_}
 use mathlib.Core.Bool.{true}
 use borrow.Author.Tests.{not-true, not-false}

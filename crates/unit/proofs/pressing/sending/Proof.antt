@@ -1,5 +1,4 @@
 -- `sending` meets its contract: the bytes are those of `frame::write`.
--- Assumes nothing.
 use borrow.Author.Needs.{needs}
 use Rattle.unit.proofs.pressing.sending.Statement.{statement}
 use Rattle.unit.proofs.pressing.sending.Tie as tie

@@ -1,5 +1,4 @@
 -- `numbers_fit` meets its contract: the train's test, then those of the posts.
--- Assumes nothing.
 use mathlib.Core.Path.{_∙_}
 use borrow.Author.Tests.{le-leb, lt-leb}
 use Rattle.common.proofs.Tests.{and-passed, and-failed}

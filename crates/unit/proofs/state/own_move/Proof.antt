@@ -1,5 +1,4 @@
 -- `own_move` meets its contract: the next post is `next_post`'s.
--- Assumes nothing.
 use borrow.Author.Needs.{needs}
 use Rattle.unit.proofs.state.own_move.Statement.{statement}
 use Rattle.unit.proofs.state.own_move.Tie as tie

@@ -1,5 +1,4 @@
 -- `same` meets its contract: two phases are the same where their numbers are.
--- Assumes nothing.
 use Rattle.unit.specs.State.{samePhase}
 use borrow.Author.Needs.{needs}
 use Rattle.unit.proofs.state.same.Statement.{statement}

@@ -1,5 +1,4 @@
 -- `valid` meets its contract: at each `return` the tests that led there decide.
--- Assumes nothing.
 use mathlib.Core.Path.{_≡_, sym, _∙_}
 use mathlib.Core.Bool.{true}
 use borrow.Author.Tests.{not-true, not-false}
