@@ -1,7 +1,7 @@
 -- Laws of checks in order. A proof about a refusal passes the checks one by one and stops at the one that fails.
 use mathlib.Core.Path.{_≡_, refl, sym, subst, _∙_}
 use mathlib.Core.Logic.{_≢_}
-use mathlib.Core.Bool.{Bool, true, false, not, _&&_, _||_}
+use mathlib.Core.Bool.{Bool, true, false, not, cond, _&&_, _||_}
 use mathlib.Core.List.{List, [], _∷_, _++_}
 use Prim.Native.Nat.{ℕ, zero, suc, _<_}
 use native.Mathlib.Nat.{not-suc-le-zero}
@@ -10,7 +10,7 @@ use lib.Dec.{eqb, ltb}
 use lib.ListN.{getD}
 use borrow.Author.Tests.{eq-eqb, ltb-true}
 use Rattle.common.specs.Check.{Check, check, refusal, unlessRefused}
-use Rattle.common.proofs.Tests.{clash, by-cases, and-left, and-right}
+use Rattle.common.proofs.Tests.{clash, by-cases, by-equality, and-left, and-right}
 
 -- how the number of a list of checks comes about: checks that pass, then one that fails or the end of the list
 pub data Refuses : List Check → ℕ → Type 0 where
@@ -45,6 +45,33 @@ passed-at (c ∷ cs) k e i = by-cases (c .passes)
 
     positive : c .number ≡ 0 → ⊥
     positive z = let n = ltb-true 0 (c .number) (and-left (ltb 0 (c .number)) (numbered cs) k) in omega arith
+
+-- the same by its number, so that a row more in the list moves no proof
+
+-- the tests that are numbered n, in order
+abbrev pub testsOf : ℕ → List Check → List Bool
+testsOf n [] = []
+testsOf n (c ∷ cs) = cond (eqb (c .number) n) (c .passes ∷ testsOf n cs) (testsOf n cs)
+
+-- they pass: where there is one, that one; of more, the first and those after it
+abbrev pub Pass : List Bool → Type 0
+Pass [] = Unit {0}
+Pass (b ∷ []) = b ≡ true
+Pass (b ∷ (c ∷ bs)) = (b ≡ true) × Pass (c ∷ bs)
+
+pass-more : (b : Bool) (bs : List Bool) → b ≡ true → Pass bs → Pass (b ∷ bs)
+pass-more b [] p q = p
+pass-more b (c ∷ bs) p q = (p, q)
+
+pub passed-by : (cs : List Check) → numbered cs ≡ true → refusal cs ≡ 0 → (n : ℕ) → Pass (testsOf n cs)
+unfolding refusal
+passed-by [] k e n = tt
+passed-by (c ∷ cs) k e n =
+    let p : c .passes ≡ true = passed-at (c ∷ cs) k e 0 in
+    let rest = passed-by cs (and-right (ltb 0 (c .number)) (numbered cs) k) (rw p at e) n in
+    by-cases (eqb (c .number) n)
+    (λ own. rw own (pass-more (c .passes) (testsOf n cs) p rest))
+    (λ other. rw other rest)
 
 -- every check of the number n passes
 abbrev pub clear : ℕ → List Check → Bool
@@ -87,6 +114,12 @@ pub first-part : (cs ds : List Check) → 0 < refusal cs → refusal (cs ++ ds) 
 unfolding refusal
 first-part [] ds h = absurd (not-suc-le-zero h)
 first-part (c ∷ cs) ds h = by-cases (c .passes) (λ p. rw p (first-part cs ds (rw p at h))) (λ p. rw p)
+
+-- nothing is refused: neither by the first part nor by the second
+pub both-pass : (cs ds : List Check) → numbered cs ≡ true → refusal (cs ++ ds) ≡ 0 → (refusal cs ≡ 0) × (refusal ds ≡ 0)
+both-pass cs ds k e = by-equality (refusal cs) 0
+    (λ z. (z, sym (second-part cs ds k z) ∙ e))
+    (λ z. absurd (z (sym (first-part cs ds (omega arith)) ∙ e)))
 
 -- the same as the way that the number comes about
 refuses-of : (cs : List Check) {n : ℕ} → refusal cs ≡ n → Refuses cs n

@@ -10,7 +10,8 @@ use lib.ListN.{getD}
 use borrow.Author.Tests.{leb-true, eq-eqb, ne-eqb}
 use Rattle.common.specs.Check.{refusal, unlessRefused}
 use Rattle.common.proofs.Tests.{by-equality, and-left, and-right}
-use Rattle.common.proofs.Check.{passed-at, accepted-if}
+use Rattle.common.proofs.Check.{passed-by, accepted-if}
+use Rattle.line.specs.Refusal.{unknownKind}
 use Rattle.line.specs.Line.{inRange}
 use Rattle.frame.specs.Types.{Move, Refused}
 use Rattle.frame.specs.Frame.{readChecks, messageOf, readFrame}
@@ -40,5 +41,6 @@ read-refused s n = at (refusal (readChecks s)) refl
     at : (k : ℕ) → refusal (readChecks s) ≡ k
         → unlessRefused k (messageOf (getD s 3 0) (namedMove s)) Refused ≡ Refused n → (0 < n)
         × (refusal (readChecks s) ≡ n)
-    at zero r e = absurd (rw e at (known-message (getD s 3 0) (namedMove s) (passed-at (readChecks s) refl r 2)))
+    at zero r e =
+        absurd (rw e at (known-message (getD s 3 0) (namedMove s) (passed-by (readChecks s) refl r unknownKind)))
     at (suc k) r e = let z : suc k ≡ n = cc in (rw (← z) (omega arith), r ∙ z)

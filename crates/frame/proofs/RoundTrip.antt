@@ -12,7 +12,8 @@ use borrow.Author.Tests.{eqb-true, eq-eqb, ne-eqb}
 use Rattle.common.specs.Check.{refusal, unlessRefused}
 use Rattle.common.specs.Word.{word}
 use Rattle.common.proofs.Tests.{by-equality, and-left, and-right}
-use Rattle.common.proofs.Check.{passed-at, accepts, accepted-if}
+use Rattle.common.proofs.Check.{passed-by, accepts, accepted-if}
+use Rattle.line.specs.Refusal.{tornFrame, otherEdition}
 use Rattle.frame.specs.Types.{Move, Message, Fa, Fe, Afe, Am, Refused}
 use Rattle.frame.specs.Frame.{readChecks, messageOf, readFrame, frameBytes, bytesOf}
 use Rattle.frame.specs.RoundTrip.{IsMessage, RoundTrip}
@@ -59,13 +60,13 @@ unfolding readFrame
 only s h =
     let m = messageOf (getD s 3 0) (namedMove s) in
     let a = accepted-if IsMessage (refusal (readChecks s)) m Refused no-message h in
-    let passed = passed-at (readChecks s) refl (a .0) in
-    let size : length s ≡ 7 = eqb-true _ _ (and-left (eqb (length s) 7) _ (passed 0)) in
+    let passed = passed-by (readChecks s) refl (a .0) in
+    let size : length s ≡ 7 = eqb-true _ _ (and-left (eqb (length s) 7) _ (passed tornFrame)) in
     let five : word (getD s 0 0) (getD s 1 0) ≡ 5
-    = eqb-true _ _ (and-right (eqb (length s) 7) _ (passed 0)) in
+    = eqb-true _ _ (and-right (eqb (length s) 7) _ (passed tornFrame)) in
     let high : getD s 0 0 ≡ 0 = omega arith in
     let low : getD s 1 0 ≡ 5 = omega arith in
-    let version : getD s 2 0 ≡ 1 = eqb-true _ _ (passed 1) in
+    let version : getD s 2 0 ≡ 1 = eqb-true _ _ (passed otherEdition) in
     ap bytesOf (accepts m Refused (a .0)) ∙ message-bytes (getD s 3 0) (namedMove s) (a .1)
     ∙ cc (spell s 7 0 (sym size))
 
