@@ -11,9 +11,9 @@ use Rattle.line.specs.Book.{readBook, outcomeNumber}
 use Rattle.rules.specs.Opening.{Opening, openingOf, openingWith}
 use Rattle.calls.specs.Types.{Reading, Opened}
 use Rattle.calls.specs.Word.{wordOf}
-use Rattle.layout.specs.LineBytes.{lineLength, lineBytes}
-use Rattle.layout.specs.StateBytes.{stateLength, stateBytes, encodesState}
-use Rattle.layout.specs.JournalBytes.{recordCount}
+use Rattle.encoding.specs.LineBytes.{lineLength, lineBytes}
+use Rattle.encoding.specs.StateBytes.{stateLength, stateBytes, encodesState}
+use Rattle.encoding.specs.JournalBytes.{recordCount}
 use Rattle.calls.specs.BoxCalls.{bookCall, readBookCall, OpenCall, openCallOf, openCall}
 use Rattle.calls.specs.BoxCalls.{answerCallOf, answerCall}
 

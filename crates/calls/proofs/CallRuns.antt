@@ -24,9 +24,9 @@ use Rattle.assurance.specs.Run.{Input, Exchange, Ran, exchange, run}
 use Rattle.assurance.specs.Observer.{atOpening, observe}
 use Rattle.assurance.specs.WholeList.{Assured}
 use Rattle.assurance.proofs.WholeList.{whole-list}
-use Rattle.layout.specs.StateBytes.{stateLength, encodesState, stateIn}
-use Rattle.layout.specs.JournalBytes.{recordCount, recordsIn, withRecords}
-use Rattle.layout.proofs.Journals.{record-count, own-records, with-again}
+use Rattle.encoding.specs.StateBytes.{stateLength, encodesState, stateIn}
+use Rattle.encoding.specs.JournalBytes.{recordCount, recordsIn, withRecords}
+use Rattle.encoding.proofs.Journals.{record-count, own-records, with-again}
 use Rattle.calls.specs.Types.{Record, State, Verdict, Sent, RefusedBy}
 use Rattle.calls.specs.Word.{wordOf}
 use Rattle.calls.specs.BoxCalls.{OpenCall, openCall, AnswerCall, answerCallOf, answerAfter, answerCall}

@@ -26,16 +26,16 @@ use Rattle.rules.proofs.Acceptance.{Taken, request, arrival, by-verdict, refusa
 use Rattle.calls.specs.Types.{Button, Ask, Depart, Reached, Report, Unit, Pressed}
 use Rattle.calls.specs.Types.{Line, Message, Record, State, RefusedBy}
 use Rattle.calls.specs.Word.{wordOf, refusalIn}
-use Rattle.layout.specs.UnitBytes.{unitLength, unitBytes, encodesUnit, unitIn, buttonOf}
+use Rattle.encoding.specs.UnitBytes.{unitLength, unitBytes, encodesUnit, unitIn, buttonOf}
 use Rattle.calls.specs.UnitCalls.{makeUnitCall, hearCall, pressed, pressCallChecks, pressAfter, pressCall}
-use Rattle.layout.specs.StateBytes.{stateLength, stateBytes, encodesState, stateIn}
-use Rattle.layout.specs.JournalBytes.{recordCount, recordsIn}
+use Rattle.encoding.specs.StateBytes.{stateLength, stateBytes, encodesState, stateIn}
+use Rattle.encoding.specs.JournalBytes.{recordCount, recordsIn}
 use Rattle.calls.specs.BoxCalls.{openCall, answerCallOf, answerCall}
-use Rattle.layout.specs.RoundTrip.{Shaped}
+use Rattle.encoding.specs.RoundTrip.{Shaped}
 use Rattle.calls.specs.HandedOn.{ReadAs, LeftAs, ReadAsUnit, ruled, HandedOn}
 use Rattle.calls.proofs.UnitSteps.{is-unit}
-use Rattle.layout.proofs.Journals.{record-count, own-records}
-use Rattle.layout.proofs.RoundTrip.{unit-only, state-back, state-encoded, state-only, records-back, round-trip}
+use Rattle.encoding.proofs.Journals.{record-count, own-records}
+use Rattle.encoding.proofs.RoundTrip.{unit-only, state-back, state-encoded, state-only, records-back, round-trip}
 
 -- ---- the state
 

@@ -19,7 +19,7 @@ use Rattle.unit.specs.Pressing.{pressButton}
 use Rattle.unit.specs.Hearing.{hearFrame}
 use Rattle.calls.specs.Types.{Button, Unit, Made, Heard, Pressed}
 use Rattle.calls.specs.Word.{wordOf}
-use Rattle.layout.specs.UnitBytes.{unitLength, unitBytes, encodesUnit, unitIn, buttonOf}
+use Rattle.encoding.specs.UnitBytes.{unitLength, unitBytes, encodesUnit, unitIn, buttonOf}
 use Rattle.calls.specs.UnitCalls.{unitCall, makeUnitCall, hearCall}
 use Rattle.calls.specs.UnitCalls.{pressed, pressCallChecks, pressAfter, pressCall}
 

@@ -9,9 +9,9 @@ use Rattle.line.specs.Book.{readBook, outcomeNumber}
 use Rattle.rules.specs.Answer.{Answer, answer}
 use Rattle.rules.specs.Opening.{openingWith}
 use Rattle.calls.specs.Word.{wordOf}
-use Rattle.layout.specs.LineBytes.{lineLength, lineBytes}
-use Rattle.layout.specs.StateBytes.{stateLength, stateBytes, encodesState, stateIn}
-use Rattle.layout.specs.JournalBytes.{recordCount, recordsIn, withRecords}
+use Rattle.encoding.specs.LineBytes.{lineLength, lineBytes}
+use Rattle.encoding.specs.StateBytes.{stateLength, stateBytes, encodesState, stateIn}
+use Rattle.encoding.specs.JournalBytes.{recordCount, recordsIn, withRecords}
 
 -- ---- reading a book
 

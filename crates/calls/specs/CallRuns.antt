@@ -14,8 +14,8 @@ use Rattle.rules.specs.Opening.{opening}
 use Rattle.assurance.specs.Run.{Input, Exchange, Ran, run}
 use Rattle.assurance.specs.Observer.{atOpening, observe}
 use Rattle.assurance.specs.WholeList.{Assured}
-use Rattle.layout.specs.StateBytes.{encodesState, stateIn}
-use Rattle.layout.specs.JournalBytes.{recordsIn, withRecords}
+use Rattle.encoding.specs.StateBytes.{encodesState, stateIn}
+use Rattle.encoding.specs.JournalBytes.{recordsIn, withRecords}
 use Rattle.calls.specs.Types.{Verdict, Sent, RefusedBy}
 use Rattle.calls.specs.Word.{wordOf, refusalIn}
 use Rattle.calls.specs.BoxCalls.{openCall, AnswerCall, answerCallOf, answerCall}

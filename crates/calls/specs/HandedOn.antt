@@ -14,9 +14,9 @@ use Rattle.rules.specs.Answer.{Answer, answer}
 use Rattle.rules.specs.Opening.{openingWith}
 use Rattle.calls.specs.Types.{Unit, State, RefusedBy}
 use Rattle.calls.specs.Word.{wordOf, refusalIn}
-use Rattle.layout.specs.UnitBytes.{unitLength, encodesUnit, unitIn, buttonOf}
-use Rattle.layout.specs.StateBytes.{stateLength, encodesState, stateIn}
-use Rattle.layout.specs.JournalBytes.{recordCount, recordsIn}
+use Rattle.encoding.specs.UnitBytes.{unitLength, encodesUnit, unitIn, buttonOf}
+use Rattle.encoding.specs.StateBytes.{stateLength, encodesState, stateIn}
+use Rattle.encoding.specs.JournalBytes.{recordCount, recordsIn}
 use Rattle.calls.specs.UnitCalls.{makeUnitCall, hearCall, pressed, pressCallChecks, pressCall}
 use Rattle.calls.specs.BoxCalls.{AnswerCall, openCall, answerCallOf, answerCall}
 

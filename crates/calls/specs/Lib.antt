@@ -1,5 +1,5 @@
 -- What the entry points for C and Rust mean: what each call answers and leaves in the buffers that it is lent. The
--- layouts are in `layout`. Read in this order; `HandedOn` and `CallRuns` have the claims, proved in the files of
+-- layouts are in `encoding`. Read in this order; `HandedOn` and `CallRuns` have the claims, proved in the files of
 -- `proofs/` of the same names. Letters: b bytes, u a unit, l a line, s a state, x a train, r a record, n a number.
 pub mod Types
 pub mod Word

@@ -14,7 +14,7 @@ use Rattle.unit.specs.Making.{makeUnit}
 use Rattle.unit.specs.Pressing.{pressButton}
 use Rattle.unit.specs.Hearing.{hearFrame}
 use Rattle.calls.specs.Word.{wordOf}
-use Rattle.layout.specs.UnitBytes.{unitLength, unitBytes, encodesUnit, unitIn, buttonOf}
+use Rattle.encoding.specs.UnitBytes.{unitLength, unitBytes, encodesUnit, unitIn, buttonOf}
 
 pub record UnitCall : Type 0 where
   pub answer : ℕ

@@ -13,7 +13,7 @@ fn run_file(i: usize) {
     io::write_all(STDOUT_FILENO, b"# ");
     io::write_all(STDOUT_FILENO, &name[..length]);
     io::write_all(STDOUT_FILENO, b"\n");
-    transcript::serve(fd);
+    descriptor::serve(fd);
     libc::close(fd);
 }
 

@@ -3,5 +3,5 @@
 use libc::STDIN_FILENO;
 
 fn main() {
-    transcript::serve(STDIN_FILENO);
+    descriptor::serve(STDIN_FILENO);
 }

@@ -9,9 +9,9 @@ use Rattle.rules.specs.Answer.{verdictNumber, verdictFrames, Answer}
 use Rattle.rules.proofs.Acceptance.{refusal-leaves}
 use Rattle.dispatcher.specs.declared.stepping.Outcome.{Outcome}
 use Rattle.dispatcher.specs.Step.{Stepped}
-use Rattle.layout.specs.StateBytes.{stateBytes, encodesState, stateIn}
-use Rattle.layout.specs.JournalBytes.{recordCount, recordsIn, withRecords}
-use Rattle.layout.proofs.Journals.{record-count}
+use Rattle.encoding.specs.StateBytes.{stateBytes, encodesState, stateIn}
+use Rattle.encoding.specs.JournalBytes.{recordCount, recordsIn, withRecords}
+use Rattle.encoding.proofs.Journals.{record-count}
 use Rattle.calls.specs.Types.{State, Verdict, RefusedBy}
 use Rattle.calls.specs.Word.{wordOf}
 use Rattle.calls.specs.BoxCalls.{answerCallOf, answerAfter, answerCall}

@@ -6,8 +6,8 @@ use Prim.Native.Nat.{ℕ}
 use denote.Ref.{now}
 use borrow.Author.Tests.{not-true, not-false}
 use Rattle.unit.specs.State.{validUnit}
-use Rattle.layout.specs.UnitBytes.{encodesUnit, unitIn}
-use Rattle.layout.proofs.Units.{encoded-length}
+use Rattle.encoding.specs.UnitBytes.{encodesUnit, unitIn}
+use Rattle.encoding.proofs.Units.{encoded-length}
 use Rattle.calls.proofs.UnitSteps.{no-unit, strange, short, no-button, asked}
 use borrow.Author.Needs.{needs}
 use Rattle.quangevit.proofs.cab.press_refusal.Statement.{statement}

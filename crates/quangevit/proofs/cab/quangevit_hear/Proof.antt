@@ -5,8 +5,8 @@ use mathlib.Core.List.{List}
 use Prim.Native.Nat.{ℕ}
 use denote.Ref.{now}
 use borrow.Author.Tests.{not-true, not-false}
-use Rattle.layout.specs.UnitBytes.{encodesUnit}
-use Rattle.layout.proofs.Units.{encoded-length}
+use Rattle.encoding.specs.UnitBytes.{encodesUnit}
+use Rattle.encoding.proofs.Units.{encoded-length}
 use Rattle.calls.proofs.UnitSteps.{not-heard, heard}
 use borrow.Author.Needs.{needs}
 use Rattle.quangevit.proofs.cab.quangevit_hear.Statement.{statement}

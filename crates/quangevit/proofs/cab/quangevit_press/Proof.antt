@@ -6,9 +6,9 @@ use Prim.Native.Nat.{ℕ}
 use denote.Ref.{now}
 use lib.ListN.{length}
 use Rattle.common.specs.Check.{refusal}
-use Rattle.layout.specs.UnitBytes.{unitLength}
+use Rattle.encoding.specs.UnitBytes.{unitLength}
 use Rattle.calls.specs.UnitCalls.{pressCallChecks}
-use Rattle.layout.proofs.Units.{encoded-length}
+use Rattle.encoding.proofs.Units.{encoded-length}
 use Rattle.calls.proofs.UnitSteps.{not-pressed, is-unit, has-room, carried-out}
 use borrow.Author.Needs.{needs}
 use Rattle.quangevit.proofs.cab.quangevit_press.Statement.{statement}

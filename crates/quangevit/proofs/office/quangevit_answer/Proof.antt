@@ -4,8 +4,8 @@ use mathlib.Core.Path.{_≡_, sym, ap, _∙_}
 use mathlib.Core.Bool.{true}
 use denote.Ref.{now}
 use borrow.Author.Tests.{not-true, not-false}
-use Rattle.layout.specs.StateBytes.{encodesState}
-use Rattle.layout.proofs.Statuses.{encoded-length}
+use Rattle.encoding.specs.StateBytes.{encodesState}
+use Rattle.encoding.proofs.Statuses.{encoded-length}
 use Rattle.calls.proofs.BoxSteps.{not-answered}
 use Rattle.quangevit.proofs.Answering.{verdictWord, answered, answer-refused}
 use borrow.Author.Needs.{needs}

@@ -1,0 +1,31 @@
+-- The claims on the layouts: what is written reads back, and only what is written is read. They hold for any list of
+-- numbers, bytes or not.
+use mathlib.Core.Path.{_≡_}
+use mathlib.Core.Bool.{true}
+use mathlib.Core.List.{List}
+use Prim.Native.Nat.{ℕ}
+use lib.ListN.{length}
+use Rattle.encoding.specs.Types.{Unit, State, Record}
+use Rattle.encoding.specs.UnitBytes.{unitBytes, encodesUnit, unitIn}
+use Rattle.encoding.specs.StateBytes.{stateBytes, encodesState, stateIn}
+use Rattle.encoding.specs.JournalBytes.{recordCount, recordsIn, withRecords}
+
+-- a state whose lists have the lengths that its declared type gives them
+pub record Shaped (s : State) : Type 0 where
+  pub eight : length (s .tracks) ≡ 8
+  pub six : length (s .fleet) ≡ 6
+
+pub record RoundTrip : Type 0 where
+  -- the bytes of a unit encode that unit, and bytes that encode one are its bytes
+  pub unit-encoded : (u : Unit) → encodesUnit (unitBytes u) ≡ true
+  pub unit-back : (u : Unit) → unitIn (unitBytes u) ≡ u
+  pub unit-only : (b : List ℕ) → encodesUnit b ≡ true → unitBytes (unitIn b) ≡ b
+  -- the same of a state
+  pub state-encoded : (s : State) → Shaped s → encodesState (stateBytes s) ≡ true
+  pub state-back : (s : State) → Shaped s → stateIn (stateBytes s) ≡ s
+  pub state-only : (b : List ℕ) → encodesState b ≡ true → stateBytes (stateIn b) ≡ b
+  -- the records of a buffer, with the bytes past them, are the buffer
+  pub journal-only : (b : List ℕ) → withRecords b (recordsIn b) ≡ b
+  -- and records that are as many read back from it
+  pub journal-back : (b : List ℕ) (j : List Record) → length j ≡ recordCount (length b)
+      → recordsIn (withRecords b j) ≡ j

@@ -1,0 +1,81 @@
+-- A state as 41 bytes: posts; tracks of posts 0 to 7; trains; then for trains 0 to 5 five bytes: start, end, present
+-- post, status, number of its FA; last the journal count.
+use mathlib.Core.Bool.{Bool, cond, _&&_, _||_}
+use mathlib.Core.List.{List, [], _∷_, _++_}
+use Prim.Native.Nat.{ℕ, _+_, _*_}
+use lib.Dec.{eqb, leb}
+use lib.ListN.{length}
+use Rattle.common.specs.Below.{allBelow}
+use Rattle.common.specs.Tabulate.{tabulate}
+use Rattle.line.specs.Book.{byteAt, route}
+use Rattle.rules.specs.State.{askedAs}
+use Rattle.encoding.specs.Types.{Status, Free, AskedAs, Running, Train, State}
+use Rattle.encoding.specs.Each.{each, headed, restAt}
+
+abbrev pub stateLength : ℕ
+stateLength = 41
+
+-- ---- the bytes of a state
+
+-- status (0 Free, 1 Asked, 2 Running)
+abbrev pub statusNo : Status → ℕ
+statusNo Free = 0
+statusNo (AskedAs n) = 1
+statusNo Running = 2
+
+-- number of its FA (0 unless Asked)
+abbrev pub trainBytes : Train → List ℕ
+trainBytes x =
+    x .route .start .0 ∷ x .route .end .0 ∷ x .at .0 ∷ statusNo (x .status) ∷ askedAs (x .status) ∷ []
+
+unfoldable pub stateBytes : State → List ℕ
+stateBytes s = headed (s .posts) (s .tracks) (s .trains) (each trainBytes (s .fleet) ++ (s .logged ∷ []))
+
+-- ---- which bytes encode a state, and which state
+
+-- where the five bytes of train t begin, and where the journal count is
+abbrev pub trainAt : ℕ → ℕ
+trainAt t = restAt + 5 * t
+
+abbrev pub loggedAt : ℕ
+loggedAt = 40
+
+-- a status, and 0 for the number where it is not Asked; of the train whose bytes begin at i
+abbrev pub encodesStatus : ℕ → ℕ → Bool
+encodesStatus k n = leb k 2 && (eqb k 1 || eqb n 0)
+
+abbrev pub encodesTrain : List ℕ → ℕ → Bool
+encodesTrain b i = encodesStatus (byteAt b (i + 3)) (byteAt b (i + 4))
+
+-- 41 bytes with a status above 2, or with a number other than 0 where the status is not 1, encode no state; so does
+-- any other length.
+unfoldable pub encodesState : List ℕ → Bool
+encodesState b = eqb (length b) stateLength && allBelow 6 (λ t. encodesTrain b (trainAt t))
+
+-- the status of a number; what is above 2 is not read
+unfoldable pub statusOf : ℕ → ℕ → Status
+statusOf k n = cond (eqb k 0) Free (cond (eqb k 1) (AskedAs n) Running)
+
+-- the train whose bytes begin at i
+abbrev pub trainIn : List ℕ → ℕ → Train
+trainIn b i = record {
+  route = route (byteAt b i) (byteAt b (i + 1));
+  at = record { 0 = byteAt b (i + 2) };
+  status = statusOf (byteAt b (i + 3)) (byteAt b (i + 4));
+}
+
+abbrev pub tracksIn : List ℕ → List ℕ
+tracksIn b = tabulate 8 (λ p. byteAt b (1 + p))
+
+abbrev pub fleetIn : List ℕ → List Train
+fleetIn b = tabulate 6 (λ t. trainIn b (trainAt t))
+
+-- the state that the bytes encode
+abbrev pub stateIn : List ℕ → State
+stateIn b = record {
+  posts = byteAt b 0;
+  tracks = tracksIn b;
+  trains = byteAt b 9;
+  fleet = fleetIn b;
+  logged = byteAt b loggedAt;
+}
