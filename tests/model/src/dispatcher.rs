@@ -1,13 +1,13 @@
 //! The dispatcher: its state, what makes a state sound, the opening of a
 //! book, and the answer to a frame (refusals 1 to 13, 19, 20).
 
-use crate::frame::{read_frame, write_frame, Message, Move};
+use crate::frame::{read_frame, write_frame, Message, Move, FRAME_BYTES};
 use crate::journal::{log, Record, JOURNAL_RECORDS};
 use crate::line::{read_book, Line};
 use crate::table::{bit, code, fill, lawful, TABLE_BYTES};
 
 /// Bytes an out buffer must have: six frames.
-pub const OUT_BYTES: usize = 42;
+pub const OUT_BYTES: usize = 6 * FRAME_BYTES;
 
 /// What a train is about; an Asked train has the journal number of its FA.
 #[derive(Debug, Clone, Copy, PartialEq, Eq)]
@@ -94,18 +94,18 @@ impl State {
     };
 
     /// The trains below T (no more than there are places).
-    fn present(&self) -> &[Train] {
+    pub fn present(&self) -> &[Train] {
         &self.train[..usize::from(self.trains).min(6)]
     }
 
     /// How many trains hold the post.
-    fn holders_of_post(&self, post: u8) -> usize {
+    pub fn holders_of_post(&self, post: u8) -> usize {
         let holds = |t: &&Train| t.holds_post(post);
         self.present().iter().filter(holds).count()
     }
 
     /// How many trains hold the section.
-    fn holders_of_section(&self, section: u8) -> usize {
+    pub fn holders_of_section(&self, section: u8) -> usize {
         let holds = |t: &&Train| t.held_section() == Some(section);
         self.present().iter().filter(holds).count()
     }
@@ -199,14 +199,9 @@ fn place(line: &Line) -> State {
     state
 }
 
-/// The frames that an accepted message may be, with its train checked.
-enum Accepted {
-    Request(Move),
-    Arrival(Move),
-}
-
-/// The checks 3 to 13 on a frame put to a sound state.
-fn accept(state: &State, frame: &[u8]) -> Result<Accepted, u8> {
+/// The checks 3 to 13 on a frame put to a sound state: what passes is an FA or
+/// an AM of one of its trains.
+fn accept(state: &State, frame: &[u8]) -> Result<Message, u8> {
     let message = read_frame(frame)?;
     let m = message.movement();
     if matches!(message, Message::Fe(_) | Message::Afe(_)) {
@@ -221,17 +216,16 @@ fn accept(state: &State, frame: &[u8]) -> Result<Accepted, u8> {
     if m.from != train.at || m.to != next {
         return Err(9);
     }
-    let accepted = match (message, train.standing) {
+    match (message, train.standing) {
         (Message::Fa(_), Standing::Asked(_)) => return Err(10),
         (Message::Fa(_), Standing::Running) => return Err(11),
-        (Message::Fa(_), Standing::Free) => Accepted::Request(m),
-        (_, Standing::Running) => Accepted::Arrival(m),
+        (Message::Fa(_), Standing::Free) | (_, Standing::Running) => {}
         (_, _) => return Err(12),
-    };
+    }
     if JOURNAL_RECORDS - usize::from(state.journal) < 7 {
         return Err(13);
     }
-    Ok(accepted)
+    Ok(message)
 }
 
 /// The move a train of the state is about to make or makes.
@@ -282,6 +276,34 @@ fn oldest_grantable(state: &State, table: &[u8]) -> Option<usize> {
         .find(|t| can_be_granted(state, table, *t))
 }
 
+/// The effect of an accepted frame itself.
+fn take(state: &mut State, message: Message) {
+    let m = message.movement();
+    let train = &mut state.train[usize::from(m.train)];
+    if let Message::Fa(_) = message {
+        train.standing = Standing::Asked(state.journal);
+    } else {
+        train.at = m.to;
+        train.standing = Standing::Free;
+    }
+}
+
+/// Granting, again from the oldest until none can be granted: an FE for each.
+/// Whoever asked with this message and was not granted gets an AFE, last.
+fn grant(state: &mut State, table: &[u8], message: Message) -> Vec<Message> {
+    let mut answers: Vec<Message> = Vec::new();
+    while let Some(t) = oldest_grantable(state, table) {
+        answers.extend(move_of(state, t).map(Message::Fe));
+        state.train[t].standing = Standing::Running;
+    }
+    if let Message::Fa(m) = message {
+        if state.train[usize::from(m.train)].standing != Standing::Running {
+            answers.push(Message::Afe(m));
+        }
+    }
+    answers
+}
+
 /// The dispatcher's answer to a frame. Refused: state and buffers as before.
 /// Otherwise the new state and the number of frames at the head of `out`; the
 /// frame and its answers are logged at the journal's count.
@@ -298,42 +320,16 @@ pub fn answer(
     if table.len() < TABLE_BYTES || journal.len() < JOURNAL_RECORDS || out.len() < OUT_BYTES {
         return (*state, Verdict::Refused(2));
     }
-    let accepted = match accept(state, frame) {
-        Ok(accepted) => accepted,
+    let message = match accept(state, frame) {
+        Ok(message) => message,
         Err(number) => return (*state, Verdict::Refused(number)),
     };
 
-    // The frame itself.
     let mut after = *state;
-    let (message, asker) = match accepted {
-        Accepted::Request(m) => {
-            let t = usize::from(m.train);
-            after.train[t].standing = Standing::Asked(state.journal);
-            (Message::Fa(m), Some(t))
-        }
-        Accepted::Arrival(m) => {
-            let t = usize::from(m.train);
-            after.train[t].at = m.to;
-            after.train[t].standing = Standing::Free;
-            (Message::Am(m), None)
-        }
-    };
-
-    // Granting, again from the oldest until none can be granted.
-    let mut answers: Vec<Message> = Vec::new();
-    while let Some(t) = oldest_grantable(&after, table) {
-        answers.extend(move_of(&after, t).map(Message::Fe));
-        after.train[t].standing = Standing::Running;
-    }
-    if let Some(t) = asker {
-        if after.train[t].standing != Standing::Running {
-            answers.extend(move_of(&after, t).map(Message::Afe));
-        }
-    }
-
-    // Journal and out buffer.
+    take(&mut after, message);
+    let answers = grant(&mut after, table, message);
     after.journal = log(journal, after.journal, Record::of(message));
-    for (sent, place) in answers.iter().zip(out.chunks_exact_mut(7)) {
+    for (sent, place) in answers.iter().zip(out.chunks_exact_mut(FRAME_BYTES)) {
         after.journal = log(journal, after.journal, Record::of(*sent));
         place.copy_from_slice(&write_frame(*sent));
     }

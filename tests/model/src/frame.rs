@@ -1,6 +1,9 @@
 //! Frames: seven bytes, 00 05, version 01, kind, train, from post, to post
 //! (refusals 3, 4, 5).
 
+/// Bytes of a frame.
+pub const FRAME_BYTES: usize = 7;
+
 /// A train and the two posts a frame names. Any bytes can stand here.
 #[derive(Debug, Clone, Copy, PartialEq, Eq)]
 pub struct Move {
@@ -59,7 +62,7 @@ pub fn read_frame(frame: &[u8]) -> Result<Message, u8> {
 }
 
 /// Writes the seven bytes of a message.
-pub fn write_frame(message: Message) -> [u8; 7] {
+pub fn write_frame(message: Message) -> [u8; FRAME_BYTES] {
     let m = message.movement();
     [0, 5, 1, message.kind(), m.train, m.from, m.to]
 }

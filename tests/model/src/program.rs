@@ -3,11 +3,10 @@
 use std::io::Read;
 
 use crate::dispatcher::{answer, open, Verdict, OUT_BYTES};
+use crate::frame::FRAME_BYTES;
 use crate::journal::{written, Record, JOURNAL_RECORDS};
+use crate::line::LONGEST_BOOK;
 use crate::table::TABLE_BYTES;
-
-/// The longest book: 8 posts and 6 trains.
-const LONGEST_BOOK: usize = 5 + 8 + 2 * 6;
 
 /// An input that stays ended once it has ended; an error is an end.
 struct Input<'a> {
@@ -54,7 +53,7 @@ pub fn run(reader: &mut dyn Read) -> String {
 
     let mut refused = 0u64;
     loop {
-        let frame = input.take(7);
+        let frame = input.take(FRAME_BYTES);
         if frame.is_empty() {
             break;
         }
@@ -66,11 +65,16 @@ pub fn run(reader: &mut dyn Read) -> String {
         }
     }
 
+    let records = written(&journal, state.journal);
+    format!("{}end {} {refused}\n", lines(records), state.journal)
+}
+
+/// A line for each record, with its number.
+fn lines(records: &[Record]) -> String {
     let mut text = String::new();
-    for (number, r) in written(&journal, state.journal).iter().enumerate() {
+    for (number, r) in records.iter().enumerate() {
         let word = r.word();
         text += &format!("{number} {word} {} {} {}\n", r.train, r.from, r.to);
     }
-    text += &format!("end {} {refused}\n", state.journal);
     text
 }

@@ -1,7 +1,7 @@
 //! The driver unit: made for one train, it presses and hears its way from
 //! start to end (refusals 1, 3 to 6, 8, 18, 21, 22).
 
-use crate::frame::{read_frame, write_frame, Message, Move};
+use crate::frame::{read_frame, write_frame, Message, Move, FRAME_BYTES};
 
 /// The six states of a unit.
 #[derive(Debug, Clone, Copy, PartialEq, Eq)]
@@ -89,7 +89,7 @@ pub fn make(train: u8, start: u8, end: u8) -> (Unit, u8) {
 
 /// A button is pressed: the unit after it, the refusal or 0, and the frame
 /// that is sent, FA at Ask and AM at Report.
-pub fn press(unit: &Unit, button: Button) -> (Unit, u8, Option<[u8; 7]>) {
+pub fn press(unit: &Unit, button: Button) -> (Unit, u8, Option<[u8; FRAME_BYTES]>) {
     if !sound(unit) {
         return (*unit, 1, None);
     }
