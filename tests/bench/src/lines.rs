@@ -1,5 +1,7 @@
 //! The lines that are measured, from the smallest to the largest.
 
+use inputs::books;
+
 pub struct Line {
     pub name: &'static str,
     tracks: &'static [u8],
@@ -42,15 +44,6 @@ pub const LINES: [Line; 7] = [
 
 impl Line {
     pub fn book(&self) -> Vec<u8> {
-        let mut bytes = vec![0, 0, 1, self.tracks.len() as u8];
-        bytes.extend(self.tracks);
-        bytes.push(self.routes.len() as u8);
-        bytes.extend(self.routes.iter().flatten());
-        bytes[1] = (bytes.len() - 2) as u8;
-        bytes
+        books::book(self.tracks, self.routes)
     }
-}
-
-pub fn named(name: &str) -> Option<&'static Line> {
-    LINES.iter().find(|line| line.name == name)
 }

@@ -1,7 +1,10 @@
 //! Frames to be answered, each with the state that it meets, taken from runs by the model.
 
-use corpus::crews::{all_home, Crews};
-use model::{answer, open, Record, State, Verdict, JOURNAL_RECORDS, OUT_BYTES, TABLE_BYTES};
+use inputs::crews::{run, Opened, Turn};
+use inputs::frames::{AFE, AM, KIND_AT};
+use inputs::random::Random;
+use inputs::sizes::FRAME_BYTES;
+use model::Verdict;
 
 /// What comes of a frame.
 #[derive(Clone, Copy, PartialEq)]
@@ -10,63 +13,30 @@ pub enum Class {
     Declined,
     Arrival,
     Refused,
-    /// All frames of the runs, as they come.
-    Mix,
-}
-
-pub const CLASSES: [(&str, Class); 5] = [
-    ("granted", Class::Granted),
-    ("declined", Class::Declined),
-    ("arrival", Class::Arrival),
-    ("refused", Class::Refused),
-    ("mix", Class::Mix),
-];
-
-#[derive(Clone)]
-pub struct Sample {
-    pub state: State,
-    pub frame: [u8; 7],
-    class: Class,
 }
 
 const RUNS: u64 = 20;
 const MOST_FRAMES: usize = 400;
 
-/// The samples of a class; a line with one train has none that are declined.
-pub fn samples(book: &[u8], class: Class) -> Vec<Sample> {
+/// The samples of a class, or all frames of the runs, as they come.
+pub fn samples(opened: &Opened, class: Option<Class>) -> Vec<Turn> {
     let mut all = Vec::new();
-    let mut table = vec![0; TABLE_BYTES];
-    let mut journal = vec![Record::BLANK; JOURNAL_RECORDS];
-    let (opened, _) = open(book, &mut table, &journal);
     for seed in 1..=RUNS {
-        let mut crews = Crews::new(seed * 7919);
-        let mut state = opened;
-        for _ in 0..MOST_FRAMES {
-            if all_home(&state) {
-                break;
-            }
-            let frame = crews.frame(&state);
-            let mut out = [0; OUT_BYTES];
-            let (after, verdict) = answer(&state, &table, &mut journal, &frame, &mut out);
-            let class = class_of(verdict, &frame, &out);
-            all.push(Sample {
-                state,
-                frame,
-                class,
-            });
-            state = after;
-        }
+        let random = &mut Random::of_stored_runs(seed * 7919);
+        all.extend(run(opened, random).take(MOST_FRAMES));
     }
-    all.retain(|sample| class == Class::Mix || sample.class == class);
+    all.retain(|turn| class.is_none_or(|class| class == class_of(turn)));
     all
 }
 
-fn class_of(verdict: Verdict, frame: &[u8], out: &[u8]) -> Class {
-    match verdict {
+fn class_of(turn: &Turn) -> Class {
+    match turn.verdict {
         Verdict::Refused(_) => Class::Refused,
-        Verdict::Sent(_) if frame[3] == 4 => Class::Arrival,
+        Verdict::Sent(_) if turn.frame[KIND_AT] == AM => Class::Arrival,
         // A run asks one by one, so the last answer to an FA is its own.
-        Verdict::Sent(n) if n > 0 && out[7 * (n - 1) + 3] == 3 => Class::Declined,
+        Verdict::Sent(n) if n > 0 && turn.out[FRAME_BYTES * (n - 1) + KIND_AT] == AFE => {
+            Class::Declined
+        }
         Verdict::Sent(_) => Class::Granted,
     }
 }

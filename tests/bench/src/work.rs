@@ -2,99 +2,100 @@
 //! code the bytes of the C interface, which it reads and writes within the call, the model its
 //! structs. Tables, journals and out buffers are made once and not cleared between calls.
 
-use crate::samples::Sample;
-use model::{Record, Standing, State, JOURNAL_RECORDS, OUT_BYTES, TABLE_BYTES};
+use crate::lines::Line;
+use crate::samples::{samples, Class};
+use boundary::{Ends, Proved};
+use inputs::crews::{open, Turn};
+use inputs::encoding::state_bytes;
+use inputs::sizes::{JOURNAL_BYTES, JOURNAL_RECORDS, OUT_BYTES, STATE_BYTES, TABLE_BYTES};
+use model::Record;
 use std::hint::black_box;
 
-#[derive(Clone, Copy, PartialEq)]
+#[derive(Clone, Copy)]
 pub enum Side {
     Proved,
     Model,
 }
 
-const STATE_BYTES: usize = 41;
-const JOURNAL_BYTES: usize = 4 * JOURNAL_RECORDS;
+/// The opening of a book, nearly all of which is the filling of the table, or answers to frames.
+pub enum Work {
+    Fill { book: Vec<u8> },
+    Answer { table: Vec<u8>, samples: Vec<Turn> },
+}
 
-/// Opens the book so many times; nearly all of it is the filling of the table.
-pub fn fill(side: Side, book: &[u8], calls: usize) {
-    let mut table = vec![0; TABLE_BYTES];
-    match side {
-        Side::Proved => {
-            let mut state = [0; STATE_BYTES];
-            let journal = [0; JOURNAL_BYTES];
-            for _ in 0..calls {
-                let result = boundary::open(black_box(book), &mut state, &mut table, &journal);
-                assert_eq!(black_box(result), 0);
+pub const WORKS: [&str; 6] = ["fill", "granted", "declined", "arrival", "refused", "mix"];
+
+impl Work {
+    /// The work of this name on a line. With one train no frame is declined.
+    pub fn of(line: &Line, name: &str) -> Option<Work> {
+        let book = line.book();
+        let class = match name {
+            "fill" => return Some(Work::Fill { book }),
+            "granted" => Some(Class::Granted),
+            "declined" => Some(Class::Declined),
+            "arrival" => Some(Class::Arrival),
+            "refused" => Some(Class::Refused),
+            "mix" => None,
+            _ => return None,
+        };
+        let opened = open(&book)?;
+        let samples = samples(&opened, class);
+        let table = opened.table;
+        (!samples.is_empty()).then_some(Work::Answer { table, samples })
+    }
+
+    /// Does it so many times, the samples in turn.
+    pub fn run(&self, side: Side, calls: usize) {
+        match (self, side) {
+            (Work::Fill { book }, Side::Proved) => fill_proved(book, calls),
+            (Work::Fill { book }, Side::Model) => fill_model(book, calls),
+            (Work::Answer { table, samples }, Side::Proved) => {
+                answer_proved(table, samples, calls);
             }
-        }
-        Side::Model => {
-            let journal = vec![Record::BLANK; JOURNAL_RECORDS];
-            for _ in 0..calls {
-                let opened = model::open(black_box(book), &mut table, &journal);
-                assert_eq!(black_box(opened).1, 0);
-            }
+            (Work::Answer { table, samples }, Side::Model) => answer_model(table, samples, calls),
         }
     }
 }
 
-/// The book's table, for frames to be answered with.
-pub fn table(book: &[u8]) -> Vec<u8> {
+fn fill_proved(book: &[u8], calls: usize) {
     let mut table = vec![0; TABLE_BYTES];
-    model::open(book, &mut table, &[Record::BLANK; JOURNAL_RECORDS]);
-    table
-}
-
-/// Answers the samples in turn, so many in all.
-pub fn answer(side: Side, table: &[u8], samples: &[Sample], calls: usize) {
-    match side {
-        Side::Proved => answer_proved(table, samples, calls),
-        Side::Model => answer_model(table, samples, calls),
+    let mut state = [0; STATE_BYTES];
+    let journal = [0; JOURNAL_BYTES];
+    for _ in 0..calls {
+        let result = Proved.open(black_box(book), &mut state, &mut table, &journal);
+        assert_eq!(black_box(result), 0);
     }
 }
 
-fn answer_proved(table: &[u8], samples: &[Sample], calls: usize) {
+fn fill_model(book: &[u8], calls: usize) {
+    let mut table = vec![0; TABLE_BYTES];
+    let journal = vec![Record::BLANK; JOURNAL_RECORDS];
+    for _ in 0..calls {
+        let opened = model::open(black_box(book), &mut table, &journal);
+        assert_eq!(black_box(opened).1, 0);
+    }
+}
+
+fn answer_proved(table: &[u8], samples: &[Turn], calls: usize) {
     let inputs: Vec<_> = samples
         .iter()
-        .map(|s| (bytes_of(&s.state), s.frame))
+        .map(|turn| (state_bytes(&turn.state), turn.frame))
         .collect();
     let mut journal = [0; JOURNAL_BYTES];
     let mut out = [0; OUT_BYTES];
     for (before, frame) in inputs.iter().cycle().take(calls) {
         let mut state = *before;
-        let result = boundary::answer(&mut state, table, &mut journal, black_box(frame), &mut out);
+        let result = Proved.answer(&mut state, table, &mut journal, black_box(frame), &mut out);
         black_box((result, state));
     }
 }
 
-fn answer_model(table: &[u8], samples: &[Sample], calls: usize) {
+fn answer_model(table: &[u8], samples: &[Turn], calls: usize) {
     let mut journal = vec![Record::BLANK; JOURNAL_RECORDS];
     let mut out = [0; OUT_BYTES];
-    for sample in samples.iter().cycle().take(calls) {
-        let frame = black_box(&sample.frame);
-        black_box(model::answer(
-            &sample.state,
-            table,
-            &mut journal,
-            frame,
-            &mut out,
-        ));
+    for turn in samples.iter().cycle().take(calls) {
+        let frame = black_box(&turn.frame);
+        let answered = model::answer(&turn.state, table, &mut journal, frame, &mut out);
+        black_box(answered);
     }
-}
-
-/// The 41 bytes of a state.
-fn bytes_of(state: &State) -> [u8; STATE_BYTES] {
-    let mut bytes = [0; STATE_BYTES];
-    bytes[0] = state.posts;
-    bytes[1..9].copy_from_slice(&state.tracks);
-    bytes[9] = state.trains;
-    for (train, place) in state.train.iter().zip(bytes[10..].chunks_exact_mut(5)) {
-        let (status, number) = match train.standing {
-            Standing::Free => (0, 0),
-            Standing::Asked(number) => (1, number),
-            Standing::Running => (2, 0),
-        };
-        place.copy_from_slice(&[train.start, train.end, train.at, status, number]);
-    }
-    bytes[STATE_BYTES - 1] = state.journal;
-    bytes
 }

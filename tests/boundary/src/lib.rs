@@ -1,4 +1,4 @@
-//! The C interface of the proved ends, one safe function for each of its seven.
+//! The C interface of the two ends, and the proved library behind it.
 //!
 //! Nothing checks these declarations against the Rattle source: this is the only place that has
 //! them. The C side asks two things of a caller, that each buffer has the length it names and that
@@ -72,72 +72,101 @@ pub fn version() -> u32 {
     unsafe { c::quangevit_version() }
 }
 
-/// Reads a book alone; the line it gives goes to `line`.
-pub fn read_book(book: &[u8], line: &mut [u8]) -> u32 {
-    unsafe { c::quangevit_read_book(book.as_ptr(), book.len(), line.as_mut_ptr(), line.len()) }
+/// The six functions of the C interface for the two ends. Each answers the refusal's number in its low byte and
+/// the number of frames written in the next.
+pub trait Ends {
+    /// Reads a book alone; the line it gives goes to `line`.
+    fn read_book(&self, book: &[u8], line: &mut [u8]) -> u32;
+
+    /// Opens a book: fills the table and gives the first state.
+    fn open(&self, book: &[u8], state: &mut [u8], table: &mut [u8], journal: &[u8]) -> u32;
+
+    /// The box's answer to a frame.
+    fn answer(
+        &self,
+        state: &mut [u8],
+        table: &[u8],
+        journal: &mut [u8],
+        frame: &[u8],
+        out: &mut [u8],
+    ) -> u32;
+
+    /// Makes the unit of a train.
+    fn make_unit(&self, train: u8, start: u8, end: u8, unit: &mut [u8]) -> u32;
+
+    /// A button is pressed; the frame it gives goes to `frame`.
+    fn press(&self, unit: &mut [u8], button: u8, frame: &mut [u8]) -> u32;
+
+    /// A frame is heard.
+    fn hear(&self, unit: &mut [u8], frame: &[u8]) -> u32;
 }
 
-/// Opens a book: fills the table and gives the first state.
-pub fn open(book: &[u8], state: &mut [u8], table: &mut [u8], journal: &[u8]) -> u32 {
-    unsafe {
-        c::quangevit_open(
-            book.as_ptr(),
-            book.len(),
-            state.as_mut_ptr(),
-            state.len(),
-            table.as_mut_ptr(),
-            table.len(),
-            journal.as_ptr(),
-            journal.len(),
-        )
+/// The proved ends, of the library that is linked.
+pub struct Proved;
+
+impl Ends for Proved {
+    fn read_book(&self, book: &[u8], line: &mut [u8]) -> u32 {
+        unsafe { c::quangevit_read_book(book.as_ptr(), book.len(), line.as_mut_ptr(), line.len()) }
     }
-}
 
-/// The box's answer to a frame.
-pub fn answer(
-    state: &mut [u8],
-    table: &[u8],
-    journal: &mut [u8],
-    frame: &[u8],
-    out: &mut [u8],
-) -> u32 {
-    unsafe {
-        c::quangevit_answer(
-            state.as_mut_ptr(),
-            state.len(),
-            table.as_ptr(),
-            table.len(),
-            journal.as_mut_ptr(),
-            journal.len(),
-            frame.as_ptr(),
-            frame.len(),
-            out.as_mut_ptr(),
-            out.len(),
-        )
+    fn open(&self, book: &[u8], state: &mut [u8], table: &mut [u8], journal: &[u8]) -> u32 {
+        unsafe {
+            c::quangevit_open(
+                book.as_ptr(),
+                book.len(),
+                state.as_mut_ptr(),
+                state.len(),
+                table.as_mut_ptr(),
+                table.len(),
+                journal.as_ptr(),
+                journal.len(),
+            )
+        }
     }
-}
 
-/// Makes the unit of a train.
-pub fn make_unit(train: u8, start: u8, end: u8, unit: &mut [u8]) -> u32 {
-    unsafe { c::quangevit_make_unit(train, start, end, unit.as_mut_ptr(), unit.len()) }
-}
-
-/// A button is pressed; the frame it gives goes to `frame`.
-pub fn press(unit: &mut [u8], button: u8, frame: &mut [u8]) -> u32 {
-    unsafe {
-        c::quangevit_press(
-            unit.as_mut_ptr(),
-            unit.len(),
-            button,
-            frame.as_mut_ptr(),
-            frame.len(),
-        )
+    fn answer(
+        &self,
+        state: &mut [u8],
+        table: &[u8],
+        journal: &mut [u8],
+        frame: &[u8],
+        out: &mut [u8],
+    ) -> u32 {
+        unsafe {
+            c::quangevit_answer(
+                state.as_mut_ptr(),
+                state.len(),
+                table.as_ptr(),
+                table.len(),
+                journal.as_mut_ptr(),
+                journal.len(),
+                frame.as_ptr(),
+                frame.len(),
+                out.as_mut_ptr(),
+                out.len(),
+            )
+        }
     }
-}
 
-/// A frame is heard.
-pub fn hear(unit: &mut [u8], frame: &[u8]) -> u32 {
-    unsafe { c::quangevit_hear(unit.as_mut_ptr(), unit.len(), frame.as_ptr(), frame.len()) }
+    fn make_unit(&self, train: u8, start: u8, end: u8, unit: &mut [u8]) -> u32 {
+        unsafe { c::quangevit_make_unit(train, start, end, unit.as_mut_ptr(), unit.len()) }
+    }
+
+    fn press(&self, unit: &mut [u8], button: u8, frame: &mut [u8]) -> u32 {
+        unsafe {
+            c::quangevit_press(
+                unit.as_mut_ptr(),
+                unit.len(),
+                button,
+                frame.as_mut_ptr(),
+                frame.len(),
+            )
+        }
+    }
+
+    fn hear(&self, unit: &mut [u8], frame: &[u8]) -> u32 {
+        unsafe { c::quangevit_hear(unit.as_mut_ptr(), unit.len(), frame.as_ptr(), frame.len()) }
+    }
 }
 
 #[cfg(test)]

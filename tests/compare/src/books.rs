@@ -1,27 +1,19 @@
 //! Books: well formed ones of all sizes, and damaged ones for each refusal number of a book.
 
-use crate::random::Random;
-
-/// A book's parts. The numbers of posts and trains are kept apart from what follows them, so
-/// that they can be wrong.
-#[derive(Clone)]
-struct Parts {
-    posts: u8,
-    tracks: Vec<u8>,
-    trains: u8,
-    routes: Vec<[u8; 2]>,
-}
+use inputs::books::{book, with_length, Parts};
+use inputs::random::Random;
+use inputs::sizes::LONGEST_BOOK;
 
 /// A well formed book. It may still be overfull or have no way through.
 pub fn well_formed(random: &mut Random) -> Vec<u8> {
-    bytes_of(&parts(random))
+    parts(random).bytes()
 }
 
 /// A book of some kind, damaged or not.
 pub fn any(random: &mut Random) -> (&'static str, Vec<u8>) {
     let parts = parts(random);
     match random.below(16) {
-        0 | 1 => ("book: well formed", bytes_of(&parts)),
+        0 | 1 => ("book: well formed", parts.bytes()),
         2 => ("book: cut short", cut(parts, random)),
         3 => ("book: longer than it says", lengthened(parts, random)),
         4 => ("book: wrong length", byte_altered(parts, 0..2, random)),
@@ -37,7 +29,10 @@ pub fn any(random: &mut Random) -> (&'static str, Vec<u8>) {
         11 => ("book: off the line", off_the_line(parts, random)),
         12 => ("book: overfull", overfull(parts, random)),
         13 => ("book: head on, single tracks", head_on(random)),
-        14 => ("book: any byte altered", byte_altered(parts, 0..25, random)),
+        14 => (
+            "book: any byte altered",
+            byte_altered(parts, 0..LONGEST_BOOK, random),
+        ),
         _ => ("book: random bytes", noise(random)),
     }
 }
@@ -48,32 +43,14 @@ fn parts(random: &mut Random) -> Parts {
     // Few tracks make trains wait, many let them all go.
     let most = random.between(1, 4);
     let post = |random: &mut Random| random.between(0, posts - 1);
-    Parts {
-        posts,
-        tracks: (0..posts).map(|_| random.between(1, most)).collect(),
-        trains,
-        routes: (0..trains).map(|_| [post(random), post(random)]).collect(),
-    }
-}
-
-/// The book of these parts, with the length that they have.
-fn bytes_of(parts: &Parts) -> Vec<u8> {
-    let mut bytes = vec![0, 0, 1, parts.posts];
-    bytes.extend(&parts.tracks);
-    bytes.push(parts.trains);
-    bytes.extend(parts.routes.iter().flatten());
-    with_length(bytes)
-}
-
-fn with_length(mut bytes: Vec<u8>) -> Vec<u8> {
-    let named = (bytes.len() - 2) as u16;
-    bytes[..2].copy_from_slice(&named.to_be_bytes());
-    bytes
+    let tracks: Vec<u8> = (0..posts).map(|_| random.between(1, most)).collect();
+    let routes: Vec<_> = (0..trains).map(|_| [post(random), post(random)]).collect();
+    Parts::new(&tracks, &routes)
 }
 
 /// Cut, sometimes with a length that says so.
 fn cut(parts: Parts, random: &mut Random) -> Vec<u8> {
-    let mut bytes = bytes_of(&parts);
+    let mut bytes = parts.bytes();
     bytes.truncate(random.below(bytes.len()));
     if bytes.len() > 2 && random.one_in(2) {
         with_length(bytes)
@@ -83,14 +60,14 @@ fn cut(parts: Parts, random: &mut Random) -> Vec<u8> {
 }
 
 fn lengthened(parts: Parts, random: &mut Random) -> Vec<u8> {
-    let mut bytes = bytes_of(&parts);
+    let mut bytes = parts.bytes();
     let more = 1 + random.below(300);
     bytes.extend(random.bytes(more));
     bytes
 }
 
 fn byte_altered(parts: Parts, places: std::ops::Range<usize>, random: &mut Random) -> Vec<u8> {
-    let mut bytes = bytes_of(&parts);
+    let mut bytes = parts.bytes();
     let end = places.end.min(bytes.len());
     let at = places.start + random.below(end - places.start);
     bytes[at] = random.altered(bytes[at]);
@@ -103,12 +80,12 @@ fn posts_out(mut parts: Parts, random: &mut Random) -> Vec<u8> {
         // As many track counts as the wrong number says.
         parts.tracks = vec![1; usize::from(parts.posts)];
     }
-    bytes_of(&parts)
+    parts.bytes()
 }
 
 /// The length is right, yet the bytes end among the track counts.
 fn without_trains(parts: Parts, random: &mut Random) -> Vec<u8> {
-    let mut bytes = bytes_of(&parts);
+    let mut bytes = parts.bytes();
     bytes.truncate(4 + random.below(parts.tracks.len() + 1));
     with_length(bytes)
 }
@@ -116,7 +93,7 @@ fn without_trains(parts: Parts, random: &mut Random) -> Vec<u8> {
 fn tracks_out(mut parts: Parts, random: &mut Random) -> Vec<u8> {
     let at = random.below(parts.tracks.len());
     parts.tracks[at] = out_of(1, 4, random);
-    bytes_of(&parts)
+    parts.bytes()
 }
 
 fn trains_out(mut parts: Parts, random: &mut Random) -> Vec<u8> {
@@ -124,7 +101,7 @@ fn trains_out(mut parts: Parts, random: &mut Random) -> Vec<u8> {
     if random.one_in(2) {
         parts.routes = vec![[0, 1]; usize::from(parts.trains)];
     }
-    bytes_of(&parts)
+    parts.bytes()
 }
 
 /// More or fewer routes than trains, and a length that fits the bytes.
@@ -134,7 +111,7 @@ fn total_differs(mut parts: Parts, random: &mut Random) -> Vec<u8> {
     } else {
         parts.routes.push([0, 1]);
     }
-    let mut bytes = bytes_of(&parts);
+    let mut bytes = parts.bytes();
     if random.one_in(2) {
         bytes.push(random.between(0, 7));
     }
@@ -146,7 +123,7 @@ fn off_the_line(mut parts: Parts, random: &mut Random) -> Vec<u8> {
     let which = random.below(2);
     let far = random.byte();
     parts.routes[at][which] = random.pick(&[parts.posts, parts.posts + 1, 255, far]);
-    bytes_of(&parts)
+    parts.bytes()
 }
 
 /// All trains start at one post.
@@ -156,19 +133,14 @@ fn overfull(mut parts: Parts, random: &mut Random) -> Vec<u8> {
     for route in &mut parts.routes {
         route[0] = start;
     }
-    bytes_of(&parts)
+    parts.bytes()
 }
 
 /// Two trains that must pass each other where no post has two tracks.
 fn head_on(random: &mut Random) -> Vec<u8> {
     let posts = random.between(2, 8);
     let last = posts - 1;
-    bytes_of(&Parts {
-        posts,
-        tracks: vec![1; usize::from(posts)],
-        trains: 2,
-        routes: vec![[0, last], [last, 0]],
-    })
+    book(&vec![1; usize::from(posts)], &[[0, last], [last, 0]])
 }
 
 /// Random bytes, often with a right head, so that they are read further.

@@ -2,8 +2,9 @@
 
 use crate::lent::Lent;
 use crate::pair::{Compared, Pair, Reply};
-use crate::random::Random;
 use crate::stores;
+use inputs::random::Random;
+use inputs::sizes::FRAME_BYTES;
 
 pub struct Desk {
     state: Lent,
@@ -30,7 +31,7 @@ impl Desk {
     pub fn answers(&self, sent: usize) -> Vec<Vec<u8>> {
         self.out
             .bytes()
-            .chunks_exact(7)
+            .chunks_exact(FRAME_BYTES)
             .take(sent)
             .map(<[u8]>::to_vec)
             .collect()

@@ -1,10 +1,9 @@
 //! Frames: what a crew would send in a state, and everything else.
 
-use crate::layout::{FRAME_BYTES, STATE_BYTES, TRAINS_AT, TRAIN_BYTES};
-use crate::random::Random;
-
-const FA: u8 = 1;
-const AM: u8 = 4;
+use inputs::encoding::{is_home, train_at, ASKED, RUNNING};
+use inputs::frames::{frame, AM, FA, KIND_AT};
+use inputs::random::Random;
+use inputs::sizes::{FLEET_AT, FRAME_BYTES, STATE_BYTES, TRAINS_AT, TRAIN_BYTES};
 
 /// A frame put to the box in a state, which may be any bytes: mostly of a kind that gets far.
 pub fn to_box(state: &[u8], random: &mut Random) -> (&'static str, Vec<u8>) {
@@ -20,27 +19,36 @@ pub fn to_box(state: &[u8], random: &mut Random) -> (&'static str, Vec<u8>) {
 pub fn of_crew(state: &[u8], random: &mut Random) -> [u8; FRAME_BYTES] {
     if state.len() != STATE_BYTES {
         let small = |random: &mut Random| random.between(0, 7);
-        return [0, 5, 1, FA, small(random), small(random), small(random)];
+        return frame(FA, small(random), small(random), small(random));
     }
-    let train = of_whom(state, random);
-    let place = &state[TRAINS_AT + TRAIN_BYTES * train..][..TRAIN_BYTES];
-    let (end, at, running) = (place[1], place[2], place[3] == 2);
-    let kind = if running { AM } else { FA };
-    [0, 5, 1, kind, train as u8, at, towards(at, end)]
+    let t = of_whom(state, random);
+    let train = train_of(state, t);
+    let (end, at) = (train[train_at::END], train[train_at::POST]);
+    let kind = if train[train_at::STATUS] == RUNNING {
+        AM
+    } else {
+        FA
+    };
+    frame(kind, t as u8, at, towards(at, end))
+}
+
+/// The bytes of a train in those of a state.
+fn train_of(state: &[u8], t: usize) -> &[u8] {
+    &state[FLEET_AT + TRAIN_BYTES * t..][..TRAIN_BYTES]
 }
 
 /// Some train; mostly one that has to go on and does not wait for an answer.
 fn of_whom(state: &[u8], random: &mut Random) -> usize {
-    let trains = usize::from(state[TRAINS_AT - 1].clamp(1, 6));
-    let mut train = random.below(trains);
+    let trains = usize::from(state[TRAINS_AT].clamp(1, 6));
+    let mut t = random.below(trains);
     for _ in 0..3 {
-        let place = &state[TRAINS_AT + TRAIN_BYTES * train..][..TRAIN_BYTES];
-        if place[1] != place[2] && place[3] != 1 {
+        let train = train_of(state, t);
+        if !is_home(train) && train[train_at::STATUS] != ASKED {
             break;
         }
-        train = random.below(trains);
+        t = random.below(trains);
     }
-    train
+    t
 }
 
 /// One post nearer to the end. At the end, some other post: no frame is right there.
@@ -53,7 +61,7 @@ fn towards(at: u8, end: u8) -> u8 {
 }
 
 fn other_kind(mut frame: [u8; FRAME_BYTES]) -> Vec<u8> {
-    frame[3] = if frame[3] == FA { AM } else { FA };
+    frame[KIND_AT] = if frame[KIND_AT] == FA { AM } else { FA };
     frame.to_vec()
 }
 

@@ -2,9 +2,16 @@
 //! the model leaves it. Guard bytes stand before and behind, so that a byte written outside the
 //! buffer is seen as well.
 
-use crate::random::Random;
+use inputs::random::Random;
 
 const BACK_GUARD: [u8; 16] = *b"behind the store";
+
+/// The two that are compared.
+#[derive(Debug, Clone, Copy, PartialEq)]
+pub enum Side {
+    Proved,
+    Model,
+}
 
 pub struct Lent {
     /// Guard bytes before the buffer; their number varies, and with it the buffer's alignment.
@@ -17,15 +24,13 @@ pub struct Lent {
 impl Lent {
     pub fn new(bytes: &[u8], random: &mut Random) -> Lent {
         let front = 8 + random.below(16);
-        let guard = random.bytes(front);
-        let mut lent = Lent {
+        let copy = [&random.bytes(front), bytes, &BACK_GUARD].concat();
+        Lent {
             front,
-            before: guard.clone(),
-            proved: guard.clone(),
-            model: guard,
-        };
-        lent.set(bytes);
-        lent
+            before: copy.clone(),
+            proved: copy.clone(),
+            model: copy,
+        }
     }
 
     /// A buffer of random bytes.
@@ -50,21 +55,30 @@ impl Lent {
 
     /// The bytes, which both sides have alike after every call that was compared.
     pub fn bytes(&self) -> &[u8] {
-        &self.model[self.front..self.model.len() - BACK_GUARD.len()]
+        self.shown_to(Side::Model)
     }
 
-    pub fn of_proved(&self) -> &[u8] {
-        &self.proved[self.front..self.proved.len() - BACK_GUARD.len()]
+    /// A side's bytes, to be read by it.
+    pub fn shown_to(&self, side: Side) -> &[u8] {
+        match side {
+            Side::Proved => self.inner(&self.proved),
+            Side::Model => self.inner(&self.model),
+        }
     }
 
-    pub fn lend_to_proved(&mut self) -> &mut [u8] {
-        let end = self.proved.len() - BACK_GUARD.len();
-        &mut self.proved[self.front..end]
+    /// A side's bytes, to be written by it.
+    pub fn lent_to(&mut self, side: Side) -> &mut [u8] {
+        let copy = match side {
+            Side::Proved => &mut self.proved,
+            Side::Model => &mut self.model,
+        };
+        let end = copy.len() - BACK_GUARD.len();
+        &mut copy[self.front..end]
     }
 
-    pub fn lend_to_model(&mut self) -> &mut [u8] {
-        let end = self.model.len() - BACK_GUARD.len();
-        &mut self.model[self.front..end]
+    /// A copy without its guards.
+    fn inner<'a>(&self, copy: &'a [u8]) -> &'a [u8] {
+        &copy[self.front..copy.len() - BACK_GUARD.len()]
     }
 
     /// Both sides left the same bytes, guards included.
@@ -74,7 +88,7 @@ impl Lent {
 
     /// The bytes before and after, in hex.
     pub fn report(&self, name: &str) -> String {
-        let inner = |copy: &[u8]| hex(&copy[self.front..copy.len() - BACK_GUARD.len()]);
+        let inner = |copy| hex(self.inner(copy));
         let mut text = format!("{name}, lent:   {}\n", inner(&self.before));
         if !self.agrees() {
             text += &format!("{name}, proved: {}\n", inner(&self.proved));
@@ -98,7 +112,7 @@ impl Lent {
 }
 
 /// Bytes in hex; more than eight equal ones in a row as `00*512`.
-pub fn hex(bytes: &[u8]) -> String {
+fn hex(bytes: &[u8]) -> String {
     let mut words = vec![format!("({} bytes)", bytes.len())];
     for run in bytes.chunk_by(|a, b| a == b) {
         if run.len() > 8 {

@@ -8,13 +8,11 @@
 mod books;
 mod counts;
 mod desk;
-mod ends;
 mod frames;
-mod layout;
 mod lent;
+mod model_ends;
 mod openings;
 mod pair;
-mod random;
 mod runs;
 mod states;
 mod stores;
@@ -23,9 +21,12 @@ mod tables;
 mod tests;
 mod units;
 
+use boundary::Proved;
+use inputs::random::Random;
+use model_ends::Model;
 use openings::Opened;
 use pair::{Compared, Pair};
-use random::Random;
+use runs::Crews;
 use std::process::ExitCode;
 
 /// Frames put to the box between two openings that are kept.
@@ -44,7 +45,7 @@ fn main() -> ExitCode {
         eprintln!("usage: compare [--seed S] [--frames N]");
         return ExitCode::from(2);
     };
-    let mut pair = Pair::new(Box::new(ends::Proved), Box::new(ends::Model));
+    let mut pair = Pair::new(Box::new(Proved), Box::new(Model));
     println!("seed {}, {} frames", options.seed, options.frames);
     let compared = all(&mut pair, &options);
     pair.counts.print();
@@ -121,8 +122,8 @@ fn one_run(
     let opened = &opened[random.below(opened.len())];
     let strange = &strange[random.below(strange.len())];
     match random.below(16) {
-        0 => runs::whole(pair, opened, strange, random),
-        1 => runs::with_units(pair, opened, strange, random),
+        0 => runs::whole(pair, opened, strange, Crews::ByFrames, random),
+        1 => runs::whole(pair, opened, strange, Crews::WithUnits, random),
         _ => runs::handed_in(pair, opened, strange, random),
     }
 }

@@ -1,13 +1,11 @@
 //! Books read and opened, with buffers of all lengths. An opening fills 32,768 bytes, so what
 //! was opened is kept for many runs.
 
-use crate::books;
-use crate::layout::{LINE_BYTES, STATE_BYTES};
 use crate::lent::Lent;
 use crate::pair::{Compared, Pair};
-use crate::random::Random;
-use crate::{stores, tables};
-use model::TABLE_BYTES;
+use crate::{books, stores, tables};
+use inputs::random::Random;
+use inputs::sizes::{LINE_BYTES, STATE_BYTES, TABLE_BYTES};
 
 /// An opened book: its first state, its table, and that table with bits flipped.
 pub struct Opened {

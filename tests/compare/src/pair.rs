@@ -1,9 +1,9 @@
 //! Both sides called with the same input, and everything they answer and write compared.
 
 use crate::counts::{Counts, Entry};
-use crate::ends::Ends;
-use crate::layout::{TRAINS_AT, TRAIN_BYTES};
-use crate::lent::Lent;
+use crate::lent::{Lent, Side};
+use boundary::Ends;
+use inputs::encoding::{train_at, trains_in, PHASE_AT};
 
 /// The text of the first difference: the input in full and both outputs.
 #[derive(Debug)]
@@ -19,8 +19,8 @@ pub struct Reply {
 }
 
 pub struct Pair {
-    pub proved: Box<dyn Ends>,
-    pub model: Box<dyn Ends>,
+    proved: Box<dyn Ends>,
+    model: Box<dyn Ends>,
     pub counts: Counts,
 }
 
@@ -37,12 +37,10 @@ impl Pair {
 
     pub fn read_book(&mut self, book: &Lent, line: &mut Lent) -> Compared<Reply> {
         line.keep();
-        let proved = self
-            .proved
-            .read_book(book.of_proved(), line.lend_to_proved());
-        let model = self.model.read_book(book.bytes(), line.lend_to_model());
-        let buffers = [("book", book), ("line", &*line)];
-        self.settle(Entry::ReadBook, &[], [proved, model], &buffers, &[])
+        let results =
+            self.both(|ends, side| ends.read_book(book.shown_to(side), line.lent_to(side)));
+        let buffers = [("book", book), ("line", line)];
+        self.settle(Entry::ReadBook, &[], results, &buffers, &[])
     }
 
     pub fn open(
@@ -54,25 +52,21 @@ impl Pair {
     ) -> Compared<Reply> {
         state.keep();
         table.keep();
-        let proved = self.proved.open(
-            book.of_proved(),
-            state.lend_to_proved(),
-            table.lend_to_proved(),
-            journal.of_proved(),
-        );
-        let model = self.model.open(
-            book.bytes(),
-            state.lend_to_model(),
-            table.lend_to_model(),
-            journal.bytes(),
-        );
+        let results = self.both(|ends, side| {
+            ends.open(
+                book.shown_to(side),
+                state.lent_to(side),
+                table.lent_to(side),
+                journal.shown_to(side),
+            )
+        });
         let buffers = [
             ("book", book),
-            ("state", &*state),
-            ("table", &*table),
+            ("state", state),
+            ("table", table),
             ("journal", journal),
         ];
-        self.settle(Entry::Open, &[], [proved, model], &buffers, &[])
+        self.settle(Entry::Open, &[], results, &buffers, &[])
     }
 
     /// The table, 32,768 bytes that are only read, is not compared here but by `unchanged`, once
@@ -88,27 +82,21 @@ impl Pair {
         state.keep();
         journal.keep();
         out.keep();
-        let proved = self.proved.answer(
-            state.lend_to_proved(),
-            table.of_proved(),
-            journal.lend_to_proved(),
-            frame.of_proved(),
-            out.lend_to_proved(),
-        );
-        let model = self.model.answer(
-            state.lend_to_model(),
-            table.bytes(),
-            journal.lend_to_model(),
-            frame.bytes(),
-            out.lend_to_model(),
-        );
+        let results = self.both(|ends, side| {
+            ends.answer(
+                state.lent_to(side),
+                table.shown_to(side),
+                journal.lent_to(side),
+                frame.shown_to(side),
+                out.lent_to(side),
+            )
+        });
         let buffers = [
             ("state", &*state),
-            ("journal", &*journal),
+            ("journal", journal),
             ("frame", frame),
-            ("out", &*out),
+            ("out", out),
         ];
-        let results = [proved, model];
         let reply = self.settle(Entry::Answer, &[], results, &buffers, &[("table", table)])?;
         if reply.refusal == 0 {
             self.counts.sent(reply.sent);
@@ -128,14 +116,9 @@ impl Pair {
     pub fn make_unit(&mut self, numbers: [u8; 3], unit: &mut Lent) -> Compared<Reply> {
         let [train, start, end] = numbers;
         unit.keep();
-        let proved = self
-            .proved
-            .make_unit(train, start, end, unit.lend_to_proved());
-        let model = self
-            .model
-            .make_unit(train, start, end, unit.lend_to_model());
+        let results = self.both(|ends, side| ends.make_unit(train, start, end, unit.lent_to(side)));
         let buffers = [("unit", &*unit)];
-        let reply = self.settle(Entry::MakeUnit, &numbers, [proved, model], &buffers, &[])?;
+        let reply = self.settle(Entry::MakeUnit, &numbers, results, &buffers, &[])?;
         self.count_phase(reply, unit);
         Ok(reply)
     }
@@ -143,26 +126,28 @@ impl Pair {
     pub fn press(&mut self, unit: &mut Lent, button: u8, frame: &mut Lent) -> Compared<Reply> {
         unit.keep();
         frame.keep();
-        let proved = self
-            .proved
-            .press(unit.lend_to_proved(), button, frame.lend_to_proved());
-        let model = self
-            .model
-            .press(unit.lend_to_model(), button, frame.lend_to_model());
-        let buffers = [("unit", &*unit), ("frame", &*frame)];
-        let reply = self.settle(Entry::Press, &[button], [proved, model], &buffers, &[])?;
+        let results =
+            self.both(|ends, side| ends.press(unit.lent_to(side), button, frame.lent_to(side)));
+        let buffers = [("unit", &*unit), ("frame", frame)];
+        let reply = self.settle(Entry::Press, &[button], results, &buffers, &[])?;
         self.count_phase(reply, unit);
         Ok(reply)
     }
 
     pub fn hear(&mut self, unit: &mut Lent, frame: &Lent) -> Compared<Reply> {
         unit.keep();
-        let proved = self.proved.hear(unit.lend_to_proved(), frame.of_proved());
-        let model = self.model.hear(unit.lend_to_model(), frame.bytes());
+        let results = self.both(|ends, side| ends.hear(unit.lent_to(side), frame.shown_to(side)));
         let buffers = [("unit", &*unit), ("frame", frame)];
-        let reply = self.settle(Entry::Hear, &[], [proved, model], &buffers, &[])?;
+        let reply = self.settle(Entry::Hear, &[], results, &buffers, &[])?;
         self.count_phase(reply, unit);
         Ok(reply)
+    }
+
+    /// Calls both sides, each with its own bytes.
+    fn both(&self, mut call: impl FnMut(&dyn Ends, Side) -> u32) -> [u32; 2] {
+        let proved = call(&*self.proved, Side::Proved);
+        let model = call(&*self.model, Side::Model);
+        [proved, model]
     }
 
     /// Compares both results and the buffers, guards included; `only_shown` are printed with a
@@ -193,15 +178,14 @@ impl Pair {
     }
 
     fn count_statuses(&mut self, state: &[u8]) {
-        let places = state[TRAINS_AT..].chunks_exact(TRAIN_BYTES);
-        for place in places.take(usize::from(state[TRAINS_AT - 1])) {
-            self.counts.status(place[3]);
+        for train in trains_in(state) {
+            self.counts.status(train[train_at::STATUS]);
         }
     }
 
     fn count_phase(&mut self, reply: Reply, unit: &Lent) {
         if reply.refusal == 0 {
-            self.counts.phase(unit.bytes()[4]);
+            self.counts.phase(unit.bytes()[PHASE_AT]);
         }
     }
 }

@@ -2,13 +2,13 @@
 //! runs from states handed in.
 
 use crate::desk::Desk;
-use crate::frames;
-use crate::layout::{FRAME_BYTES, TRAINS_AT, TRAIN_BYTES, UNIT_BYTES};
 use crate::lent::Lent;
 use crate::openings::Opened;
 use crate::pair::{Compared, Pair};
-use crate::random::Random;
-use crate::{states, stores};
+use crate::{frames, states, stores};
+use inputs::encoding::{is_home, train_at, trains_in, ASKED, PHASE_AT};
+use inputs::random::Random;
+use inputs::sizes::{FRAME_BYTES, UNIT_BYTES};
 
 /// A table that no book gave, and what it is.
 pub type Strange = (&'static str, Lent);
@@ -16,24 +16,48 @@ pub type Strange = (&'static str, Lent);
 /// Frames of one whole run: enough for six trains to get home, with refused frames among them.
 const LONGEST_RUN: usize = 400;
 
-/// A run from the opening, by frames alone, until all trains are home or all that are not wait.
+/// How the frames of a whole run come about.
+#[derive(Clone, Copy, PartialEq)]
+pub enum Crews {
+    ByFrames,
+    /// Every frame of a crew comes from its unit, and every unit hears every answer.
+    WithUnits,
+}
+
+/// A run from the opening, until all trains are home or all that are not wait.
 pub fn whole(
     pair: &mut Pair,
     opened: &Opened,
     strange: &Strange,
+    crews: Crews,
     random: &mut Random,
 ) -> Compared<()> {
     let table = choose_table(pair, opened, strange, 8, random);
     let mut desk = Desk::new(&opened.state, stores::journal(random), random);
-    pair.counts.input("run: from an opened book");
+    let (mut units, begun, ended) = match crews {
+        Crews::ByFrames => (
+            vec![],
+            "run: from an opened book",
+            "run: from an opened book, all home",
+        ),
+        Crews::WithUnits => (
+            make_units(pair, &opened.state, random)?,
+            "run: with units",
+            "run: with units, all home",
+        ),
+    };
+    pair.counts.input(begun);
     for _ in 0..LONGEST_RUN {
-        put_any(pair, &mut desk, table, random)?;
+        match crews {
+            Crews::ByFrames => put_any(pair, &mut desk, table, random)?,
+            Crews::WithUnits => step_with_units(pair, &mut desk, &mut units, table, random)?,
+        }
         if is_over(&desk, random) {
             break;
         }
     }
-    if all_home(desk.state()) {
-        pair.counts.input("run: from an opened book, all home");
+    if trains_in(desk.state()).all(is_home) {
+        pair.counts.input(ended);
     }
     pair.unchanged(table)
 }
@@ -64,29 +88,6 @@ pub fn handed_in(
     pair.unchanged(table)
 }
 
-/// A run in which every frame of a crew comes from its unit, and every unit hears every answer.
-pub fn with_units(
-    pair: &mut Pair,
-    opened: &Opened,
-    strange: &Strange,
-    random: &mut Random,
-) -> Compared<()> {
-    let table = choose_table(pair, opened, strange, 8, random);
-    let mut desk = Desk::new(&opened.state, stores::journal(random), random);
-    let mut units = make_units(pair, &opened.state, random)?;
-    pair.counts.input("run: with units");
-    for _ in 0..LONGEST_RUN {
-        step_with_units(pair, &mut desk, &mut units, table, random)?;
-        if is_over(&desk, random) {
-            break;
-        }
-    }
-    if all_home(desk.state()) {
-        pair.counts.input("run: with units, all home");
-    }
-    pair.unchanged(table)
-}
-
 /// The book's own table so many times for each altered one.
 fn choose_table<'a>(
     pair: &mut Pair,
@@ -111,29 +112,19 @@ fn put_any(pair: &mut Pair, desk: &mut Desk, table: &Lent, random: &mut Random) 
     Ok(())
 }
 
-/// The trains of a state, five bytes each; of other bytes, none.
-fn trains_of(state: &[u8]) -> impl Iterator<Item = &[u8]> {
-    let trains = state.get(TRAINS_AT - 1).copied().unwrap_or(0);
-    let places = state.get(TRAINS_AT..).unwrap_or(&[]);
-    places.chunks_exact(TRAIN_BYTES).take(usize::from(trains))
-}
-
-fn all_home(state: &[u8]) -> bool {
-    trains_of(state).all(|place| place[1] == place[2])
-}
-
 /// Every train is home or Asked, and no frame can be accepted any more. Two times in three the run
 /// goes on all the same, with a frame that has to be refused.
 fn is_over(desk: &Desk, random: &mut Random) -> bool {
-    let waits = |place: &[u8]| place[1] == place[2] || place[3] == 1;
-    trains_of(desk.state()).all(waits) && random.one_in(3)
+    let waits = |train: &[u8]| is_home(train) || train[train_at::STATUS] == ASKED;
+    trains_in(desk.state()).all(waits) && random.one_in(3)
 }
 
 fn make_units(pair: &mut Pair, state: &[u8], random: &mut Random) -> Compared<Vec<Lent>> {
     let mut units = Vec::new();
-    for (t, place) in trains_of(state).enumerate() {
+    for (t, train) in trains_in(state).enumerate() {
         let mut unit = Lent::random(UNIT_BYTES, random);
-        pair.make_unit([t as u8, place[0], place[1]], &mut unit)?;
+        let numbers = [t as u8, train[train_at::START], train[train_at::END]];
+        pair.make_unit(numbers, &mut unit)?;
         units.push(unit);
     }
     Ok(units)
@@ -152,7 +143,7 @@ fn step_with_units(
     let button = if random.one_in(8) {
         random.between(0, 4)
     } else {
-        button_due(unit.bytes()[4])
+        button_due(unit.bytes()[PHASE_AT])
     };
     let mut given = Lent::random(FRAME_BYTES + random.below(4), random);
     if pair.press(unit, button, &mut given)?.sent == 0 {

@@ -1,8 +1,9 @@
 //! States handed in: valid by construction, nearly valid, and such that no box ever had.
 
-use crate::layout::{state_bytes, state_of, STATE_BYTES, TRAINS_AT, TRAIN_BYTES};
-use crate::random::Random;
-use model::{Standing, State, Train, JOURNAL_RECORDS};
+use inputs::encoding::{state_bytes, state_of, train_at, ASKED, RUNNING};
+use inputs::random::Random;
+use inputs::sizes::{FLEET_AT, JOURNAL_RECORDS, STATE_BYTES, TRAIN_BYTES};
+use model::{Standing, State, Train};
 
 /// A state of some kind. `opened` is the first state of a book, for states of its line.
 pub fn any(opened: &[u8], random: &mut Random) -> (&'static str, Vec<u8>) {
@@ -146,7 +147,8 @@ fn give_standings(state: &mut State, random: &mut Random) -> usize {
             continue;
         };
         let may_run = random.below(8) < run;
-        if may_run && room(state, to) > 0 && section_free(state, train.at.min(to)) {
+        let section = train.at.min(to);
+        if may_run && room(state, to) > 0 && state.holders_of_section(section) == 0 {
             state.train[t].standing = Standing::Running;
         } else if random.below(8) < ask {
             state.train[t].standing = Standing::Asked(0);
@@ -203,20 +205,7 @@ fn trains_of(state: &mut State) -> &mut [Train] {
 
 /// Tracks of the post less the trains that hold one there.
 fn room(state: &State, post: u8) -> i32 {
-    let holds = |train: &&Train| {
-        let runs_to = train.next().filter(|_| train.standing == Standing::Running);
-        train.at == post || runs_to == Some(post)
-    };
-    let present = &state.train[..usize::from(state.trains)];
-    i32::from(state.tracks[usize::from(post)]) - present.iter().filter(holds).count() as i32
-}
-
-fn section_free(state: &State, section: u8) -> bool {
-    let holds = |train: &Train| {
-        let to = train.next().filter(|_| train.standing == Standing::Running);
-        to.map(|to| to.min(train.at)) == Some(section)
-    };
-    !state.train[..usize::from(state.trains)].iter().any(holds)
+    i32::from(state.tracks[usize::from(post)]) - state.holders_of_post(post) as i32
 }
 
 /// One train, track count or number changed without a look at the rules. It may still be valid.
@@ -242,12 +231,12 @@ fn with_a_rule_broken(mut state: State, random: &mut Random) -> State {
 
 /// A status above 2, or a number where the status is not Asked.
 fn encoding_none(mut bytes: Vec<u8>, random: &mut Random) -> Vec<u8> {
-    let place = &mut bytes[TRAINS_AT + TRAIN_BYTES * random.below(6)..][..TRAIN_BYTES];
-    if place[3] == 1 || random.one_in(2) {
-        let any = random.between(3, 255);
-        place[3] = random.pick(&[3, 255, any]);
+    let train = &mut bytes[FLEET_AT + TRAIN_BYTES * random.below(6)..][..TRAIN_BYTES];
+    if train[train_at::STATUS] == ASKED || random.one_in(2) {
+        let any = random.between(RUNNING + 1, 255);
+        train[train_at::STATUS] = random.pick(&[RUNNING + 1, 255, any]);
     } else {
-        place[4] = random.between(1, 255);
+        train[train_at::REQUEST] = random.between(1, 255);
     }
     bytes
 }

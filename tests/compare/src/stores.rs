@@ -1,9 +1,7 @@
 //! The lengths of lent stores: enough, more than enough, and too short.
 
-use crate::random::Random;
-use model::{JOURNAL_RECORDS, OUT_BYTES};
-
-const JOURNAL_BYTES: usize = 4 * JOURNAL_RECORDS;
+use inputs::random::Random;
+use inputs::sizes::{JOURNAL_BYTES, OUT_BYTES, RECORD_BYTES};
 
 /// Bytes of a journal that is long enough, also with a part of a record behind the last.
 pub fn journal(random: &mut Random) -> usize {
@@ -14,7 +12,7 @@ pub fn journal(random: &mut Random) -> usize {
 /// Bytes of a journal that is short by a part of a record or by many records.
 pub fn short_journal(random: &mut Random) -> usize {
     let any = random.below(JOURNAL_BYTES);
-    random.pick(&[JOURNAL_BYTES - 1, JOURNAL_BYTES - 4, 0, any])
+    random.pick(&[JOURNAL_BYTES - 1, JOURNAL_BYTES - RECORD_BYTES, 0, any])
 }
 
 pub fn out(random: &mut Random) -> usize {

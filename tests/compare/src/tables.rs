@@ -1,8 +1,8 @@
 //! Tables: as filled, altered, short, longer. The answer is set by the bits handed in.
 
 use crate::lent::Lent;
-use crate::random::Random;
-use model::TABLE_BYTES;
+use inputs::random::Random;
+use inputs::sizes::TABLE_BYTES;
 
 /// A table that no book gave.
 pub fn strange(random: &mut Random) -> (&'static str, Lent) {

@@ -1,10 +1,12 @@
 //! The comparison can fail: whatever one side answers or writes otherwise is seen.
 
 use crate::counts::Entry;
-use crate::ends::{Ends, Model};
+use crate::model_ends::Model;
 use crate::pair::Pair;
-use crate::random::Random;
-use crate::{all, layout, states, Options};
+use crate::{all, states, Options};
+use boundary::Ends;
+use inputs::encoding::{state_bytes, state_of};
+use inputs::random::Random;
 use std::cell::Cell;
 
 /// Where the altered bit is: in the result or in the buffer of this place among the written ones.
@@ -155,6 +157,6 @@ fn states_valid_by_construction_are_sound_and_come_back_from_their_bytes() {
     for _ in 0..200_000 {
         let state = states::valid(&[], random);
         assert!(model::sound(&state), "{state:?}");
-        assert_eq!(layout::state_of(&layout::state_bytes(&state)), Some(state));
+        assert_eq!(state_of(&state_bytes(&state)), Some(state));
     }
 }

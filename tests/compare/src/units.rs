@@ -1,14 +1,11 @@
 //! Driver units: every one near the ranges, and random ones with random histories.
 
-use crate::frames;
-use crate::layout::{FRAME_BYTES, UNIT_BYTES};
 use crate::lent::Lent;
 use crate::pair::{Compared, Pair};
-use crate::random::Random;
-use crate::stores;
-
-const FE: u8 = 2;
-const AFE: u8 = 3;
+use crate::{frames, stores};
+use inputs::frames::{frame, AFE, FE};
+use inputs::random::Random;
+use inputs::sizes::{FRAME_BYTES, UNIT_BYTES};
 
 /// Units made of every number: all three near the ranges, and each from 0 to 255 alone.
 pub fn make_all(pair: &mut Pair, random: &mut Random) -> Compared<()> {
@@ -49,20 +46,25 @@ pub fn press_and_hear_all(pair: &mut Pair, random: &mut Random) -> Compared<()> 
             pair.press(&mut unit, button, &mut given)?;
         }
         let [train, _, end, at, _] = bytes;
-        let ahead = if at < end {
-            at + 1
-        } else {
-            at.saturating_sub(1)
-        };
+        let ahead = ahead(at, end);
         for kind in 0..6 {
-            for posts in [[at, ahead], [ahead, at]] {
+            for [from, to] in [[at, ahead], [ahead, at]] {
                 unit.set(&bytes);
-                heard.set(&[0, 5, 1, kind, train, posts[0], posts[1]]);
+                heard.set(&frame(kind, train, from, to));
                 pair.hear(&mut unit, &heard)?;
             }
         }
     }
     Ok(())
+}
+
+/// The post after this one on the way to the end. At the end, some other post.
+fn ahead(at: u8, end: u8) -> u8 {
+    if at < end {
+        at + 1
+    } else {
+        at.wrapping_sub(1)
+    }
 }
 
 /// Train 0 to 6, start, end and present post 0 to 8, phase 0 to 6.
@@ -147,8 +149,7 @@ fn hear(pair: &mut Pair, unit: &mut Lent, random: &mut Random) -> Compared<()> {
 
 fn own_frame(unit: &[u8], random: &mut Random) -> [u8; FRAME_BYTES] {
     let [train, _, end, at, _] = *unit else {
-        return [0, 5, 1, FE, 0, 0, 1];
+        return frame(FE, 0, 0, 1);
     };
-    let ahead = if at < end { at + 1 } else { at.wrapping_sub(1) };
-    [0, 5, 1, random.pick(&[FE, AFE]), train, at, ahead]
+    frame(random.pick(&[FE, AFE]), train, at, ahead(at, end))
 }

@@ -5,7 +5,8 @@
 //!
 //! Inputs are a book and frames as the program reads them. Random ones have fixed seeds.
 
-use corpus::inputs;
+mod stored;
+
 use std::path::Path;
 use std::{env, fs, process};
 
@@ -24,7 +25,7 @@ fn main() {
 
 fn write_inputs(folder: &Path) -> Result<(), String> {
     fs::create_dir_all(folder).map_err(|e| e.to_string())?;
-    for (name, bytes) in inputs::all() {
+    for (name, bytes) in stored::all() {
         fs::write(folder.join(&name), bytes).map_err(|e| format!("{name}: {e}"))?;
         println!("{name}");
     }

@@ -4,6 +4,8 @@
 //!
 //! SHIM is `read.c` as a shared object. What must be printed is what the model says of a reader with the same reads.
 
+use inputs::books::X;
+use inputs::frames::{frame, FA};
 use std::io::{self, Read, Write};
 use std::process::{self, Command, Stdio};
 use std::{env, fs};
@@ -72,9 +74,8 @@ fn printed(program: &str, shim: &str, bytes: &[u8], reads: Reads) -> io::Result<
 
 /// A short input: the paper's book X, two requests and three bytes of a frame.
 fn short_input() -> Vec<u8> {
-    let book = [0, 10, 1, 3, 1, 2, 1, 2, 0, 2, 2, 0];
-    let ask = [0, 5, 1, 1, 0, 0, 1];
-    [&book[..], &ask, &ask, &ask[..3]].concat()
+    let ask = frame(FA, 0, 0, 1);
+    [&X[..], &ask, &ask, &ask[..3]].concat()
 }
 
 /// Every input with the ways in which it is read.

@@ -1,65 +1,11 @@
-//! The two implementations behind one interface: the proved code, and the model dressed in the
-//! byte layouts of the C interface. What is expected comes from the model alone.
+//! The model behind the C interface: its structs as bytes, and the refusals that the bytes add.
 
-use crate::layout::{
-    line_bytes, put_records, records_of, state_bytes, state_of, unit_bytes, unit_of, FRAME_BYTES,
-    LINE_BYTES, STATE_BYTES, UNIT_BYTES,
+use boundary::Ends;
+use inputs::encoding::{
+    line_bytes, put_records, records_of, state_bytes, state_of, unit_bytes, unit_of,
 };
+use inputs::sizes::{FRAME_BYTES, LINE_BYTES, STATE_BYTES, UNIT_BYTES};
 use model::{unit, Button, Verdict};
-
-/// The six functions of the C interface for the two ends. Each answers the refusal's number in its low byte and
-/// the number of frames written in the next.
-pub trait Ends {
-    fn read_book(&self, book: &[u8], line: &mut [u8]) -> u32;
-    fn open(&self, book: &[u8], state: &mut [u8], table: &mut [u8], journal: &[u8]) -> u32;
-    fn answer(
-        &self,
-        state: &mut [u8],
-        table: &[u8],
-        journal: &mut [u8],
-        frame: &[u8],
-        out: &mut [u8],
-    ) -> u32;
-    fn make_unit(&self, train: u8, start: u8, end: u8, unit: &mut [u8]) -> u32;
-    fn press(&self, unit: &mut [u8], button: u8, frame: &mut [u8]) -> u32;
-    fn hear(&self, unit: &mut [u8], frame: &[u8]) -> u32;
-}
-
-/// The proved code, through the linked library.
-pub struct Proved;
-
-impl Ends for Proved {
-    fn read_book(&self, book: &[u8], line: &mut [u8]) -> u32 {
-        boundary::read_book(book, line)
-    }
-
-    fn open(&self, book: &[u8], state: &mut [u8], table: &mut [u8], journal: &[u8]) -> u32 {
-        boundary::open(book, state, table, journal)
-    }
-
-    fn answer(
-        &self,
-        state: &mut [u8],
-        table: &[u8],
-        journal: &mut [u8],
-        frame: &[u8],
-        out: &mut [u8],
-    ) -> u32 {
-        boundary::answer(state, table, journal, frame, out)
-    }
-
-    fn make_unit(&self, train: u8, start: u8, end: u8, unit: &mut [u8]) -> u32 {
-        boundary::make_unit(train, start, end, unit)
-    }
-
-    fn press(&self, unit: &mut [u8], button: u8, frame: &mut [u8]) -> u32 {
-        boundary::press(unit, button, frame)
-    }
-
-    fn hear(&self, unit: &mut [u8], frame: &[u8]) -> u32 {
-        boundary::hear(unit, frame)
-    }
-}
 
 /// The model, with what the C interface adds to it: the lengths of the buffers for a line, a
 /// state and a unit, bytes that encode nothing, numbers that are no button.

@@ -1,18 +1,27 @@
-//! Pseudo-random numbers (splitmix64). The same seed gives the same run on every machine.
+//! Pseudo-random numbers. The same seed gives the same numbers on every machine, and from one version of the tests to
+//! the next: inputs are stored, and runs written down by their seed.
 
-pub struct Random(u64);
+/// Splitmix64, and xorshift64 for the stored runs.
+pub enum Random {
+    Splitmix(u64),
+    Xorshift(u64),
+}
 
 impl Random {
     pub fn new(seed: u64) -> Random {
-        Random(seed)
+        Random::Splitmix(seed)
+    }
+
+    /// The numbers of the stored runs. A seed is not 0.
+    pub fn of_stored_runs(seed: u64) -> Random {
+        Random::Xorshift(seed)
     }
 
     fn next(&mut self) -> u64 {
-        self.0 = self.0.wrapping_add(0x9E37_79B9_7F4A_7C15);
-        let mut z = self.0;
-        z = (z ^ (z >> 30)).wrapping_mul(0xBF58_476D_1CE4_E5B9);
-        z = (z ^ (z >> 27)).wrapping_mul(0x94D0_49BB_1331_11EB);
-        z ^ (z >> 31)
+        match self {
+            Random::Splitmix(state) => splitmix(state),
+            Random::Xorshift(state) => xorshift(state),
+        }
     }
 
     /// A number below `n`.
@@ -65,4 +74,19 @@ impl Random {
             }
         }
     }
+}
+
+fn splitmix(state: &mut u64) -> u64 {
+    *state = state.wrapping_add(0x9E37_79B9_7F4A_7C15);
+    let mut z = *state;
+    z = (z ^ (z >> 30)).wrapping_mul(0xBF58_476D_1CE4_E5B9);
+    z = (z ^ (z >> 27)).wrapping_mul(0x94D0_49BB_1331_11EB);
+    z ^ (z >> 31)
+}
+
+fn xorshift(state: &mut u64) -> u64 {
+    *state ^= *state << 13;
+    *state ^= *state >> 7;
+    *state ^= *state << 17;
+    *state
 }

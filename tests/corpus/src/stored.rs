@@ -1,0 +1,216 @@
+//! Every stored input by name: refused books, refused frames, torn tails, and whole runs.
+
+use inputs::books::{book, with_length, X, Y};
+use inputs::crews;
+use inputs::frames::{frame, AFE, AM, FA, FE};
+use inputs::random::Random;
+use inputs::sizes::FRAME_BYTES;
+
+type Input = (String, Vec<u8>);
+type Frame = [u8; FRAME_BYTES];
+
+/// Books that are refused, most of them book X with one byte changed.
+const BOOKS: [(&str, &[u8]); 19] = [
+    ("book-empty", &[]),
+    ("book-one-byte", &[0]),
+    ("book-length-only", &[0, 0]),
+    ("book-three-bytes", &[0, 1, 1]),
+    ("book-length-too-large", &x_with(1, 0x0B)),
+    ("book-length-too-small", &x_with(1, 0x09)),
+    ("book-length-high-byte", &x_with(0, 1)),
+    ("book-ends-early", X.split_at(9).0),
+    ("book-other-edition", &x_with(2, 2)),
+    ("book-one-post", &x_with(3, 1)),
+    ("book-nine-posts", &x_with(3, 9)),
+    ("book-posts-past-the-end", &[0, 3, 1, 8, 1]),
+    ("book-no-track", &x_with(4, 0)),
+    ("book-five-tracks", &x_with(4, 5)),
+    ("book-no-train", &x_with(7, 0)),
+    ("book-seven-trains", &x_with(7, 7)),
+    ("book-total-differs", &x_with(7, 1)),
+    ("book-start-off-the-line", &x_with(8, 3)),
+    ("book-end-off-the-line", &x_with(11, 3)),
+];
+
+const ASK: Frame = frame(FA, 0, 0, 1);
+
+/// Frames after book X.
+const ON_X: [(&str, &[Frame]); 17] = [
+    (
+        "frame-run-of-the-paper",
+        &[
+            ASK,
+            frame(FA, 1, 2, 1),
+            frame(AM, 0, 0, 1),
+            frame(FA, 0, 1, 2),
+            frame(AM, 1, 2, 1),
+            frame(FA, 1, 1, 0),
+            frame(AM, 0, 1, 2),
+            frame(AM, 1, 1, 0),
+        ],
+    ),
+    ("frame-none", &[]),
+    ("frame-other-length", &[[0, 6, 1, 1, 0, 0, 1], ASK]),
+    ("frame-high-length-byte", &[[1, 5, 1, 1, 0, 0, 1]]),
+    ("frame-other-edition", &[[0, 5, 2, 9, 0, 0, 1]]),
+    ("frame-torn-and-other-edition", &[[0, 6, 2, 1, 0, 0, 1]]),
+    ("frame-kind-0", &[frame(0, 0, 0, 1)]),
+    ("frame-kind-5", &[frame(5, 0, 0, 1)]),
+    ("frame-kind-255", &[frame(255, 255, 255, 255)]),
+    ("frame-authority-at-the-box", &[frame(FE, 0, 0, 1)]),
+    (
+        "frame-wrong-end-before-unknown-train",
+        &[frame(FE, 9, 9, 9), frame(AFE, 9, 9, 9)],
+    ),
+    (
+        "frame-unknown-train",
+        &[frame(FA, 2, 0, 1), frame(FA, 255, 0, 1)],
+    ),
+    (
+        "frame-wrong-post",
+        &[frame(FA, 0, 1, 2), frame(FA, 0, 0, 2), frame(AM, 0, 1, 2)],
+    ),
+    ("frame-asked-twice", &[ASK, ASK]),
+    (
+        "frame-wrong-post-before-authority",
+        &[ASK, frame(FA, 0, 1, 2)],
+    ),
+    ("frame-arrival-without-authority", &[frame(AM, 0, 0, 1)]),
+    (
+        "frame-at-its-end",
+        &[
+            ASK,
+            frame(AM, 0, 0, 1),
+            frame(FA, 0, 1, 2),
+            frame(FA, 1, 2, 1),
+            frame(AM, 1, 2, 1),
+            frame(AM, 0, 1, 2),
+            frame(FA, 0, 2, 2),
+            frame(AM, 0, 1, 2),
+            frame(AM, 0, 0, 0),
+        ],
+    ),
+];
+
+pub fn all() -> Vec<Input> {
+    let mut inputs: Vec<Input> = Vec::new();
+    inputs.extend(BOOKS.map(|(name, bytes)| (name.to_string(), bytes.to_vec())));
+    inputs.extend(ON_X.map(|(name, frames)| on(&X, name, frames)));
+    inputs.extend(made_books());
+    inputs.extend(frames());
+    inputs.extend(tails());
+    inputs.extend(runs());
+    inputs.sort();
+    inputs
+}
+
+/// Book X with one byte changed.
+const fn x_with(at: usize, byte: u8) -> [u8; X.len()] {
+    let mut bytes = X;
+    bytes[at] = byte;
+    bytes
+}
+
+/// Six trains on eight posts, three each way.
+fn largest() -> Vec<u8> {
+    book(
+        &[4, 3, 2, 2, 2, 2, 3, 4],
+        &[[0, 7], [7, 0], [0, 6], [7, 1], [1, 7], [6, 0]],
+    )
+}
+
+/// A book and frames.
+fn on(book: &[u8], name: &str, frames: &[Frame]) -> Input {
+    (name.to_string(), [book, frames.as_flattened()].concat())
+}
+
+/// Books of other lines than X, with frames where they are accepted.
+fn made_books() -> Vec<Input> {
+    let on_line = |name, tracks: &[u8], routes: &[[u8; 2]], frames: &[Frame]| {
+        on(&book(tracks, routes), name, frames)
+    };
+    let longer = with_length([&largest()[..], &[0, 0]].concat());
+    let arrival = frame(AM, 0, 0, 1);
+    let parked = [[0, 0], [0, 1], [1, 1]];
+    vec![
+        on(&x_with(4, 4), "book-four-tracks", &[ASK]),
+        on(&x_with(10, 0), "book-overfull", &[]),
+        on_line("book-no-way-through", &[1, 1, 1], &[[0, 2], [2, 0]], &[]),
+        on_line("book-ends-overfull", &[1, 1, 1], &[[0, 2], [1, 2]], &[]),
+        on_line("book-smallest", &[1, 1], &[[0, 1]], &[ASK, arrival]),
+        on(&largest(), "book-longest", &[ASK]),
+        on(&longer, "book-longer-than-the-longest", &[ASK]),
+        on(&[0xFF; 60], "book-names-ffff", &[]),
+        on_line(
+            "book-parked-trains",
+            &[2, 2],
+            &parked,
+            &[frame(FA, 1, 0, 1), ASK],
+        ),
+    ]
+}
+
+/// Frames after book Y, and many refused ones.
+fn frames() -> Vec<Input> {
+    let declined = frame(FA, 2, 2, 1);
+    vec![
+        on(&Y, "frame-declined-by-the-table", &[declined]),
+        on(&Y, "frame-declined-then-asked-again", &[declined; 2]),
+        on(&Y, "frame-granted-on-y", &[ASK]),
+        on(&X, "frame-refused-only", &[[0xFF; FRAME_BYTES]; 40]),
+    ]
+}
+
+/// Inputs that end within a frame, after whole ones or a stray byte.
+fn tails() -> Vec<Input> {
+    let after_x =
+        |name: &str, rest: &[&[u8]]| (name.to_string(), [&X, &rest.concat()[..]].concat());
+    let mut inputs: Vec<Input> = (1..FRAME_BYTES)
+        .map(|n| after_x(&format!("tail-of-{n}"), &[&ASK, &vec![0; n]]))
+        .collect();
+    inputs.push(after_x("tail-alone", &[&[0, 5]]));
+    inputs.push(after_x(
+        "tail-after-a-shift",
+        &[&[0], &ASK, &frame(AM, 0, 0, 1)],
+    ));
+    inputs
+}
+
+/// Runs in which crews ask and report in a random order, among stray frames, until all are home.
+fn runs() -> Vec<Input> {
+    let mut inputs = Vec::new();
+    for (name, book) in [("x", X.to_vec()), ("y", Y.to_vec()), ("largest", largest())] {
+        for seed in 1..=6 {
+            let random = &mut Random::of_stored_runs(seed * 7919);
+            inputs.extend(run_home(format!("run-{name}-{seed}"), &book, random));
+        }
+    }
+    for seed in 1..=6 {
+        let random = &mut Random::of_stored_runs(seed * 104_729);
+        let book = random_book(random);
+        inputs.extend(run_home(format!("run-random-{seed}"), &book, random));
+    }
+    inputs
+}
+
+/// A random book that opens.
+fn random_book(random: &mut Random) -> Vec<u8> {
+    loop {
+        let posts = random.between(3, 8);
+        let tracks: Vec<u8> = (0..posts).map(|_| random.between(1, 4)).collect();
+        let routes: Vec<[u8; 2]> = (0..random.between(3, 6))
+            .map(|_| [(); 2].map(|()| random.between(0, posts - 1)))
+            .collect();
+        let book = book(&tracks, &routes);
+        if crews::open(&book).is_some() {
+            return book;
+        }
+    }
+}
+
+/// The book and the frames of a run of it; none where the book is refused.
+fn run_home(name: String, book: &[u8], random: &mut Random) -> Option<Input> {
+    let opened = crews::open(book)?;
+    let frames = crews::run(&opened, random).flat_map(|turn| turn.frame);
+    Some((name, book.iter().copied().chain(frames).collect()))
+}

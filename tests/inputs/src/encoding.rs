@@ -1,0 +1,149 @@
+//! States, units, lines and records as the bytes of the C interface.
+
+use crate::sizes::{
+    COUNT_AT, FLEET_AT, LINE_BYTES, RECORD_BYTES, ROUTE_BYTES, STATE_BYTES, TRACKS_AT, TRAINS_AT,
+    TRAIN_BYTES, UNIT_BYTES,
+};
+use model::{Line, Record, Standing, State, Train, Unit, UnitState};
+
+/// Where the bytes of a train have what.
+pub mod train_at {
+    pub const START: usize = 0;
+    pub const END: usize = 1;
+    pub const POST: usize = 2;
+    pub const STATUS: usize = 3;
+    pub const REQUEST: usize = 4;
+}
+
+/// Where the bytes of a unit have its phase.
+pub const PHASE_AT: usize = 4;
+
+pub const FREE: u8 = 0;
+pub const ASKED: u8 = 1;
+pub const RUNNING: u8 = 2;
+
+const PHASES: [UnitState; 6] = [
+    UnitState::Standing,
+    UnitState::Asked,
+    UnitState::Declined,
+    UnitState::Granted,
+    UnitState::UnderWay,
+    UnitState::Arrived,
+];
+
+pub fn line_bytes(line: &Line) -> [u8; LINE_BYTES] {
+    let mut bytes = [0; LINE_BYTES];
+    bytes[0] = line.posts;
+    bytes[TRACKS_AT..TRAINS_AT].copy_from_slice(&line.tracks);
+    bytes[TRAINS_AT] = line.trains;
+    let places = bytes[FLEET_AT..].chunks_exact_mut(ROUTE_BYTES);
+    for ((start, end), place) in line.starts.iter().zip(&line.ends).zip(places) {
+        place.copy_from_slice(&[*start, *end]);
+    }
+    bytes
+}
+
+pub fn state_bytes(state: &State) -> [u8; STATE_BYTES] {
+    let mut bytes = [0; STATE_BYTES];
+    bytes[0] = state.posts;
+    bytes[TRACKS_AT..TRAINS_AT].copy_from_slice(&state.tracks);
+    bytes[TRAINS_AT] = state.trains;
+    let places = bytes[FLEET_AT..].chunks_exact_mut(TRAIN_BYTES);
+    for (train, place) in state.train.iter().zip(places) {
+        let (status, number) = match train.standing {
+            Standing::Free => (FREE, 0),
+            Standing::Asked(number) => (ASKED, number),
+            Standing::Running => (RUNNING, 0),
+        };
+        place.copy_from_slice(&[train.start, train.end, train.at, status, number]);
+    }
+    bytes[COUNT_AT] = state.journal;
+    bytes
+}
+
+/// The state that the bytes encode; none for another length, another status, or a number where
+/// the status is not Asked.
+pub fn state_of(bytes: &[u8]) -> Option<State> {
+    if bytes.len() != STATE_BYTES {
+        return None;
+    }
+    let mut state = State {
+        posts: bytes[0],
+        trains: bytes[TRAINS_AT],
+        journal: bytes[COUNT_AT],
+        ..State::EMPTY
+    };
+    state.tracks.copy_from_slice(&bytes[TRACKS_AT..TRAINS_AT]);
+    let places = bytes[FLEET_AT..].chunks_exact(TRAIN_BYTES);
+    for (train, place) in state.train.iter_mut().zip(places) {
+        *train = train_of(place)?;
+    }
+    Some(state)
+}
+
+fn train_of(place: &[u8]) -> Option<Train> {
+    let [start, end, at, status, number] = *place else {
+        return None;
+    };
+    let standing = match (status, number) {
+        (FREE, 0) => Standing::Free,
+        (ASKED, number) => Standing::Asked(number),
+        (RUNNING, 0) => Standing::Running,
+        _ => return None,
+    };
+    Some(Train {
+        start,
+        end,
+        at,
+        standing,
+    })
+}
+
+/// The bytes of the trains that a state's bytes say there are, whether or not they encode a state.
+pub fn trains_in(state: &[u8]) -> impl Iterator<Item = &[u8]> {
+    let trains = state.get(TRAINS_AT).copied().unwrap_or(0);
+    let places = state.get(FLEET_AT..).unwrap_or(&[]);
+    places.chunks_exact(TRAIN_BYTES).take(usize::from(trains))
+}
+
+/// The train of these bytes stands at its end.
+pub fn is_home(train: &[u8]) -> bool {
+    train[train_at::POST] == train[train_at::END]
+}
+
+/// The whole records of a journal; what is left over is none.
+pub fn records_of(journal: &[u8]) -> Vec<Record> {
+    let record = |r: &[u8]| Record {
+        kind: r[0],
+        train: r[1],
+        from: r[2],
+        to: r[3],
+    };
+    journal.chunks_exact(RECORD_BYTES).map(record).collect()
+}
+
+pub fn put_records(records: &[Record], journal: &mut [u8]) {
+    for (r, place) in records.iter().zip(journal.chunks_exact_mut(RECORD_BYTES)) {
+        place.copy_from_slice(&[r.kind, r.train, r.from, r.to]);
+    }
+}
+
+pub fn unit_bytes(unit: &Unit) -> [u8; UNIT_BYTES] {
+    let is_its = |phase: &UnitState| *phase == unit.state;
+    let phase = PHASES.iter().position(is_its).unwrap_or(0) as u8;
+    [unit.train, unit.start, unit.end, unit.at, phase]
+}
+
+/// The unit that the bytes encode; none for another length or a phase above 5.
+pub fn unit_of(bytes: &[u8]) -> Option<Unit> {
+    let [train, start, end, at, phase] = *bytes else {
+        return None;
+    };
+    Some(Unit {
+        train,
+        start,
+        end,
+        at,
+        state: *PHASES.get(usize::from(phase))?,
+    })
+}

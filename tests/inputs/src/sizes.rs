@@ -1,0 +1,22 @@
+//! Sizes, each said once: the model's are the paper's, the others are those of the C interface.
+
+pub use model::{FRAME_BYTES, JOURNAL_RECORDS, LONGEST_BOOK, OUT_BYTES, TABLE_BYTES};
+
+pub const RECORD_BYTES: usize = 4;
+pub const JOURNAL_BYTES: usize = RECORD_BYTES * JOURNAL_RECORDS;
+
+/// A line and a state begin alike: the posts, the tracks of eight posts, the trains. Then come the six trains.
+pub const TRACKS_AT: usize = 1;
+pub const TRAINS_AT: usize = TRACKS_AT + 8;
+pub const FLEET_AT: usize = TRAINS_AT + 1;
+
+/// Of a train a line has its start and end.
+pub const ROUTE_BYTES: usize = 2;
+pub const LINE_BYTES: usize = FLEET_AT + 6 * ROUTE_BYTES;
+
+/// Of a train a state has five bytes; last comes the journal's count.
+pub const TRAIN_BYTES: usize = 5;
+pub const COUNT_AT: usize = FLEET_AT + 6 * TRAIN_BYTES;
+pub const STATE_BYTES: usize = COUNT_AT + 1;
+
+pub const UNIT_BYTES: usize = 5;
