@@ -1,5 +1,6 @@
 //! What a run has reached, and what it must have reached to be worth anything.
 
+use inputs::sizes::{FRAME_BYTES, OUT_BYTES};
 use std::collections::BTreeMap;
 
 /// The six entry points, in the order of the columns.
@@ -36,24 +37,32 @@ const PHASES: [&str; 6] = [
 /// Refusal numbers 0 (none) to 22.
 const NUMBERS: usize = 23;
 
-/// At most six frames go out.
-const MOST_SENT: usize = 6;
+const MOST_SENT: usize = OUT_BYTES / FRAME_BYTES;
 
-#[derive(Default)]
 pub struct Counts {
     inputs: BTreeMap<&'static str, u64>,
-    refusals: [[u64; NUMBERS]; 6],
+    refusals: [[u64; NUMBERS]; ENTRIES.len()],
     sent: [u64; MOST_SENT + 1],
-    statuses: [u64; 3],
-    phases: [u64; 6],
+    statuses: [u64; STATUSES.len()],
+    phases: [u64; PHASES.len()],
 }
 
 impl Counts {
+    pub fn new() -> Counts {
+        Counts {
+            inputs: BTreeMap::new(),
+            refusals: [[0; NUMBERS]; ENTRIES.len()],
+            sent: [0; MOST_SENT + 1],
+            statuses: [0; STATUSES.len()],
+            phases: [0; PHASES.len()],
+        }
+    }
+
     pub fn input(&mut self, kind: &'static str) {
         *self.inputs.entry(kind).or_default() += 1;
     }
 
-    /// A number above 22 is none of the paper's: it is counted nowhere and says so.
+    /// A higher number is none of the paper's: it is counted nowhere and says so.
     pub fn refusal(&mut self, entry: Entry, number: u8) -> bool {
         match self.refusals[entry as usize].get_mut(usize::from(number)) {
             Some(count) => {

@@ -7,7 +7,7 @@ use inputs::random::Random;
 const BACK_GUARD: [u8; 16] = *b"behind the store";
 
 /// The two that are compared.
-#[derive(Debug, Clone, Copy, PartialEq)]
+#[derive(Clone, Copy)]
 pub enum Side {
     Proved,
     Model,

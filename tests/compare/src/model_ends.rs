@@ -2,10 +2,10 @@
 
 use boundary::Ends;
 use inputs::encoding::{
-    line_bytes, put_records, records_of, state_bytes, state_of, unit_bytes, unit_of,
+    line_bytes, put_records, records_of, state_bytes, state_of, unit_bytes, unit_of, BUTTONS,
 };
 use inputs::sizes::{FRAME_BYTES, LINE_BYTES, STATE_BYTES, UNIT_BYTES};
-use model::{unit, Button, Verdict};
+use model::{unit, Verdict};
 
 /// The model, with what the C interface adds to it: the lengths of the buffers for a line, a
 /// state and a unit, bytes that encode nothing, numbers that are no button.
@@ -74,10 +74,10 @@ impl Ends for Model {
         if frame.len() < FRAME_BYTES {
             return 2;
         }
-        let Some(button) = button_of(button) else {
+        let Some(button) = BUTTONS.get(usize::from(button)) else {
             return 21;
         };
-        let (after, number, given) = unit::press(&before, button);
+        let (after, number, given) = unit::press(&before, *button);
         unit.copy_from_slice(&unit_bytes(&after));
         match given {
             Some(bytes) => {
@@ -95,15 +95,5 @@ impl Ends for Model {
         let (after, number) = unit::hear(&before, frame);
         unit.copy_from_slice(&unit_bytes(&after));
         number.into()
-    }
-}
-
-fn button_of(number: u8) -> Option<Button> {
-    match number {
-        0 => Some(Button::Ask),
-        1 => Some(Button::Depart),
-        2 => Some(Button::Reached),
-        3 => Some(Button::Report),
-        _ => None,
     }
 }

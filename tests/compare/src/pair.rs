@@ -31,7 +31,7 @@ impl Pair {
         Pair {
             proved,
             model,
-            counts: Counts::default(),
+            counts: Counts::new(),
         }
     }
 

@@ -6,7 +6,7 @@ use crate::lent::Lent;
 use crate::openings::Opened;
 use crate::pair::{Compared, Pair};
 use crate::{frames, states, stores};
-use inputs::encoding::{is_home, train_at, trains_in, ASKED, PHASE_AT};
+use inputs::encoding::{is_home, train_at, trains_in, ASKED, NO_BUTTON, PHASE_AT};
 use inputs::random::Random;
 use inputs::sizes::{FRAME_BYTES, UNIT_BYTES};
 
@@ -141,7 +141,7 @@ fn step_with_units(
     let crew = random.below(units.len());
     let unit = &mut units[crew];
     let button = if random.one_in(8) {
-        random.between(0, 4)
+        random.between(0, NO_BUTTON)
     } else {
         button_due(unit.bytes()[PHASE_AT])
     };

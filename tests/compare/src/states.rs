@@ -2,7 +2,7 @@
 
 use inputs::encoding::{state_bytes, state_of, train_at, ASKED, RUNNING};
 use inputs::random::Random;
-use inputs::sizes::{FLEET_AT, JOURNAL_RECORDS, STATE_BYTES, TRAIN_BYTES};
+use inputs::sizes::{FLEET_AT, JOURNAL_RECORDS, RECORDS_A_FRAME, STATE_BYTES, TRAIN_BYTES};
 use model::{Standing, State, Train};
 
 /// A state of some kind. `opened` is the first state of a book, for states of its line.
@@ -160,13 +160,13 @@ fn give_standings(state: &mut State, random: &mut Random) -> usize {
 
 /// A journal count, often near the full journal, and distinct FA numbers below it.
 fn give_count(state: &mut State, asked: usize, random: &mut Random) {
-    let full = JOURNAL_RECORDS as u8;
+    let (full, a_frame) = (JOURNAL_RECORDS as u8, RECORDS_A_FRAME as u8);
     let least = asked as u8;
     state.journal = match random.below(8) {
-        0 | 1 => random.between(full - 14, full),
+        0 | 1 => random.between(full - 2 * a_frame, full),
         2 => least,
         // The highest count at which a frame is taken.
-        3 => full - 7,
+        3 => full - a_frame,
         _ => random.between(least, full),
     };
     let mut taken = Vec::new();

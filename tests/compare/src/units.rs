@@ -3,7 +3,8 @@
 use crate::lent::Lent;
 use crate::pair::{Compared, Pair};
 use crate::{frames, stores};
-use inputs::frames::{frame, AFE, FE};
+use inputs::encoding::NO_BUTTON;
+use inputs::frames::{frame, AFE, AM, FE};
 use inputs::random::Random;
 use inputs::sizes::{FRAME_BYTES, UNIT_BYTES};
 
@@ -38,16 +39,16 @@ pub fn press_and_hear_all(pair: &mut Pair, random: &mut Random) -> Compared<()> 
     let mut unit = Lent::new(&[], random);
     let mut given = Lent::random(FRAME_BYTES, random);
     let mut heard = Lent::new(&[], random);
-    for number in 0..7 * 9 * 9 * 9 * 7 {
+    for number in 0..NEAR.iter().product() {
         let bytes = digits(number);
         pair.counts.input("unit: each one near the ranges");
-        for button in 0..5 {
+        for button in 0..=NO_BUTTON {
             unit.set(&bytes);
             pair.press(&mut unit, button, &mut given)?;
         }
         let [train, _, end, at, _] = bytes;
         let ahead = ahead(at, end);
-        for kind in 0..6 {
+        for kind in 0..=AM + 1 {
             for [from, to] in [[at, ahead], [ahead, at]] {
                 unit.set(&bytes);
                 heard.set(&frame(kind, train, from, to));
@@ -68,8 +69,10 @@ fn ahead(at: u8, end: u8) -> u8 {
 }
 
 /// Train 0 to 6, start, end and present post 0 to 8, phase 0 to 6.
+const NEAR: [usize; UNIT_BYTES] = [7, 9, 9, 9, 7];
+
 fn digits(mut number: usize) -> [u8; UNIT_BYTES] {
-    [7, 9, 9, 9, 7].map(|base| {
+    NEAR.map(|base| {
         let digit = number % base;
         number /= base;
         digit as u8
@@ -120,7 +123,7 @@ fn valid(random: &mut Random) -> Vec<u8> {
 fn press(pair: &mut Pair, unit: &mut Lent, random: &mut Random) -> Compared<()> {
     let button = match random.below(8) {
         0 => random.byte(),
-        _ => random.between(0, 4),
+        _ => random.between(0, NO_BUTTON),
     };
     let room = match random.below(8) {
         0 => random.below(FRAME_BYTES),

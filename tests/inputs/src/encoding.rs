@@ -4,7 +4,7 @@ use crate::sizes::{
     COUNT_AT, FLEET_AT, LINE_BYTES, RECORD_BYTES, ROUTE_BYTES, STATE_BYTES, TRACKS_AT, TRAINS_AT,
     TRAIN_BYTES, UNIT_BYTES,
 };
-use model::{Line, Record, Standing, State, Train, Unit, UnitState};
+use model::{Button, Line, Record, Standing, State, Train, Unit, UnitState};
 
 /// Where the bytes of a train have what.
 pub mod train_at {
@@ -22,6 +22,7 @@ pub const FREE: u8 = 0;
 pub const ASKED: u8 = 1;
 pub const RUNNING: u8 = 2;
 
+/// The phases by their numbers.
 const PHASES: [UnitState; 6] = [
     UnitState::Standing,
     UnitState::Asked,
@@ -30,6 +31,12 @@ const PHASES: [UnitState; 6] = [
     UnitState::UnderWay,
     UnitState::Arrived,
 ];
+
+/// The buttons by their numbers.
+pub const BUTTONS: [Button; 4] = [Button::Ask, Button::Depart, Button::Reached, Button::Report];
+
+/// The lowest number that is no button.
+pub const NO_BUTTON: u8 = BUTTONS.len() as u8;
 
 pub fn line_bytes(line: &Line) -> [u8; LINE_BYTES] {
     let mut bytes = [0; LINE_BYTES];

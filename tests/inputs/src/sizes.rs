@@ -1,6 +1,8 @@
 //! Sizes, each said once: the model's are the paper's, the others are those of the C interface.
 
-pub use model::{FRAME_BYTES, JOURNAL_RECORDS, LONGEST_BOOK, OUT_BYTES, TABLE_BYTES};
+pub use model::{
+    FRAME_BYTES, JOURNAL_RECORDS, LONGEST_BOOK, OUT_BYTES, RECORDS_A_FRAME, TABLE_BYTES,
+};
 
 pub const RECORD_BYTES: usize = 4;
 pub const JOURNAL_BYTES: usize = RECORD_BYTES * JOURNAL_RECORDS;

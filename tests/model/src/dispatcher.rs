@@ -2,7 +2,7 @@
 //! book, and the answer to a frame (refusals 1 to 13, 19, 20).
 
 use crate::frame::{read_frame, write_frame, Message, Move, FRAME_BYTES};
-use crate::journal::{log, Record, JOURNAL_RECORDS};
+use crate::journal::{log, Record, JOURNAL_RECORDS, RECORDS_A_FRAME};
 use crate::line::{read_book, Line};
 use crate::table::{bit, code, fill, lawful, TABLE_BYTES};
 
@@ -222,7 +222,7 @@ fn accept(state: &State, frame: &[u8]) -> Result<Message, u8> {
         (Message::Fa(_), Standing::Free) | (_, Standing::Running) => {}
         (_, _) => return Err(12),
     }
-    if JOURNAL_RECORDS - usize::from(state.journal) < 7 {
+    if JOURNAL_RECORDS - usize::from(state.journal) < RECORDS_A_FRAME {
         return Err(13);
     }
     Ok(message)

@@ -6,6 +6,9 @@ use crate::frame::Message;
 /// Records a journal must have; more may be lent and stay untouched.
 pub const JOURNAL_RECORDS: usize = 176;
 
+/// Records that a frame adds at the most: its own and six answers.
+pub const RECORDS_A_FRAME: usize = 7;
+
 /// One record. A lent journal can hold any bytes past its count.
 #[derive(Debug, Clone, Copy, PartialEq, Eq)]
 pub struct Record {

@@ -16,7 +16,7 @@ pub mod unit;
 
 pub use dispatcher::{answer, open, sound, Standing, State, Train, Verdict, OUT_BYTES};
 pub use frame::{read_frame, write_frame, Message, Move, FRAME_BYTES};
-pub use journal::{Record, JOURNAL_RECORDS};
+pub use journal::{Record, JOURNAL_RECORDS, RECORDS_A_FRAME};
 pub use line::{read_book, Line, LONGEST_BOOK};
 pub use table::{fill, TABLE_BYTES};
 pub use unit::{Button, Unit, UnitState};

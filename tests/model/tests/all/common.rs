@@ -23,7 +23,7 @@ pub const STATES: [UnitState; 6] = [
 ];
 pub const BUTTONS: [Button; 4] = [Button::Ask, Button::Depart, Button::Reached, Button::Report];
 
-pub fn frame(kind: u8, train: u8, from: u8, to: u8) -> [u8; 7] {
+pub fn frame(kind: u8, train: u8, from: u8, to: u8) -> [u8; FRAME_BYTES] {
     [0, 5, 1, kind, train, from, to]
 }
 
@@ -72,19 +72,19 @@ impl Box {
 
     /// Puts a frame; gives the frames sent (kind, train, from, to) or the refusal.
     pub fn put(&mut self, frame: &[u8]) -> Result<Vec<[u8; 4]>, u8> {
-        let mut out = [0xEE; 42];
+        let mut out = [0xEE; OUT_BYTES];
         let (state, verdict) = answer(&self.state, &self.table, &mut self.journal, frame, &mut out);
         match verdict {
             Verdict::Refused(number) => {
                 assert_eq!(state, self.state);
-                assert_eq!(out, [0xEE; 42]);
+                assert_eq!(out, [0xEE; OUT_BYTES]);
                 Err(number)
             }
             Verdict::Sent(count) => {
                 self.state = state;
-                assert!(out[7 * count..].iter().all(|b| *b == 0xEE));
+                assert!(out[FRAME_BYTES * count..].iter().all(|b| *b == 0xEE));
                 Ok(out
-                    .chunks(7)
+                    .chunks(FRAME_BYTES)
                     .take(count)
                     .map(|f| {
                         assert_eq!(f[..3], [0, 5, 1]);
@@ -99,7 +99,7 @@ impl Box {
 /// The refusal of an opening, with stores of the right size.
 pub fn refusal_of(book: &[u8]) -> u8 {
     let mut table = vec![0; TABLE_BYTES];
-    let (state, refusal) = open(book, &mut table, &[Record::BLANK; 176]);
+    let (state, refusal) = open(book, &mut table, &[Record::BLANK; JOURNAL_RECORDS]);
     assert_eq!(refusal != 0, state == State::EMPTY);
     assert_eq!(refusal == 0, sound(&state));
     refusal

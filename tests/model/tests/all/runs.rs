@@ -177,6 +177,19 @@ impl Tally {
         }
     }
 
+    /// A train's unit knows what the tally knows of it.
+    fn agrees_with(&self, t: usize, unit: &Unit) -> bool {
+        let same = match self.has[t] {
+            Has::Nothing => unit.state == UnitState::Standing,
+            Has::Asked => unit.state == UnitState::Declined,
+            Has::Authority(_, _) => matches!(
+                unit.state,
+                UnitState::Granted | UnitState::UnderWay | UnitState::Arrived
+            ),
+        };
+        same && unit.at == self.post[t] && unit::sound(unit)
+    }
+
     /// Demand 3's standstill clause.
     fn check_standstill(&self) {
         let short: Vec<usize> = (0..self.trains())
@@ -238,54 +251,47 @@ impl Run {
         }
     }
 
-    /// Puts a frame with an out buffer and checks all that is due.
+    /// Puts a frame with an out buffer and checks all that is due. Gives the answers.
     fn put(&mut self, frame: &[u8], out: &mut [u8]) -> Vec<u8> {
-        let state = self.state;
         let journal = self.journal.clone();
         let buffer = out.to_vec();
-        let (after, verdict) = answer(&state, &self.table, &mut self.journal, frame, out);
-        let due = self.tally.refusal(frame, out.len());
-        match verdict {
-            Verdict::Refused(number) => {
-                assert_eq!(number, due);
-                assert_eq!(after, state);
-                assert_eq!(self.journal, journal);
-                assert_eq!(out, buffer);
-                self.refused[usize::from(number)] += 1;
-                self.check();
-                vec![]
-            }
-            Verdict::Sent(sent) => {
-                assert_eq!(due, 0);
-                assert!(sent <= 6);
-                assert_eq!(out[7 * sent..], buffer[7 * sent..]);
-                let answers = out[..7 * sent].to_vec();
+        let (after, verdict) = answer(&self.state, &self.table, &mut self.journal, frame, out);
+        let (due, sent) = match verdict {
+            Verdict::Refused(number) => (number, 0),
+            Verdict::Sent(sent) => (0, sent),
+        };
+        assert_eq!(due, self.tally.refusal(frame, out.len()));
+        let (answers, rest) = out.split_at(FRAME_BYTES * sent);
+        assert_eq!(rest, &buffer[answers.len()..]);
+        if due == 0 {
+            self.accept(frame, after, answers, journal);
+        } else {
+            assert_eq!(after, self.state);
+            assert_eq!(self.journal, journal);
+            self.refused[usize::from(due)] += 1;
+        }
+        self.check();
+        answers.to_vec()
+    }
 
-                // The answers are those due; the tally is brought to them.
-                self.tally.take(frame);
-                assert_eq!(answers, self.tally.answers_due(frame, &self.table));
-                for f in answers.chunks(7) {
-                    if f[3] == 2 {
-                        self.authorities.push([f[4], f[5], f[6]]);
-                    }
-                }
-
-                // The frame and its answers are logged, nothing else changed.
-                let count = usize::from(state.journal);
-                let mut logged = journal;
-                for (n, f) in [frame].into_iter().chain(answers.chunks(7)).enumerate() {
-                    logged[count + n] = record(f[3], f[4], f[5], f[6]);
-                }
-                assert_eq!(self.journal, logged);
-                assert_eq!(usize::from(after.journal), count + 1 + sent);
-
-                self.state = after;
-                self.accepted += 1;
-                self.most_sent = self.most_sent.max(sent);
-                self.check();
-                answers
+    /// The answers to an accepted frame are those due, and are logged with it; nothing else in
+    /// the journal changed.
+    fn accept(&mut self, frame: &[u8], after: State, answers: &[u8], mut journal: Vec<Record>) {
+        self.tally.take(frame);
+        assert_eq!(answers, self.tally.answers_due(frame, &self.table));
+        let count = usize::from(self.state.journal);
+        let sent = answers.chunks(FRAME_BYTES);
+        assert_eq!(usize::from(after.journal), count + 1 + sent.len());
+        self.most_sent = self.most_sent.max(sent.len());
+        for (n, f) in [frame].into_iter().chain(sent).enumerate() {
+            journal[count + n] = record(f[3], f[4], f[5], f[6]);
+            if f[3] == FE {
+                self.authorities.push([f[4], f[5], f[6]]);
             }
         }
+        assert_eq!(self.journal, journal);
+        self.state = after;
+        self.accepted += 1;
     }
 
     /// Demand 3, and the FE counts, after any list of frames.
@@ -338,21 +344,11 @@ impl Run {
         } else {
             rng.within(0, 5)
         };
-        let mut f = vec![
-            0,
-            5,
-            1,
-            kind,
-            t as u8,
-            self.tally.post[t],
-            self.tally.next(t),
-        ];
+        let mut f = frame(kind, t as u8, self.tally.post[t], self.tally.next(t)).to_vec();
         match rng.below(40) {
             0 => {
-                f = {
-                    let length = rng.below(20) as usize;
-                    rng.bytes(length)
-                }
+                let length = rng.below(20) as usize;
+                f = rng.bytes(length);
             }
             1 => f.truncate(rng.below(7) as usize),
             2 => f.push(rng.byte()),
@@ -371,9 +367,9 @@ impl Run {
 
     fn random_out(rng: &mut Rng) -> Vec<u8> {
         let length = if rng.chance(3) {
-            rng.below(42)
+            rng.below(OUT_BYTES as u64)
         } else {
-            42 + rng.below(9)
+            OUT_BYTES as u64 + rng.below(9)
         };
         let fill = rng.byte();
         vec![fill; length as usize]
@@ -432,7 +428,7 @@ fn all_come_home() {
                 _ => FA,
             };
             let f = frame(kind, t as u8, run.tally.post[t], run.tally.next(t));
-            run.put(&f, &mut [0; 42]);
+            run.put(&f, &mut [0; OUT_BYTES]);
         }
         assert!((0..trains).all(|t| !run.tally.short_of_end(t)));
         assert_eq!(run.refused, [0; 23]);
@@ -476,7 +472,6 @@ fn altered_tables() {
 #[test]
 fn both_ends() {
     let mut rng = Rng(0xBE);
-    let buttons = [Button::Ask, Button::Depart, Button::Reached, Button::Report];
     for _ in 0..300 {
         let mut run = Run::open(&mut rng);
         let trains = run.tally.trains();
@@ -488,32 +483,21 @@ fn both_ends() {
                 break;
             }
             let t = rng.below(trains as u64) as usize;
-            let button = buttons[rng.below(4) as usize];
+            let button = BUTTONS[rng.below(4) as usize];
             let (after, refusal, sent) = unit::press(&units[t], button);
             assert!(matches!(refusal, 0 | 8 | 21));
             units[t] = after;
             let Some(f) = sent else { continue };
-            let answers = run.put(&f, &mut [0; 42]);
-            for a in answers.chunks(7) {
+            let answers = run.put(&f, &mut [0; OUT_BYTES]);
+            for a in answers.chunks(FRAME_BYTES) {
                 for u in units.iter_mut() {
                     let (after, refusal) = unit::hear(u, a);
                     assert_eq!(refusal, 0);
                     *u = after;
                 }
             }
-            // The units know what the tally knows.
             for (t, u) in units.iter().enumerate() {
-                assert!(unit::sound(u));
-                assert_eq!(u.at, run.tally.post[t]);
-                let same = match run.tally.has[t] {
-                    Has::Nothing => u.state == UnitState::Standing,
-                    Has::Asked => u.state == UnitState::Declined,
-                    Has::Authority(_, _) => matches!(
-                        u.state,
-                        UnitState::Granted | UnitState::UnderWay | UnitState::Arrived
-                    ),
-                };
-                assert!(same);
+                assert!(run.tally.agrees_with(t, u), "{u:?}");
             }
         }
         assert!(units.iter().all(|u| u.at == u.end));

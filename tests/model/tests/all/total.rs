@@ -58,6 +58,13 @@ fn near(rng: &mut Rng) -> State {
     s
 }
 
+/// Start and end on the line, the present post between them.
+fn on_its_way(t: &Train, posts: u8) -> bool {
+    let up = t.start <= t.at && t.at <= t.end;
+    let down = t.end <= t.at && t.at <= t.start;
+    t.start < posts && t.end < posts && (up || down)
+}
+
 /// Soundness once more, by the paper's words and in another way: each post
 /// with the six-bit set of its holders, each section likewise.
 fn sound_again(s: &State) -> bool {
@@ -67,21 +74,11 @@ fn sound_again(s: &State) -> bool {
     let mut posts = [0u8; 8];
     let mut sections = [0u8; 7];
     let mut numbers = vec![];
-    for t in 0..usize::from(s.trains) {
-        let Train {
-            start,
-            end,
-            at,
-            standing,
-        } = s.train[t];
-        if start >= s.posts || end >= s.posts {
+    for (t, train) in s.train[..usize::from(s.trains)].iter().enumerate() {
+        if !on_its_way(train, s.posts) {
             return false;
         }
-        let up = start <= at && at <= end;
-        let down = end <= at && at <= start;
-        if !up && !down {
-            return false;
-        }
+        let (end, at, standing) = (train.end, train.at, train.standing);
         posts[usize::from(at)] |= 1 << t;
         match standing {
             Standing::Free => {}
@@ -102,38 +99,42 @@ fn sound_again(s: &State) -> bool {
         && numbers.iter().all(|n| *n < s.journal && distinct(n))
 }
 
+/// A frame for one of the trains, or anything.
+fn some_frame(s: &State, rng: &mut Rng) -> Vec<u8> {
+    let t = rng.within(0, 6);
+    match s.train.get(usize::from(t)) {
+        Some(train) if rng.chance(80) => {
+            let next = train.next().unwrap_or(0);
+            frame(if rng.chance(50) { FA } else { AM }, t, train.at, next).to_vec()
+        }
+        _ => {
+            let length = rng.below(10) as usize;
+            rng.bytes(length)
+        }
+    }
+}
+
 #[test]
 fn states_of_all_sorts() {
     let mut rng = Rng(0x5EED);
     let table: Vec<u8> = rng.bytes(TABLE_BYTES);
     let (mut good, mut strange, mut answered) = (0, 0, 0);
     for round in 0..60_000 {
-        let s = if round % 4 == 0 {
-            garbage(&mut rng)
-        } else {
-            near(&mut rng)
+        let s = match round % 4 {
+            0 => garbage(&mut rng),
+            _ => near(&mut rng),
         };
         assert_eq!(sound(&s), sound_again(&s), "{s:?}");
-        let mut journal = vec![record(8, 8, 8, 8); if rng.chance(95) { 176 } else { 175 }];
-        let mut out = vec![
-            0xCC;
-            if rng.chance(95) {
-                42
-            } else {
-                rng.below(42) as usize
-            }
-        ];
-        let t = rng.within(0, 6);
-        let f = match s.train.get(usize::from(t)) {
-            Some(train) if rng.chance(80) => {
-                let next = train.next().unwrap_or(0);
-                frame(if rng.chance(50) { FA } else { AM }, t, train.at, next).to_vec()
-            }
-            _ => {
-                let length = rng.below(10) as usize;
-                rng.bytes(length)
-            }
+        let records = JOURNAL_RECORDS - usize::from(!rng.chance(95));
+        let mut journal = vec![record(8, 8, 8, 8); records];
+        let most = OUT_BYTES as u64;
+        let room = if rng.chance(95) {
+            most
+        } else {
+            rng.below(most)
         };
+        let mut out = vec![0xCC; room as usize];
+        let f = some_frame(&s, &mut rng);
         let (after, verdict) = answer(&s, &table, &mut journal, &f, &mut out);
         match verdict {
             Verdict::Refused(n) => {
@@ -173,12 +174,46 @@ fn units_of_all_sorts() {
         assert!(refusal == 0 || (after == u && sent.is_none()));
         assert!(refusal != 0 || unit::sound(&after));
         let f = frame(rng.within(0, 5), number(&mut rng), u.at, number(&mut rng));
-        let f = &f[..if rng.chance(95) { 7 } else { 6 }];
+        let f = &f[..FRAME_BYTES - usize::from(!rng.chance(95))];
         let (after, refusal) = unit::hear(&u, f);
         assert_eq!(refusal == 1, !unit::sound(&u));
         assert!(refusal == 0 || after == u);
         assert!(refusal != 0 || unit::sound(&after));
     }
+}
+
+/// A book of a random line, as it is, with one or two bytes altered, or of another length.
+fn some_book(rng: &mut Rng) -> Vec<u8> {
+    let (tracks, trains) = rng.line(4, 3, 4);
+    let mut b = book(&tracks, &trains);
+    let altered = match rng.below(4) {
+        0 => 0,
+        1 => 1,
+        2 => {
+            let length = rng.below(30) as usize;
+            b.resize(length, 1);
+            if length >= 2 && rng.chance(70) {
+                b[0] = 0;
+                b[1] = length as u8 - 2;
+            }
+            0
+        }
+        _ => 2,
+    };
+    for _ in 0..altered {
+        let at = rng.below(b.len() as u64) as usize;
+        b[at] = number(rng);
+    }
+    b
+}
+
+/// A book read is the book of its line, byte for byte, and other places are 0.
+fn is_book_of(b: &[u8], line: &Line) -> bool {
+    let p = usize::from(line.posts);
+    let t = usize::from(line.trains);
+    let pairs: Vec<(u8, u8)> = (0..t).map(|t| (line.starts[t], line.ends[t])).collect();
+    let unread = [&line.tracks[p..], &line.starts[t..], &line.ends[t..]].concat();
+    book(&line.tracks[..p], &pairs) == b && unread.iter().all(|n| *n == 0)
 }
 
 /// Random books: each is refused by the first check it fails.
@@ -187,45 +222,16 @@ fn books_of_all_sorts() {
     let mut rng = Rng(0xB00C);
     let mut met = [0u32; 23];
     let mut table = vec![0; TABLE_BYTES];
-    let journal = [Record::BLANK; 176];
+    let journal = [Record::BLANK; JOURNAL_RECORDS];
     for _ in 0..20_000 {
-        let (tracks, trains) = rng.line(4, 3, 4);
-        let mut b = book(&tracks, &trains);
-        match rng.below(4) {
-            0 => {}
-            1 => {
-                let at = rng.below(b.len() as u64) as usize;
-                b[at] = number(&mut rng);
-            }
-            2 => {
-                let length = rng.below(30) as usize;
-                b.resize(length, 1);
-                if length >= 2 && rng.chance(70) {
-                    b[0] = 0;
-                    b[1] = length as u8 - 2;
-                }
-            }
-            _ => {
-                for _ in 0..2 {
-                    let at = rng.below(b.len() as u64) as usize;
-                    b[at] = number(&mut rng);
-                }
-            }
-        }
+        let b = some_book(&mut rng);
         let (state, refusal) = open(&b, &mut table, &journal);
         assert_eq!(refusal == 0, sound(&state));
         met[usize::from(refusal)] += 1;
         match read_book(&b) {
             Ok(line) => {
                 assert!(matches!(refusal, 0 | 19 | 20));
-                // A book read is the book of its line, byte for byte.
-                let p = usize::from(line.posts);
-                let t = usize::from(line.trains);
-                let pairs: Vec<(u8, u8)> = (0..t).map(|t| (line.starts[t], line.ends[t])).collect();
-                assert_eq!(book(&line.tracks[..p], &pairs), b);
-                assert!(line.tracks[p..].iter().all(|n| *n == 0));
-                assert!(line.starts[t..].iter().all(|n| *n == 0));
-                assert!(line.ends[t..].iter().all(|n| *n == 0));
+                assert!(is_book_of(&b, &line), "{b:?} {line:?}");
             }
             Err(n) => assert_eq!(refusal, n),
         }
@@ -233,12 +239,25 @@ fn books_of_all_sorts() {
     for n in [0, 4, 14, 15, 16, 17, 18, 19, 20] {
         assert!(met[n] > 0, "{n}");
     }
-    // Pure noise, for the reader and the program.
+}
+
+/// Noise, often with the length that a book of its bytes would have.
+#[test]
+fn noise_of_all_lengths() {
+    let mut rng = Rng(0x2015E);
     for _ in 0..20_000 {
         let length = rng.below(60) as usize;
-        let noise = rng.bytes(length);
-        let _ = read_book(&noise);
-        let _ = read_frame(&noise);
+        let mut noise = rng.bytes(length);
+        let named = length >= 4 && rng.chance(50);
+        if named {
+            noise[..2].copy_from_slice(&[0, length as u8 - 2]);
+        }
+        match read_book(&noise) {
+            Ok(line) => assert!(is_book_of(&noise, &line)),
+            Err(number) => assert_eq!(number == 4, named && noise[2] != 1, "{noise:?}"),
+        }
+        let whole = length == FRAME_BYTES && noise[..2] == [0, 5];
+        assert_eq!(read_frame(&noise) == Err(3), !whole);
         assert!(program::run(&mut &noise[..]).ends_with('\n'));
     }
 }

@@ -34,7 +34,7 @@ fn boxed(state: State, table: Vec<u8>) -> Box {
     Box {
         state,
         table,
-        journal: vec![Record::BLANK; 176],
+        journal: vec![Record::BLANK; JOURNAL_RECORDS],
     }
 }
 
@@ -486,84 +486,89 @@ fn strange_then_short_then_torn() {
 
 // Soundness.
 
-#[test]
-fn sound_states() {
-    let x = Box::open(&X).state;
-    let is_sound = |change: fn(&mut State)| {
-        let mut s = x;
-        change(&mut s);
-        sound(&s)
-    };
-    assert!(is_sound(|_| ()));
-    assert!(!is_sound(|s| s.posts = 1));
-    assert!(!is_sound(|s| s.posts = 2)); // train 1 starts at post 2
-    assert!(!is_sound(|s| s.posts = 4)); // the fourth post has 0 tracks
-    assert!(!is_sound(|s| s.posts = 9));
-    assert!(!is_sound(|s| s.trains = 0));
-    assert!(is_sound(|s| s.trains = 1));
-    assert!(!is_sound(|s| s.trains = 3)); // the third would stand at post 0
-    assert!(!is_sound(|s| s.trains = 7));
-    assert!(!is_sound(|s| s.tracks[1] = 0));
-    assert!(!is_sound(|s| s.tracks[1] = 5));
-    assert!(is_sound(|s| s.tracks[3] = 5)); // not read
-    assert!(is_sound(|s| s.train[2].standing = Standing::Running)); // not read
-    assert!(!is_sound(|s| s.train[0].start = 3));
-    assert!(!is_sound(|s| s.train[0].end = 3));
-    assert!(!is_sound(|s| s.train[0].at = 3));
-    assert!(!is_sound(|s| s.train[0].end = 255));
-    assert!(is_sound(|s| s.train[0].at = 1));
-    assert!(!is_sound(|s| s.train[0].at = 2)); // two trains on one track
-    assert!(!is_sound(|s| {
+type Change = fn(&mut State);
+
+/// Whether the opened X is still sound with this change.
+const CHANGES: [(bool, Change); 32] = [
+    (true, |_| ()),
+    (false, |s| s.posts = 1),
+    (false, |s| s.posts = 2), // train 1 starts at post 2
+    (false, |s| s.posts = 4), // the fourth post has 0 tracks
+    (false, |s| s.posts = 9),
+    (false, |s| s.trains = 0),
+    (true, |s| s.trains = 1),
+    (false, |s| s.trains = 3), // the third would stand at post 0
+    (false, |s| s.trains = 7),
+    (false, |s| s.tracks[1] = 0),
+    (false, |s| s.tracks[1] = 5),
+    (true, |s| s.tracks[3] = 5),                         // not read
+    (true, |s| s.train[2].standing = Standing::Running), // not read
+    (false, |s| s.train[0].start = 3),
+    (false, |s| s.train[0].end = 3),
+    (false, |s| s.train[0].at = 3),
+    (false, |s| s.train[0].end = 255),
+    (true, |s| s.train[0].at = 1),
+    (false, |s| s.train[0].at = 2), // two trains on one track
+    (false, |s| {
         s.train[0].start = 1;
         s.train[0].at = 0; // not between 1 and 2
-    }));
-    assert!(is_sound(|s| s.journal = 176));
-    assert!(!is_sound(|s| s.journal = 177));
+    }),
+    (true, |s| s.journal = 176),
+    (false, |s| s.journal = 177),
     // FA numbers.
-    assert!(!is_sound(|s| s.train[0].standing = Standing::Asked(0)));
-    assert!(is_sound(|s| {
+    (false, |s| s.train[0].standing = Standing::Asked(0)),
+    (true, |s| {
         s.train[0].standing = Standing::Asked(1);
         s.train[1].standing = Standing::Asked(0);
         s.journal = 2;
-    }));
-    assert!(!is_sound(|s| {
+    }),
+    (false, |s| {
         s.train[0].standing = Standing::Asked(1);
         s.train[1].standing = Standing::Asked(1);
         s.journal = 2;
-    }));
-    assert!(!is_sound(|s| {
+    }),
+    (false, |s| {
         s.train[0].standing = Standing::Asked(176);
         s.journal = 176;
-    }));
+    }),
     // Running: tracks at both posts, one holder of a section.
-    assert!(is_sound(|s| s.train[0].standing = Standing::Running));
-    assert!(is_sound(|s| {
+    (true, |s| s.train[0].standing = Standing::Running),
+    (true, |s| {
         s.train[0].standing = Standing::Running;
         s.train[1].standing = Standing::Running;
-    }));
-    assert!(!is_sound(|s| {
+    }),
+    (false, |s| {
         s.tracks[1] = 1;
         s.train[0].standing = Standing::Running;
         s.train[1].standing = Standing::Running;
-    }));
-    assert!(!is_sound(|s| {
+    }),
+    (false, |s| {
         s.tracks = [4; 8];
         s.train[0].at = 1;
         s.train[0].standing = Standing::Running;
         s.train[1].standing = Standing::Running;
-    }));
+    }),
     // Only trains short of their end are Asked or Running.
-    assert!(!is_sound(|s| {
+    (false, |s| {
         s.tracks[2] = 2;
         s.train[0].at = 2;
         s.train[0].standing = Standing::Running;
-    }));
-    assert!(!is_sound(|s| {
+    }),
+    (false, |s| {
         s.tracks[2] = 2;
         s.train[0].at = 2;
         s.train[0].standing = Standing::Asked(0);
         s.journal = 1;
-    }));
+    }),
+];
+
+#[test]
+fn sound_states() {
+    for (number, (expected, change)) in CHANGES.iter().enumerate() {
+        let mut s = Box::open(&X).state;
+        change(&mut s);
+        assert_eq!(sound(&s), *expected, "change {number}: {s:?}");
+    }
     assert!(!sound(&State::EMPTY));
 }
 
@@ -627,18 +632,22 @@ fn unit_making() {
     assert_eq!(unit::hear(&empty, &[]), (empty, 1));
 }
 
+fn unit_of_3(start: u8, end: u8, at: u8, state: UnitState) -> Unit {
+    Unit {
+        train: 3,
+        start,
+        end,
+        at,
+        state,
+    }
+}
+
 /// Every button in every state, short of the end and at it.
 #[test]
 fn unit_buttons() {
     for state in STATES {
         for button in BUTTONS {
-            let u = Unit {
-                train: 3,
-                start: 6,
-                end: 1,
-                at: 4,
-                state,
-            };
+            let u = unit_of_3(6, 1, 4, state);
             let turned = |state| Unit { state, ..u };
             let expected = match (state, button) {
                 (UnitState::Standing, Button::Ask) => {
@@ -675,59 +684,52 @@ fn unit_buttons() {
 #[test]
 fn unit_hearing() {
     for state in STATES {
-        let u = Unit {
-            train: 3,
-            start: 1,
-            end: 6,
-            at: 4,
-            state,
-        };
+        let u = unit_of_3(1, 6, 4, state);
         let turned = |state| Unit { state, ..u };
-        // FA and AM are the other end's, whatever the train.
-        for kind in [FA, AM] {
-            assert_eq!(unit::hear(&u, &frame(kind, 3, 4, 5)), (u, 6));
-            assert_eq!(unit::hear(&u, &frame(kind, 200, 4, 5)), (u, 6));
-        }
         // Own FE.
         let expected = match state {
             UnitState::Asked | UnitState::Declined => (turned(UnitState::Granted), 0),
             _ => (u, 22),
         };
         assert_eq!(unit::hear(&u, &frame(FE, 3, 4, 5)), expected);
-        // Own train, another move.
-        for (from, to) in [(4, 3), (3, 4), (5, 6), (4, 4), (255, 0)] {
-            assert_eq!(unit::hear(&u, &frame(FE, 3, from, to)), (u, 22));
-            assert_eq!(unit::hear(&u, &frame(AFE, 3, from, to)), (u, 0));
-        }
         // Own AFE.
         let expected = match state {
             UnitState::Asked => (turned(UnitState::Declined), 0),
             _ => (u, 0),
         };
         assert_eq!(unit::hear(&u, &frame(AFE, 3, 4, 5)), expected);
-        // Another train, known or not.
-        for train in [0, 4, 6, 255] {
-            assert_eq!(unit::hear(&u, &frame(FE, train, 4, 5)), (u, 0));
-            assert_eq!(unit::hear(&u, &frame(AFE, train, 4, 5)), (u, 0));
+        // Own train, another move.
+        for (from, to) in [(4, 3), (3, 4), (5, 6), (4, 4), (255, 0)] {
+            assert_eq!(unit::hear(&u, &frame(FE, 3, from, to)), (u, 22));
+            assert_eq!(unit::hear(&u, &frame(AFE, 3, from, to)), (u, 0));
         }
-        // Torn, other edition, unknown kind.
-        assert_eq!(unit::hear(&u, &[]), (u, 3));
-        assert_eq!(unit::hear(&u, &[0, 4, 2, 9, 3, 4, 5]), (u, 3));
-        assert_eq!(unit::hear(&u, &[0, 5, 2, 9, 3, 4, 5]), (u, 4));
-        assert_eq!(unit::hear(&u, &[0, 5, 1, 9, 3, 4, 5]), (u, 5));
+        hears_in_vain(&u);
     }
     // At the end there is no own move.
-    let home = Unit {
-        train: 2,
-        start: 0,
-        end: 3,
-        at: 3,
-        state: UnitState::Standing,
-    };
+    let home = unit_of_3(0, 3, 3, UnitState::Standing);
     for (from, to) in [(3, 3), (2, 3), (3, 4)] {
-        assert_eq!(unit::hear(&home, &frame(FE, 2, from, to)), (home, 22));
-        assert_eq!(unit::hear(&home, &frame(AFE, 2, from, to)), (home, 0));
+        assert_eq!(unit::hear(&home, &frame(FE, 3, from, to)), (home, 22));
+        assert_eq!(unit::hear(&home, &frame(AFE, 3, from, to)), (home, 0));
     }
+}
+
+/// What changes no unit of train 3, whatever its state.
+fn hears_in_vain(u: &Unit) {
+    // FA and AM are the other end's, whatever the train.
+    for kind in [FA, AM] {
+        assert_eq!(unit::hear(u, &frame(kind, 3, 4, 5)), (*u, 6));
+        assert_eq!(unit::hear(u, &frame(kind, 200, 4, 5)), (*u, 6));
+    }
+    // Another train, known or not.
+    for train in [0, 4, 6, 255] {
+        assert_eq!(unit::hear(u, &frame(FE, train, 4, 5)), (*u, 0));
+        assert_eq!(unit::hear(u, &frame(AFE, train, 4, 5)), (*u, 0));
+    }
+    // Torn, other edition, unknown kind.
+    assert_eq!(unit::hear(u, &[]), (*u, 3));
+    assert_eq!(unit::hear(u, &[0, 4, 2, 9, 3, 4, 5]), (*u, 3));
+    assert_eq!(unit::hear(u, &[0, 5, 2, 9, 3, 4, 5]), (*u, 4));
+    assert_eq!(unit::hear(u, &[0, 5, 1, 9, 3, 4, 5]), (*u, 5));
 }
 
 /// Soundness of all units with small numbers, against the words one by one.
