@@ -37,10 +37,7 @@ pub fn grantable(state: State, table: &[u8], t: TrainNo) -> bool
     if tracks_at(state, next.to) <= post_holders(holders, next.to) {
         return false;
     }
-    completion::bit(
-        table,
-        completion::code(reached_with(state, t), state.trains),
-    )
+    table::bit(table, table::code(reached_with(state, t), state.trains))
 }
 
 // The posts that each train has then travelled.

@@ -5,8 +5,8 @@ pub use Rattle.unit.specs.declared.state.Unit.{Unit}
 pub use Rattle.unit.specs.declared.making.Made.{Made}
 pub use Rattle.unit.specs.declared.hearing.Heard.{Heard}
 pub use Rattle.unit.specs.declared.pressing.Pressed.{Pressed}
-pub use Rattle.line.specs.declared.book.Line.{Line}
-pub use Rattle.line.specs.declared.book.Reading.{Reading}
+pub use Rattle.line.specs.declared.line.Line.{Line}
+pub use Rattle.line.specs.declared.line.Reading.{Reading}
 pub use Rattle.frame.specs.declared.message.Message.{Message}
 pub use Rattle.journal.specs.declared.record.Record.{Record}
 pub use Rattle.rules.specs.declared.state.State.{State}

@@ -2,7 +2,7 @@
 use mathlib.Core.List.{List, [], _∷_}
 use Prim.Native.Nat.{ℕ}
 use Rattle.line.specs.declared.route.Route.{Route}
-use Rattle.line.specs.declared.book.Line.{Line}
+use Rattle.line.specs.declared.line.Line.{Line}
 use Rattle.line.specs.Line.{noRoute}
 
 abbrev pub route : ℕ → ℕ → Route

@@ -3,10 +3,10 @@ ghost use Prim.Native.Nat.{_≤_};
 ghost use Rattle.printout.specs.Text.{textLength};
 ghost use Rattle.descriptor.specs.Reading.{Transcript};
 use crate::reading::read_all;
-use completion::TABLE_LENGTH;
 use libc::STDOUT_FILENO;
 use printout::TEXT_LENGTH;
 use printout::Text;
+use table::TABLE_LENGTH;
 
 // Reads a book and frames from the descriptor, and prints the run.
 pub fn serve(fd: i32) {

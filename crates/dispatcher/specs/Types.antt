@@ -2,7 +2,7 @@
 pub use Rattle.line.specs.declared.sorts.TrainNo.{TrainNo}
 pub use Rattle.line.specs.declared.sorts.PostNo.{PostNo}
 pub use Rattle.line.specs.declared.route.Route.{Route}
-pub use Rattle.line.specs.declared.book.Line.{Line}
+pub use Rattle.line.specs.declared.line.Line.{Line}
 pub use Rattle.frame.specs.declared.message.Move.{Move}
 pub use Rattle.frame.specs.declared.message.Message.{Message}
 pub use Rattle.frame.specs.declared.message.Message.the-variants.{Fa, Fe, Afe, Am, Refused}

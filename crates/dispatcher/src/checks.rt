@@ -13,7 +13,6 @@ use authority::at_end;
 use authority::next_post;
 use authority::train_of;
 use authority::valid;
-use completion::TABLE_LENGTH;
 use frame::Message;
 use frame::Move;
 use journal::BATCH_LENGTH;
@@ -21,6 +20,7 @@ use journal::JOURNAL_LENGTH;
 use line::refusal;
 use rules::State;
 use rules::Status;
+use table::TABLE_LENGTH;
 
 // At most six frames go out.
 pub const OUT_LENGTH: usize = 42;

@@ -6,7 +6,7 @@ pub use Rattle.unit.specs.declared.state.Button.{Button}
 pub use Rattle.unit.specs.declared.state.Button.the-variants.{Ask, Depart, Reached, Report}
 pub use Rattle.unit.specs.declared.state.Unit.{Unit}
 pub use Rattle.line.specs.declared.route.Route.{Route}
-pub use Rattle.line.specs.declared.book.Line.{Line}
+pub use Rattle.line.specs.declared.line.Line.{Line}
 pub use Rattle.journal.specs.declared.record.Record.{Record}
 pub use Rattle.journal.specs.declared.batch.Batch.{Batch}
 pub use Rattle.rules.specs.declared.state.Status.{Status}

@@ -22,8 +22,7 @@ use Rattle.line.specs.Book.{byteAt, versionAt, countAt, trainsAt, startA
 use Rattle.line.specs.Book.{routeIn, lineOf, bookChecks, accepted, refusedBy, readBook, outcomeNumber, routeBytes}
 use Rattle.line.specs.Book.{bytesOf}
 use Rattle.line.specs.Claims.{Padded, ReadAs, LineBook}
-use Rattle.line.proofs.WellFormed.{WellFormed, well-formed, well-formed-parts, formed-parts}
-use Rattle.line.proofs.InOrder.{line-is}
+use Rattle.line.proofs.WellFormed.{WellFormed, line-is, well-formed, well-formed-parts, formed-parts}
 use Rattle.line.proofs.Bytes.{places, routes-end, length-routes, start-byte, end-byte}
 
 -- ---- what an answer says of the refusal

@@ -1,8 +1,6 @@
 -- The laws of the line's definitions, and the claims about its book.
 pub mod Travel
 pub mod WellFormed
-pub mod Stages
-pub mod InOrder
 pub mod Bytes
 pub mod Claims
 mod Examples

@@ -1,16 +1,29 @@
--- A well-formed line, as facts about its numbers: what `completion` and `dispatcher` rest on.
+-- A line by its parts, and a well-formed one as facts about its numbers.
 use mathlib.Core.Path.{_≡_}
 use mathlib.Core.Bool.{true, false, _&&_, and-false}
+use mathlib.Core.List.{List}
 use Prim.Native.Nat.{ℕ, _≤_, _<_}
 use native.Mathlib.Omega.{arith}
 use lib.Dec.{leb, ltb}
-use borrow.Author.Tests.{ltb-true, leb-true, lt-ltb, le-ltb, le-leb, lt-leb}
+use borrow.Author.Tests.{ltb-true, leb-true, lt-ltb, le-leb, lt-leb}
 use Rattle.common.proofs.Tests.{and-left, and-right, and-both}
 use Rattle.common.proofs.Below.{all-below, below-all}
-use Rattle.line.specs.Sorts.{Line}
+use Rattle.line.specs.Sorts.{Route, Line}
 use Rattle.line.specs.Line.{routeOf, tracksAt, inRange, wellFormed, postsInRange, tracksInRange, trainsInRange}
 use Rattle.line.specs.Line.{routesOnLine}
 use Rattle.line.specs.Route.{routeLength}
+
+-- a line is what its parts are
+line : ℕ → List ℕ → ℕ → List Route → Line
+line n k t r = record { posts = n; tracks = k; trains = t; routes = r }
+
+pub line-is : (l m : Line) → l .posts ≡ m .posts → l .tracks ≡ m .tracks → l .trains ≡ m .trains → l .routes ≡ m .routes
+    → l ≡ m
+unfolding line
+line-is l m a b c d =
+    let same : line (l .posts) (l .tracks) (l .trains) (l .routes)
+    ≡ line (m .posts) (m .tracks) (m .trains) (m .routes) = cc in
+    same
 
 pub record WellFormed (l : Line) : Type 0 where
   pub some-posts : 2 ≤ l .posts
@@ -37,38 +50,12 @@ below-range a b n h = rw (lt-leb a n h)
 pub above-range : (a b n : ℕ) → b < n → inRange a b n ≡ false
 above-range a b n h = rw (lt-leb n b h) (and-false (leb a n))
 
--- a route that starts or ends off a line of n posts
-pub off-start : (a e n : ℕ) → n ≤ a → ltb a n && ltb e n ≡ false
-off-start a e n h = rw (le-ltb a n h)
-
-pub off-end : (a e n : ℕ) → n ≤ e → ltb a n && ltb e n ≡ false
-off-end a e n h = rw (le-ltb e n h) (and-false (ltb a n))
-
 module _ (l : Line) where
   -- the parts that `wellFormed` is made of
   pub well-formed-parts : postsInRange l ≡ true → tracksInRange l ≡ true → trainsInRange l ≡ true
       → routesOnLine l ≡ true → wellFormed l ≡ true
   unfolding wellFormed
   well-formed-parts p k t r = rw (p, k, t, r)
-
-  -- the test, part by part: the first that fails decides, and else the last
-  pub posts-fail : postsInRange l ≡ false → false ≡ wellFormed l
-  unfolding wellFormed
-  posts-fail e = rw e
-
-  module _ (posts : postsInRange l ≡ true) where
-    pub tracks-fail : tracksInRange l ≡ false → false ≡ wellFormed l
-    unfolding wellFormed
-    tracks-fail e = rw (posts, e)
-
-    module _ (tracks : tracksInRange l ≡ true) where
-      pub trains-fail : trainsInRange l ≡ false → false ≡ wellFormed l
-      unfolding wellFormed
-      trains-fail e = rw (posts, tracks, e)
-
-      pub routes-decide : trainsInRange l ≡ true → routesOnLine l ≡ wellFormed l
-      unfolding wellFormed
-      routes-decide trains = rw (posts, tracks, trains)
 
   pub formed-parts : wellFormed l ≡ true
       → (postsInRange l ≡ true) × (tracksInRange l ≡ true) × (trainsInRange l ≡ true) × (routesOnLine l ≡ true)

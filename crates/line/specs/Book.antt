@@ -3,12 +3,12 @@ use mathlib.Core.Bool.{_&&_}
 use mathlib.Core.List.{List, [], _∷_, _++_}
 use Prim.Native.Nat.{ℕ, _+_, _*_, _-_, _/_, _%_}
 use lib.Dec.{leb, eqb}
-use lib.ListN.{length, getD, take, drop, replicate}
+use lib.ListN.{length, getD, replicate}
 use Rattle.common.specs.Check.{Check, check, refusal, unlessRefused}
 use Rattle.common.specs.Tabulate.{tabulate, padded}
 use Rattle.common.specs.Word.{word}
 use Rattle.line.specs.Refusal as number
-use Rattle.line.specs.Sorts.{Route, Line, Outcome, Read, Refused, Reading, Stage, Passed, Stopped}
+use Rattle.line.specs.Sorts.{Route, Line, Outcome, Read, Refused, Reading}
 use Rattle.line.specs.Line.{noRoute, routeOf, tracksAt, postsInRange, tracksInRange, trainsInRange, routesOnLine}
 
 -- ---- where the parts of a book stand
@@ -104,33 +104,6 @@ readBook b = unlessRefused (refusal (bookChecks b)) (accepted (lineOf b)) refuse
 abbrev pub outcomeNumber : Outcome → ℕ
 outcomeNumber Read = 0
 outcomeNumber (Refused n) = n
-
--- ---- the stages of the reading
-
--- v where the checks of a stage pass, else the number of the first that fails
-abbrev pub stageOf : List Check → ℕ → Stage
-stageOf cs v = unlessRefused (refusal cs) (Passed v) Stopped
-
--- the number that a stage stopped at; 0 of one that passed
-abbrev pub numberOf : Stage → ℕ
-numberOf (Passed n) = 0
-numberOf (Stopped n) = n
-
--- the book's first four checks
-unfoldable pub postsStage : List ℕ → Stage
-postsStage b = stageOf (take 4 (bookChecks b)) (postsOf b)
-
--- the fifth
-unfoldable pub tracksStage : Line → Stage
-tracksStage l = stageOf (check number.tracks (tracksInRange l) ∷ []) (l .posts)
-
--- the sixth and the seventh
-unfoldable pub trainsStage : List ℕ → Stage
-trainsStage b = stageOf (take 2 (drop 5 (bookChecks b))) (trainsOf b)
-
--- the eighth
-unfoldable pub routesStage : Line → Stage
-routesStage l = stageOf (check number.offTheLine (routesOnLine l) ∷ []) (l .trains)
 
 -- ---- the bytes of a line
 

@@ -1,4 +1,4 @@
--- What is shown of the line book, beside the contract of `line::book::read`. `proofs/Claims.antt` has the proofs.
+-- What is shown of the line book, beside the contract of `book::read`. `proofs/Claims.antt` has the proofs.
 use mathlib.Core.Path.{_≡_}
 use mathlib.Core.Logic.{_≢_}
 use mathlib.Core.Bool.{true}

@@ -2,7 +2,6 @@
 ghost use mathlib.Core.Path.{_≡_};
 ghost use Rattle.rules.specs.State.{noTrain};
 ghost use Rattle.rules.specs.Opening.{fresh, openedState, emptyState, openingOf, openingWith, opening};
-use completion::TABLE_LENGTH;
 use journal::JOURNAL_LENGTH;
 use journal::Log;
 use journal::Record;
@@ -18,6 +17,7 @@ use rules::Opened;
 use rules::State;
 use rules::Status;
 use rules::Train;
+use table::TABLE_LENGTH;
 
 // Opens a book. Of the journal only its length is looked at.
 pub fn open(book: &[u8], table: &mut [u8], journal: &[Record]) -> Opened
@@ -48,19 +48,19 @@ pub fn open_with(book: &[u8], table: &mut [u8], records: usize) -> Opened
     if records < JOURNAL_LENGTH {
         return refused(SHORT_STORE);
     }
-    let reading = line::book::read(book);
+    let reading = book::read(book);
     let outcome = reading.outcome;
     let Outcome::Read = outcome else {
-        return refused(line::book::number_of(outcome));
+        return refused(book::number_of(outcome));
     };
     let line = reading.line;
-    if !completion::feasible_start(line) {
+    if !table::feasible_start(line) {
         return refused(OVERFULL);
     }
-    completion::fill(line, table);
+    table::fill(line, table);
     let travelled = [0u8; 6];
-    let start = completion::code(travelled, line.trains);
-    if !completion::bit(table, start) {
+    let start = table::code(travelled, line.trains);
+    if !table::bit(table, start) {
         return refused(NO_WAY_THROUGH);
     }
     let state = opened_state(line);

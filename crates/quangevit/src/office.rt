@@ -22,11 +22,11 @@ pub extern "C" fn quangevit_read_book(book: &[u8], line: &mut [u8]) -> u32
     if line.len() != LINE_LENGTH {
         return word_of(STRANGE_STATE, 0);
     }
-    let reading = line::book::read(book);
+    let reading = book::read(book);
     let found = reading.line;
     put_line(found, line);
     let outcome = reading.outcome;
-    word_of(line::book::number_of(outcome), 0)
+    word_of(book::number_of(outcome), 0)
 }
 
 // Opens a book: fills the table and writes the state. Of the journal only the length is looked at.

@@ -17,9 +17,9 @@ use Rattle.common.proofs.Check.{refuses}
 use Rattle.common.proofs.Tabulate.{padded-none, past-padded}
 use Rattle.line.specs.Refusal.{shortStore, overfull, noWayThrough}
 use Rattle.line.specs.Book.{lineOf as lineIn, bookChecks, accepted, refusedBy, readBook, outcomeNumber}
-use Rattle.line.specs.declared.book.Outcome.{Outcome}
-use Rattle.line.specs.declared.book.Outcome.the-variants.{Read, Refused}
-use Rattle.line.specs.declared.book.Reading.{Reading}
+use Rattle.line.specs.declared.line.Outcome.{Outcome}
+use Rattle.line.specs.declared.line.Outcome.the-variants.{Read, Refused}
+use Rattle.line.specs.declared.line.Reading.{Reading}
 use Rattle.line.specs.Line.{routeOf, wellFormed}
 use Rattle.line.proofs.Claims.{read-number, read-line}
 use Rattle.line.proofs.WellFormed.{well-formed-parts}

@@ -1,0 +1,105 @@
+-- What each stage of the reading answers, a law for each case, in the order of the checks.
+use mathlib.Core.Path.{_≡_}
+use mathlib.Core.Logic.{_≢_}
+use mathlib.Core.Bool.{true, false, _&&_, and-false}
+use mathlib.Core.List.{List}
+use Prim.Native.Nat.{ℕ, suc, _+_, _≤_, _<_}
+use lib.Dec.{leb, eqb}
+use lib.ListN.{length}
+use borrow.Author.Tests.{le-leb, lt-leb, eq-eqb, ne-eqb}
+use Rattle.common.specs.Check.{Check, unlessRefused}
+use Rattle.common.proofs.Tests.{and-both}
+use Rattle.common.proofs.Check.{Refuses, none, stop, pass, refusal-is}
+use Rattle.line.specs.Refusal as number
+use Rattle.line.specs.declared.line.Line.{Line}
+use Rattle.line.specs.Line.{inRange, tracksInRange, routesOnLine}
+use Rattle.line.specs.Book.{byteAt, versionAt, trainsAt, named, postsOf, total}
+use Rattle.book.specs.Stages.{Passed, Stopped, stageOf, postsStage, tracksStage, trainsStage, routesStage}
+
+passes : {cs : List Check} (v : ℕ) → Refuses cs 0 → Passed v ≡ stageOf cs v
+unfolding unlessRefused
+passes v r = rw (refusal-is r)
+
+stops : {cs : List Check} (v : ℕ) {n : ℕ} → Refuses cs (suc n) → Stopped (suc n) ≡ stageOf cs v
+unfolding unlessRefused
+stops v r = rw (refusal-is r)
+
+-- ---- 14, 4, 15, 14
+
+module _ (b : List ℕ) where
+  pub posts-short : length b < 4 → Stopped number.tornBook ≡ postsStage b
+  unfolding postsStage
+  posts-short h = stops _ (stop (rw (lt-leb 4 (length b) h)))
+
+  pub posts-torn : named b ≢ length b → Stopped number.tornBook ≡ postsStage b
+  unfolding postsStage
+  posts-torn h = stops _ (stop (rw (ne-eqb (named b) (length b) h) (and-false (leb 4 (length b)))))
+
+  module _ (long : 4 ≤ length b) (right : named b ≡ length b) where
+    whole : leb 4 (length b) && eqb (named b) (length b) ≡ true
+    whole = and-both _ _ (le-leb 4 (length b) long) (eq-eqb (named b) (length b) right)
+
+    pub posts-edition : byteAt b versionAt ≢ 1 → Stopped number.otherEdition ≡ postsStage b
+    unfolding postsStage
+    posts-edition h = stops _ (pass whole (stop (ne-eqb (byteAt b versionAt) 1 h)))
+
+    module _ (first : byteAt b versionAt ≡ 1) where
+      edition : eqb (byteAt b versionAt) 1 ≡ true
+      edition = eq-eqb (byteAt b versionAt) 1 first
+
+      pub posts-range : inRange 2 8 (postsOf b) ≡ false → Stopped number.posts ≡ postsStage b
+      unfolding postsStage
+      posts-range h = stops _ (pass whole (pass edition (stop h)))
+
+      module _ (range : inRange 2 8 (postsOf b) ≡ true) where
+        pub posts-room : length b < 5 + postsOf b → Stopped number.tornBook ≡ postsStage b
+        unfolding postsStage
+        posts-room h = stops _ (pass whole (pass edition (pass range (stop (lt-leb (5 + postsOf b) (length b) h)))))
+
+        pub posts-passed : 5 + postsOf b ≤ length b → Passed (postsOf b) ≡ postsStage b
+        unfolding postsStage
+        posts-passed h =
+            let room = le-leb (5 + postsOf b) (length b) h in
+            passes _ (pass whole (pass edition (pass range (pass room none))))
+
+-- ---- 16
+
+module _ (l : Line) where
+  pub tracks-range : tracksInRange l ≡ false → Stopped number.tracks ≡ tracksStage l
+  unfolding tracksStage
+  tracks-range h = stops _ (stop h)
+
+  pub tracks-passed : tracksInRange l ≡ true → Passed (l .posts) ≡ tracksStage l
+  unfolding tracksStage
+  tracks-passed h = passes _ (pass h none)
+
+-- ---- 17, 14
+
+module _ (b : List ℕ) {n : ℕ} (e : n ≡ postsOf b) where
+  pub trains-range : inRange 1 6 (byteAt b (trainsAt n)) ≡ false → Stopped number.trains ≡ trainsStage b
+  unfolding trainsStage
+  trains-range h = stops _ (stop (rw e at h))
+
+  module _ (range : inRange 1 6 (byteAt b (trainsAt n)) ≡ true) where
+    pub trains-total : length b ≢ total n (byteAt b (trainsAt n)) → Stopped number.tornBook ≡ trainsStage b
+    unfolding trainsStage
+    trains-total h =
+        let off = ne-eqb (length b) (total n (byteAt b (trainsAt n))) h in
+        stops _ (pass (rw e at range) (stop (rw e at off)))
+
+    pub trains-passed : length b ≡ total n (byteAt b (trainsAt n)) → Passed (byteAt b (trainsAt n)) ≡ trainsStage b
+    unfolding trainsStage
+    trains-passed h =
+        let same = eq-eqb (length b) (total n (byteAt b (trainsAt n))) h in
+        rw e (passes _ (pass (rw e at range) (pass (rw e at same) none)))
+
+-- ---- 18
+
+module _ (l : Line) where
+  pub routes-off : routesOnLine l ≡ false → Stopped number.offTheLine ≡ routesStage l
+  unfolding routesStage
+  routes-off h = stops _ (stop h)
+
+  pub routes-passed : routesOnLine l ≡ true → Passed (l .trains) ≡ routesStage l
+  unfolding routesStage
+  routes-passed h = passes _ (pass h none)

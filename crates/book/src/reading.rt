@@ -1,0 +1,218 @@
+// Reading a line book. 01: "Book: a two-byte big-endian length (the bytes after it), version byte 1,
+// P, P track counts, T, then start and end of each train, one byte each."
+ghost use mathlib.Core.Path.{_≡_};
+ghost use Prim.Native.Nat.{_+_, _*_, _≤_};
+ghost use lib.ListN.{length};
+ghost use Rattle.common.specs.Tabulate.{padded};
+ghost use Rattle.line.specs.Line.{noRoute, inRange};
+ghost use Rattle.line.specs.Book.{byteAt, postsOf, countAt, routeIn, emptyLine, refusedBy, readBook, outcomeNumber};
+ghost use Rattle.book.specs.Stages.{numberOf, postsStage, tracksStage, trainsStage, routesStage};
+use crate::form::routes_on_line;
+use crate::form::tracks_in_range;
+use line::Line;
+use line::Outcome;
+use line::PostNo;
+use line::Reading;
+use line::Route;
+use line::refusal;
+use line::word::word;
+
+// The number that a book is refused by; 0 of one that is read.
+pub fn number_of(outcome: Outcome) -> u8
+    ensures { λ r. ⌜ r ≡ outcomeNumber outcome ⌝ }
+{
+    match outcome {
+        Outcome::Read => 0,
+        Outcome::Refused(n) => n,
+    }
+}
+
+// What a stage of the reading answers: how many posts, track counts, trains or routes it read, or
+// the number of the check that it stopped at.
+enum Stage {
+    Passed(u8),
+    Stopped(u8),
+}
+
+// The place of a train that a line does not have.
+const NO_ROUTE: Route = Route {
+    start: PostNo(0),
+    end: PostNo(0),
+};
+
+// The version of a book.
+const EDITION: u8 = 1;
+
+// Where the version, the number of posts and the track counts stand.
+const VERSION_AT: usize = 2;
+
+const POSTS_AT: usize = 3;
+
+const COUNTS_AT: usize = 4;
+
+// The bytes of a book besides its track counts and routes.
+const FIXED: usize = 5;
+
+// Reads a book. "A book that is not read in full is refused before any train is placed."
+pub fn read(book: &[u8]) -> Reading
+    ensures { λ r. ⌜ r ≡ readBook (now (book .entry)) ⌝ }
+{
+    let header = read_posts(book);
+    let Stage::Passed(posts) = header else {
+        return refused(header);
+    };
+    let mut line = empty_line();
+    let tracks = read_tracks(book, posts);
+    line.posts = posts;
+    line.tracks = tracks;
+    let counts = check_tracks(line);
+    let Stage::Passed(_) = counts else {
+        return refused(counts);
+    };
+    let number = read_trains(book, posts);
+    let Stage::Passed(trains) = number else {
+        return refused(number);
+    };
+    let routes = read_routes(book, posts, trains);
+    line.trains = trains;
+    line.routes = routes;
+    let ends = check_routes(line);
+    let Stage::Passed(_) = ends else {
+        return refused(ends);
+    };
+    Reading {
+        outcome: Outcome::Read,
+        line: line,
+    }
+}
+
+fn refused(stage: Stage) -> Reading
+    ensures { λ r. ⌜ r ≡ refusedBy (numberOf stage) ⌝ }
+{
+    let line = empty_line();
+    Reading {
+        outcome: Outcome::Refused(stopped_at(stage)),
+        line: line,
+    }
+}
+
+// The number of the check that a stage stopped at; 0 of one that passed.
+fn stopped_at(stage: Stage) -> u8
+    ensures { λ r. ⌜ r ≡ numberOf stage ⌝ }
+{
+    match stage {
+        Stage::Passed(_) => 0,
+        Stage::Stopped(n) => n,
+    }
+}
+
+fn empty_line() -> Line
+    ensures { λ r. ⌜ r ≡ emptyLine ⌝ }
+{
+    let tracks = [0u8; 8];
+    let routes = [NO_ROUTE; 6];
+    Line {
+        posts: 0,
+        tracks: tracks,
+        trains: 0,
+        routes: routes,
+    }
+}
+
+fn in_range(low: u8, high: u8, n: u8) -> bool
+    ensures { λ r. ⌜ r ≡ inRange low high n ⌝ }
+{
+    low <= n && n <= high
+}
+
+// Checks 14, 4, 15 and 14, and reads the number of posts.
+fn read_posts(book: &[u8]) -> Stage
+    ensures { λ r. ⌜ r ≡ postsStage (now (book .entry)) ⌝ }
+{
+    if book.len() < COUNTS_AT {
+        return Stage::Stopped(refusal::TORN_BOOK);
+    }
+    if word(book[0], book[1]) as usize + 2 != book.len() {
+        return Stage::Stopped(refusal::TORN_BOOK);
+    }
+    if book[VERSION_AT] != EDITION {
+        return Stage::Stopped(refusal::OTHER_EDITION);
+    }
+    let posts = book[POSTS_AT];
+    if !in_range(2, 8, posts) {
+        return Stage::Stopped(refusal::POSTS);
+    }
+    if book.len() < FIXED + posts as usize {
+        return Stage::Stopped(refusal::TORN_BOOK);
+    }
+    Stage::Passed(posts)
+}
+
+// The track counts of the posts; 0 at the other places.
+fn read_tracks(book: &[u8], posts: u8) -> [u8; 8]
+    requires { ⌜ (posts ≤ 8) × (5 + posts ≤ length (now book)) ⌝ }
+    ensures { λ r. ⌜ r ≡ padded 8 posts (λ p. byteAt (now (book .entry)) (countAt p)) 0 ⌝ }
+{
+    let mut tracks = [0u8; 8];
+    let mut p: usize = 0;
+    while p < posts as usize {
+        tracks[p] = book[COUNTS_AT + p];
+        p += 1;
+    }
+    tracks
+}
+
+// Checks 16.
+fn check_tracks(line: Line) -> Stage
+    requires { ⌜ line .posts ≤ 8 ⌝ }
+    ensures { λ r. ⌜ r ≡ tracksStage line ⌝ }
+{
+    if !tracks_in_range(line) {
+        return Stage::Stopped(refusal::TRACKS);
+    }
+    Stage::Passed(line.posts)
+}
+
+// Checks 17 and 14, and reads the number of trains.
+fn read_trains(book: &[u8], posts: u8) -> Stage
+    requires { ⌜ (posts ≡ postsOf (now book)) × (5 + posts ≤ length (now book)) ⌝ }
+    ensures { λ r. ⌜ r ≡ trainsStage (now (book .entry)) ⌝ }
+{
+    let trains = book[COUNTS_AT + posts as usize];
+    if !in_range(1, 6, trains) {
+        return Stage::Stopped(refusal::TRAINS);
+    }
+    if book.len() != FIXED + posts as usize + 2 * (trains as usize) {
+        return Stage::Stopped(refusal::TORN_BOOK);
+    }
+    Stage::Passed(trains)
+}
+
+// The routes of the trains; 0 at the other places.
+fn read_routes(book: &[u8], posts: u8, trains: u8) -> [Route; 6]
+    requires { ⌜ (trains ≤ 6) × (5 + posts + 2 * trains ≤ length (now book)) ⌝ }
+    ensures { λ r. ⌜ r ≡ padded 6 trains (routeIn (now (book .entry)) posts) noRoute ⌝ }
+{
+    let mut routes = [NO_ROUTE; 6];
+    let mut t: usize = 0;
+    while t < trains as usize {
+        let at = FIXED + posts as usize + 2 * t;
+        routes[t] = Route {
+            start: PostNo(book[at]),
+            end: PostNo(book[at + 1]),
+        };
+        t += 1;
+    }
+    routes
+}
+
+// Checks 18.
+fn check_routes(line: Line) -> Stage
+    requires { ⌜ line .trains ≤ 6 ⌝ }
+    ensures { λ r. ⌜ r ≡ routesStage line ⌝ }
+{
+    if !routes_on_line(line) {
+        return Stage::Stopped(refusal::OFF_THE_LINE);
+    }
+    Stage::Passed(line.trains)
+}

@@ -1,0 +1,23 @@
+// What a book says, and what reading one gives.
+use crate::route::Route;
+
+// The posts with the number of tracks at each, and the trains with their routes. Places for posts
+// from `posts` on and trains from `trains` on are 0.
+pub struct Line {
+    pub posts: u8,
+    pub tracks: [u8; 8],
+    pub trains: u8,
+    pub routes: [Route; 6],
+}
+
+// Whether a book is read, or the number of its refusal.
+pub enum Outcome {
+    Read,
+    Refused(u8),
+}
+
+// The line of a refused book is the empty one, all 0.
+pub struct Reading {
+    pub outcome: Outcome,
+    pub line: Line,
+}
