@@ -1,20 +1,26 @@
 -- The work on an accepted frame, message by message: it keeps the invariant, and each FE among the answers has its
 -- request in the journal.
-use mathlib.Core.Path.{_≡_, refl, ap, _∙_}
+use mathlib.Core.Path.{_≡_, refl, sym, ap, _∙_}
 use mathlib.Core.Logic.{⊎-elim}
+use mathlib.Core.Bool.{true}
 use mathlib.Core.List.{List, [], _∷_, _++_, List·Memᴰ, List·Memᴰ·append-cases, List·Memᴰ·eq-of-singleton}
 use mathlib.Core.List.{List·Memᴰ·not-nil}
 use Prim.Native.Nat.{ℕ, _+_, _≤_, _<_}
 use native.Mathlib.Omega.{arith}
 use lib.ListN.{length, set, length-append}
-use lib.Seq.{getD-set-same, getD-set-other, drop-append-le}
+use lib.Seq.{getD-set-same, getD-set-other}
+use Rattle.common.specs.Part.{replaced}
+use Rattle.common.proofs.Part.{replaced-more}
 use Rattle.common.proofs.Tests.{by-cases}
 use Rattle.common.proofs.Below.{count-le, count-some}
-use Rattle.journal.specs.Journal.{journalLength, blank, recordOf}
-use Rattle.rules.specs.declared.state.Status.the-variants.{Asked}
-use Rattle.rules.specs.State.{isAsked, askedAs, trainOf, nextMove, withStatus, oneLogged}
-use Rattle.rules.specs.Granting.{Work, granted, settled}
-use Rattle.rules.specs.Answer.{mostLogged, taken, declined, accepted, sent}
+use Rattle.frame.specs.RoundTrip.{IsMessage}
+use Rattle.journal.specs.Journal.{journalLength, blank, recordOf, frameOf}
+use Rattle.journal.proofs.Records.{logged-as-sent}
+use Rattle.rules.specs.declared.state.Status.the-variants.{Asked, Running}
+use Rattle.rules.specs.State.{isAsked, askedAs, trainOf, nextMove, withStatus, withTrain}
+use Rattle.rules.specs.State.{oneLogged}
+use Rattle.rules.specs.Granting.{grantable, Work, begun, sends, granted, settled}
+use Rattle.rules.specs.Answer.{mostLogged, taken, declined, accepted}
 use Rattle.rules.proofs.Changes.{grantable-facts}
 use Rattle.rules.proofs.Grants.{askedCount, Turn, grants-keep, granted-fewer}
 use Rattle.rules.proofs.Settling.{settled-settles}
@@ -23,7 +29,7 @@ use Rattle.assurance.specs.Types.{Line, Move, Message, Fa, Fe, Afe, Am, 
 use Rattle.assurance.specs.Observer.{Observer, hearFrame, hearAnswer, hearAnswers}
 use Rattle.assurance.specs.WholeList.{Requested}
 use Rattle.assurance.proofs.Invariant.{Invariant}
-use Rattle.assurance.proofs.Logging.{journalOf, journal-first, journal-more, left, requested-later, heard-more}
+use Rattle.assurance.proofs.Logging.{replaced-one, later-set, requested-later, heard-more}
 use Rattle.assurance.proofs.Steps.{request-kept, arrival-kept, grant-kept, decline-kept}
 
 -- room in the journal for a record of each Asked train
@@ -32,38 +38,53 @@ Room w = w .state .logged + askedCount (w .state) ≤ journalLength
 
 -- the work so far on a frame that found n records in the journal j; o is the observer once it has heard the frame
 pub record Worked (table : List ℕ) (n : ℕ) (j : List Record) (o : Observer) (w : Work) : Type 0 where
-  pub begun : 1 ≤ length (w .logged)
   pub counted : w .state .logged ≡ n + length (w .logged)
-  pub kept : Invariant table (w .state) (journalOf j n (w .logged)) (hearAnswers o (sent w))
-  pub requested : (m : Move) → List·Memᴰ (Fe m) (sent w) → Requested (left (w .state) (journalOf j n (w .logged))) m
+  pub kept : Invariant table (w .state) (replaced j n (w .logged)) (hearAnswers o (w .sent))
+  pub requested : (m : Move) → List·Memᴰ (Fe m) (w .sent) → Requested (w .state .logged) (replaced j n (w .logged)) m
+
+-- the FE of a grant has its request
+grant-requested : (table : List ℕ) (s : State) (j : List Record) (o : Observer) → Invariant table s j o
+    → (t : ℕ) → t < s .trains → s .logged < journalLength → grantable table s t ≡ true
+    → Requested (s .logged + 1) (set j (s .logged) (recordOf (Fe (nextMove s t)))) (nextMove s t)
+unfolding IsMessage
+grant-requested table s j o inv t known space e =
+    let m = nextMove s t in
+    let number = askedAs (trainOf s t .status) in
+    let asks = grantable-facts table s t e .asks in
+    let lower : number < s .logged = inv .valid-state .each t known .numbered asks in
+    record {
+      granted = s .logged;
+      below = omega arith;
+      authority = ap frameOf (getD-set-same j (s .logged) (recordOf (Fe m)) blank (omega (arith, inv .room)))
+          ∙ sym (logged-as-sent (Fe m) tt);
+      requested = number;
+      lower = lower;
+      request = ap frameOf (getD-set-other j (s .logged) number (recordOf (Fe m)) blank (λ z. omega arith)
+          ∙ inv .each t known .request asks)
+          ∙ sym (logged-as-sent (Fa m) tt);
+    }
 
 module _ (table : List ℕ) (n : ℕ) (j : List Record) (o : Observer) (long : journalLength ≤ length j) where
-  -- ---- one message more
+  -- ---- one message more, logged by r
 
-  worked-more : (w : Work) → Worked table n j o w → (s : State) (a : Message) → s .logged ≡ w .state .logged + 1
-      → w .state .logged < journalLength
-      → (let after = set (journalOf j n (w .logged)) (w .state .logged) (recordOf a) in
-      Invariant table s after (hearAnswer (hearAnswers o (sent w)) a)
-      → ((m : Move) → Fe m ≡ a → Requested (left s after) m)
-      → Worked table n j o (record { state = s; logged = w .logged ++ a ∷ [] }))
-  worked-more w k s a one space inv own =
-      let size = length-append (w .logged) (a ∷ []) in
-      let before = journalOf j n (w .logged) in
-      let written : journalOf j n (w .logged ++ a ∷ []) ≡ set before (w .state .logged) (recordOf a) =
-      journal-more j n (w .logged) a (omega (arith, k .counted)) ∙ rw (k .counted) in
-      let told : sent (record { state = s; logged = w .logged ++ a ∷ [] }) ≡ sent w ++ a ∷ [] =
-      drop-append-le 1 (w .logged) (a ∷ []) (k .begun) in
+  worked-more : (w : Work) → Worked table n j o w → (s : State) (r : Record) (a : Message)
+      → s .logged ≡ w .state .logged → w .state .logged < journalLength
+      → (let after = set (replaced j n (w .logged)) (w .state .logged) r in
+      Invariant table (oneLogged s) after (hearAnswer (hearAnswers o (w .sent)) a)
+      → ((m : Move) → Fe m ≡ a → Requested (s .logged + 1) after m)
+      → Worked table n j o (sends s w r a))
+  worked-more w k s r a same space inv own =
+      let size = length-append (w .logged) (r ∷ []) in
+      let before = replaced j n (w .logged) in
+      let written : replaced j n (w .logged ++ r ∷ []) ≡ set before (w .state .logged) r =
+      replaced-more j n (w .logged) r (omega (arith, k .counted)) ∙ rw (k .counted) in
       record {
-        begun = omega (arith, k .begun);
         counted = omega (arith, k .counted);
-        kept = rw (written, told, heard-more o (sent w) a) inv;
-        requested = rw (written, told) (λ m h. ⊎-elim
-            (λ q. requested-later (left (w .state) before) _ m (record {
-              more = omega arith;
-              same = λ i l. getD-set-other before (w .state .logged) i (recordOf a) blank (λ z. omega arith);
-            }) (k .requested m q))
+        kept = rw (written, heard-more o (w .sent) a) inv;
+        requested = rw written (λ m h. ⊎-elim
+            (λ q. rw same (requested-later (later-set (w .state .logged) before r) (k .requested m q)))
             (λ q. own m (List·Memᴰ·eq-of-singleton q))
-            (List·Memᴰ·append-cases (sent w) h));
+            (List·Memᴰ·append-cases (w .sent) h));
       }
 
   -- ---- grants
@@ -72,26 +93,13 @@ module _ (table : List ℕ) (n : ℕ) (j : List Record) (o : Observer) (long : j
       → Worked table n j o (granted w t) × Room (granted w t)
   granted-worked w t (k, room) f =
       let s = w .state in
-      let before = journalOf j n (w .logged) in
-      let written = recordOf (Fe (nextMove s t)) in
       let less = granted-fewer table w t f in
-      let asks = grantable-facts table s t (f .can) .asks in
-      let number = k .kept .valid-state .each t (f .known) .numbered asks in
-      let space : w .state .logged < journalLength = omega arith in (
-        worked-more w k (granted w t .state) (Fe (nextMove s t)) refl space
+      let space : s .logged < journalLength = omega arith in (
+        worked-more w k (withTrain s t (withStatus (trainOf s t) Running)) _ (Fe (nextMove s t)) refl space
             (grant-kept table s _ _ (k .kept) t (f .known) space (f .can))
             (λ m e.
             let same : m ≡ nextMove s t = cc in
-            rw same (record {
-              granted = s .logged;
-              below = omega arith;
-              authority = getD-set-same before (s .logged) written blank (omega (arith, k .kept .room));
-              requested = askedAs (trainOf s t .status);
-              lower = number;
-              request =
-                  getD-set-other before (s .logged) (askedAs (trainOf s t .status)) written blank (λ z. omega arith)
-                  ∙ k .kept .each t (f .known) .request asks;
-            })),
+            rw same (grant-requested table s _ _ (k .kept) t (f .known) space (f .can))),
         omega arith,
       )
 
@@ -101,16 +109,14 @@ module _ (table : List ℕ) (n : ℕ) (j : List Record) (o : Observer) (long : j
 
   -- ---- the frame, and the AFE
 
-  pub taken-worked : (s : State) (a : Message) → s .logged ≡ n + 1 → n + mostLogged ≤ journalLength
-      → Invariant table s (set j n (recordOf a)) o
-      → let w : Work = record { state = s; logged = a ∷ [] } in Worked table n j o w × Room w
+  pub begun-worked : (s : State) (r : Record) → s .logged ≡ n → n + mostLogged ≤ journalLength
+      → Invariant table (oneLogged s) (set j n r) o → Worked table n j o (begun s r) × Room (begun s r)
   unfolding hearAnswers
-  taken-worked s a one space inv =
+  begun-worked s r same space inv =
       let few = count-le (s .trains) (λ t. isAsked (trainOf s t .status)) in (
         record {
-          begun = omega arith;
-          counted = one;
-          kept = rw (journal-first j n a (omega arith)) inv;
+          counted = omega arith;
+          kept = rw (replaced-one j n r (omega arith)) inv;
           requested = λ m h. absurd (List·Memᴰ·not-nil h);
         },
         omega (arith, inv .valid-state .line .few-trains),
@@ -122,7 +128,7 @@ module _ (table : List ℕ) (n : ℕ) (j : List Record) (o : Observer) (long : j
       (λ e. rw e (
       let one = count-some (w .state .trains) (λ t. isAsked (trainOf (w .state) t .status)) (m .train .0) known e in
       let space : w .state .logged < journalLength = omega arith in
-      worked-more w k (oneLogged (w .state)) (Afe m) refl space
+      worked-more w k (w .state) _ (Afe m) refl space
       (decline-kept table (w .state) _ _ (k .kept) m known e space)
       (λ q z. absurd (other-message q m z))))
       (λ e. rw e k)
@@ -137,12 +143,12 @@ unfolding accepted
 accepted-worked table s j o inv a (request m q free idle) =
     let w = taken s (Fa m) (withStatus (trainOf s (m .train .0)) (Asked (s .logged))) in
     let k = settled-worked table (s .logged) j (hearFrame o (Fa m)) (inv .room) w
-    (taken-worked table (s .logged) j (hearFrame o (Fa m)) (inv .room) _ (Fa m) refl (q .space)
+    (begun-worked table (s .logged) j (hearFrame o (Fa m)) (inv .room) _ _ refl (q .space)
     (request-kept table s j o inv m q idle)) in
     let known : m .train .0 < settled table w .state .trains =
     rw (ap (λ (l : Line). l .trains) (settled-settles table w .line)) (q .known) in
     declined-worked table (s .logged) j (hearFrame o (Fa m)) (inv .room) m (settled table w) known k
 accepted-worked table s j o inv a (arrival m q runs) =
     settled-worked table (s .logged) j (hearFrame o (Am m)) (inv .room) _
-    (taken-worked table (s .logged) j (hearFrame o (Am m)) (inv .room) _ (Am m) refl (q .space)
+    (begun-worked table (s .logged) j (hearFrame o (Am m)) (inv .room) _ _ refl (q .space)
     (arrival-kept table s j o inv m q runs)) .0

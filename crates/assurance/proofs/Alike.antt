@@ -23,7 +23,7 @@ use Rattle.completion.proofs.Codes.{code-cong}
 use Rattle.frame.specs.Frame.{readChecks, readFrame}
 use Rattle.rules.specs.declared.state.Train.{Train}
 use Rattle.rules.specs.declared.state.Status.the-variants.{Running}
-use Rattle.rules.specs.State.{isAsked, nextOf, locatedAt, reachedBy, trainOf, lineOf, located, reached, nextMove}
+use Rattle.rules.specs.State.{isAsked, nextOf, locatedAt, reachedBy, trainOf, lineOf, located, reached}
 use Rattle.rules.specs.State.{withStatus}
 use Rattle.rules.specs.Valid.{valid}
 use Rattle.rules.specs.Granting.{grantable, older, oldest, Work, granted, proceed, grants}
@@ -34,7 +34,7 @@ use Rattle.rules.proofs.Changes.{grantable-facts, is-grantable}
 use Rattle.rules.proofs.Oldest.{oldest-some}
 use Rattle.rules.proofs.Grants.{Turn, granted-place}
 use Rattle.rules.proofs.Settling.{Roomy, roomy-next}
-use Rattle.assurance.specs.Types.{Move, Message, Fe, State}
+use Rattle.assurance.specs.Types.{Move, State}
 use Rattle.assurance.specs.Unread.{Alike}
 
 -- ---- checks that are the same where those before them pass
@@ -187,9 +187,7 @@ module _ (s u : State) (a : Alike s u) where
 pub record SameWork (w v : Work) : Type 0 where
   pub state : Alike (w .state) (v .state)
   pub logged : v .logged ≡ w .logged
-
-pub logged-same : (w v : Work) (m n : Message) → SameWork w v → n ≡ m → v .logged ++ n ∷ [] ≡ w .logged ++ m ∷ []
-logged-same w v m n k e = rw (k .logged, e)
+  pub sent : v .sent ≡ w .sent
 
 module _ (table : List ℕ) where
   granted-same : (w v : Work) (t : ℕ) → SameWork w v → Turn table w t → SameWork (granted w t) (granted v t)
@@ -201,7 +199,8 @@ module _ (table : List ℕ) where
         state = changed-alike (w .state) (v .state) (k .state) t _ _ _ _ (granted-place table w t f)
             (in-fleet (v .state) t (λ x. isAsked (x .status)) refl asks)
             (ap (λ (x : Train). withStatus x Running) e) (ap (λ (n : ℕ). n + 1) (k .state .logged));
-        logged = logged-same w v (Fe (nextMove (w .state) t)) (Fe (nextMove (v .state) t)) k (rw e);
+        logged = rw (k .logged, e);
+        sent = rw (k .sent, e);
       }
 
   pub grants-same : (n : ℕ) (w v : Work) → Roomy w → SameWork w v → SameWork (grants table n w) (grants table n v)

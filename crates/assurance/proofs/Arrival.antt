@@ -18,7 +18,7 @@ use Rattle.completion.specs.Table.{tableLength, filled}
 use Rattle.rules.specs.declared.state.Status.{Status}
 use Rattle.rules.specs.declared.state.Status.the-variants.{Free, Asked, Running}
 use Rattle.rules.specs.State.{isAsked, isRunning, nextOf, trainOf, lineOf, nextMove}
-use Rattle.rules.specs.Answer.{outLength, taken, accepted, sent, Answer, answered, refused, answer}
+use Rattle.rules.specs.Answer.{outLength, taken, accepted, Answer, answered, refused, answer}
 use Rattle.rules.specs.Opening.{Opening, openedState}
 use Rattle.rules.proofs.Trains.{running-is, route-of}
 use Rattle.rules.proofs.Acceptance.{NextMove, Taken, request, arrival, by-verdict}
@@ -110,7 +110,7 @@ module _ (table : List ℕ) (long : tableLength ≤ length table) (r : Ran) (o :
       (due-taken table s (r .journal) o (k .kept) c u) in
       let w = accepted table s (readFrame (bytesOf a)) in
       let same = accepts (answered (s .logged) (r .journal) out w) (refused s (r .journal) out) e in
-      (length (sent w), ap (λ (b : Answer). b .verdict) same)
+      (length (w .sent), ap (λ (b : Answer). b .verdict) same)
 
   accepted-due : (frame out : List ℕ) (n : ℕ) → answerAfter table r frame out .verdict ≡ Sent n
       → (u : Unhindered (lineOf s) o) × (frame ≡ bytesOf (due (lineOf s) o (u .train)))

@@ -1,7 +1,7 @@
 -- One frame: the answers are read back from the out buffer, and the answer to any frame, accepted or refused, keeps the
 -- invariant.
 use mathlib.Core.Path.{_≡_, refl, ap, _∙_}
-use mathlib.Core.List.{List, [], _∷_, _++_, append-assoc, map, List·Memᴰ, List·Memᴰ·head, List·Memᴰ·tail}
+use mathlib.Core.List.{List, [], _∷_, _++_, append-assoc, List·Memᴰ, List·Memᴰ·head, List·Memᴰ·tail}
 use mathlib.Core.List.{List·Memᴰ·not-nil}
 use Prim.Native.Nat.{ℕ, _+_}
 use native.Mathlib.Omega.{arith}
@@ -12,9 +12,9 @@ use Rattle.common.proofs.Part.{replaced-before}
 use Rattle.frame.specs.Frame.{readFrame, bytesOf}
 use Rattle.frame.specs.RoundTrip.{IsMessage}
 use Rattle.frame.proofs.RoundTrip.{round-trip}
-use Rattle.journal.specs.Journal.{blank, recordOf}
+use Rattle.journal.specs.Journal.{blank}
 use Rattle.rules.specs.State.{lineOf}
-use Rattle.rules.specs.Answer.{accepted, framesOf, sent, Answer, answered, refused, answer}
+use Rattle.rules.specs.Answer.{accepted, framesOf, Answer, answered, refused, answer}
 use Rattle.rules.proofs.Oldest.{Nobody}
 use Rattle.rules.proofs.Frames.{bytes-length}
 use Rattle.rules.proofs.Acceptance.{Passed, by-verdict, accepted-facts}
@@ -22,7 +22,7 @@ use Rattle.assurance.specs.Types.{Move, Message, Fe, Record, State}
 use Rattle.assurance.specs.Observer.{Observer, readFrames, answersOf, hearBy}
 use Rattle.assurance.specs.WholeList.{Requested}
 use Rattle.assurance.proofs.Invariant.{Invariant}
-use Rattle.assurance.proofs.Logging.{Later, later-same, left}
+use Rattle.assurance.proofs.Logging.{Later, later-same}
 use Rattle.assurance.proofs.Accept.{accepted-worked}
 
 -- ---- frames read back
@@ -61,8 +61,8 @@ pub record Exchanged (table : List ℕ) (s : State) (j : List Record) (o : Obser
   pub after : Settled table (a .state) (a .journal) (hearBy o frame (a .verdict) (a .out))
   pub line : lineOf (a .state) ≡ lineOf s
   pub requested : (m : Move) → List·Memᴰ (Fe m) (answersOf (a .verdict) (a .out))
-      → Requested (left (a .state) (a .journal)) m
-  pub later : Later s j (a .state) (a .journal)
+      → Requested (a .state .logged) (a .journal) m
+  pub later : Later (s .logged) j (a .state .logged) (a .journal)
 
 module _ (table : List ℕ) (s : State) (j : List Record) (o : Observer) (k : Settled table s j o)
     (frame out : List ℕ) where
@@ -71,7 +71,7 @@ module _ (table : List ℕ) (s : State) (j : List Record) (o : Observer) (k : Se
     after = k;
     line = refl;
     requested = λ m h. absurd (List·Memᴰ·not-nil h);
-    later = later-same s j;
+    later = later-same (s .logged) j;
   }
 
   accepted-kept : Passed s table j frame out
@@ -80,8 +80,8 @@ module _ (table : List ℕ) (s : State) (j : List Record) (o : Observer) (k : Se
       let w = accepted table s (readFrame frame) in
       let facts = accepted-facts table s (k .kept .valid-state) (readFrame frame) (p .message) in
       let worked = accepted-worked table s j o (k .kept) (readFrame frame) (p .message) in
-      let back : readFrames (length (sent w)) (replaced out 0 (framesOf (sent w))) ≡ sent w =
-      answers-back (sent w) out (facts .messages) in
+      let back : readFrames (length (w .sent)) (replaced out 0 (framesOf (w .sent))) ≡ w .sent =
+      answers-back (w .sent) out (facts .messages) in
       record {
         after = rw back (record { kept = worked .kept; nobody = facts .nobody });
         line = facts .line;
@@ -89,7 +89,7 @@ module _ (table : List ℕ) (s : State) (j : List Record) (o : Observer) (k : Se
         later = record {
           more = omega (arith, facts .counted);
           same = λ i l.
-              replaced-before j (s .logged) (map recordOf (w .logged)) i blank l
+              replaced-before j (s .logged) (w .logged) i blank l
               (omega (arith, k .kept .room, k .kept .valid-state .few-logged));
         };
       }

@@ -1,17 +1,17 @@
--- What is logged and heard, message by message. The journal is written once, at the end of a frame: `journalOf` is what
--- it would be so far.
+-- What is logged and heard, one by one. The journal is written once, at the end of a frame: `replaced j n` of the
+-- records so far is what it would be.
 use mathlib.Core.Path.{_≡_, refl, ap, _∙_}
 use mathlib.Core.Logic.{_⊎_, inl, inr, ⊎-elim}
-use mathlib.Core.List.{List, [], _∷_, _++_, map, map-append}
+use mathlib.Core.List.{List, [], _∷_, _++_}
 use Prim.Native.Nat.{ℕ, _+_, _≤_, _<_}
 use native.Mathlib.Nat.{add-zero}
 use native.Mathlib.Omega.{arith}
-use lib.ListN.{length, set, length-append, length-map}
+use lib.ListN.{length, set, length-append}
+use lib.Seq.{getD-set-other}
 use Rattle.common.specs.Part.{replaced}
 use Rattle.common.proofs.Part.{replaced-none, replaced-more}
-use Rattle.journal.specs.Journal.{recordOf, recordAt}
-use Rattle.assurance.specs.Types.{Move, Message, Record, State}
-use Rattle.assurance.specs.Run.{Ran}
+use Rattle.journal.specs.Journal.{blank, frameOf, recordAt}
+use Rattle.assurance.specs.Types.{Move, Message, Record}
 use Rattle.assurance.specs.Observer.{Observer, hearAnswer, hearAnswers}
 use Rattle.assurance.specs.WholeList.{Requested}
 
@@ -31,47 +31,39 @@ split-last (x ∷ xs) a (y ∷ ys) b zs e =
 
 -- ---- the journal
 
--- j with the messages of l logged from place n on
-abbrev pub journalOf : List Record → ℕ → List Message → List Record
-journalOf j n l = replaced j n (map recordOf l)
+-- one record in place n
+pub replaced-one : (j : List Record) (n : ℕ) (r : Record) → n < length j → replaced j n (r ∷ []) ≡ set j n r
+replaced-one j n r h = replaced-more j n [] r (rw add-zero h) ∙ rw (replaced-none j n, add-zero)
 
-pub journal-first : (j : List Record) (n : ℕ) (a : Message) → n < length j
-    → journalOf j n (a ∷ []) ≡ set j n (recordOf a)
-journal-first j n a h = replaced-more j n [] (recordOf a) (rw add-zero h) ∙ rw (replaced-none j n, add-zero)
+-- a later journal: the records below the count n are the same
+pub record Later (n : ℕ) (j : List Record) (n′ : ℕ) (j′ : List Record) : Type 0 where
+  pub more : n ≤ n′
+  pub same : (i : ℕ) → i < n → recordAt j′ i ≡ recordAt j i
 
-pub journal-more : (j : List Record) (n : ℕ) (l : List Message) (a : Message) → n + length l < length j
-    → journalOf j n (l ++ a ∷ []) ≡ set (journalOf j n l) (n + length l) (recordOf a)
-journal-more j n l a h =
-    let size : length (map recordOf l) ≡ length l = length-map l recordOf in
-    rw (map-append recordOf l (a ∷ [])) (replaced-more j n (map recordOf l) (recordOf a) (rw size h) ∙ rw size)
+pub later-same : (n : ℕ) (j : List Record) → Later n j n j
+later-same n j = record { more = omega arith; same = λ i k. refl }
 
--- a later journal: records below the count are the same
-pub record Later (s : State) (j : List Record) (s′ : State) (j′ : List Record) : Type 0 where
-  pub more : s .logged ≤ s′ .logged
-  pub same : (i : ℕ) → i < s .logged → recordAt j′ i ≡ recordAt j i
-
-pub later-same : (s : State) (j : List Record) → Later s j s j
-later-same s j = record { more = omega arith; same = λ i k. refl }
-
-pub later-still : {s s′ s″ : State} {j j′ j″ : List Record} → Later s j s′ j′ → Later s′ j′ s″ j″ → Later s j s″ j″
+pub later-still : {n n′ n″ : ℕ} {j j′ j″ : List Record} → Later n j n′ j′ → Later n′ j′ n″ j″ → Later n j n″ j″
 later-still a b = record {
   more = omega (arith, a .more, b .more);
   same = λ i k. b .same i (omega (arith, a .more)) ∙ a .same i k;
 }
 
--- state and journal as a run leaves them, its exchanges left out
-abbrev pub left : State → List Record → Ran
-left s j = record { state = s; journal = j; exchanges = [] }
+-- one record more
+pub later-set : (n : ℕ) (j : List Record) (r : Record) → Later n j (n + 1) (set j n r)
+later-set n j r = record {
+  more = omega arith;
+  same = λ i k. getD-set-other j n i r blank (λ z. omega arith);
+}
 
-pub requested-later : (r r′ : Ran) (m : Move) → Later (r .state) (r .journal) (r′ .state) (r′ .journal) → Requested r m
-    → Requested r′ m
-requested-later r r′ m l q = record {
+pub requested-later : {n n′ : ℕ} {j j′ : List Record} {m : Move} → Later n j n′ j′ → Requested n j m → Requested n′ j′ m
+requested-later l q = record {
   granted = q .granted;
   below = omega (arith, q .below, l .more);
-  authority = l .same (q .granted) (q .below) ∙ q .authority;
+  authority = ap frameOf (l .same (q .granted) (q .below)) ∙ q .authority;
   requested = q .requested;
   lower = q .lower;
-  request = l .same (q .requested) (omega (arith, q .below, q .lower)) ∙ q .request;
+  request = ap frameOf (l .same (q .requested) (omega (arith, q .below, q .lower))) ∙ q .request;
 }
 
 -- ---- the observer

@@ -5,7 +5,7 @@ use mathlib.Core.Option.{Option, none, some}
 use mathlib.Core.List.{List, [], _∷_, append-assoc}
 use Prim.Native.Nat.{ℕ, zero, suc, _+_, _≤_}
 use native.Mathlib.Omega.{arith}
-use lib.ListN.{length, length-drop}
+use lib.ListN.{length}
 use Rattle.common.proofs.Tests.{by-equality}
 use Rattle.frame.specs.Frame.{readFrame}
 use Rattle.rules.specs.declared.state.Status.the-variants.{Running}
@@ -15,14 +15,14 @@ use Rattle.completion.proofs.Rule.{bit-completable, completable-bit}
 use Rattle.rules.specs.State.{trainOf, lineOf, reached, nextMove, withStatus}
 use Rattle.rules.specs.Valid.{valid}
 use Rattle.rules.specs.Granting.{oldest, Work, granted, proceed, grants}
-use Rattle.rules.specs.Answer.{accepted, sent, answer}
+use Rattle.rules.specs.Answer.{accepted, answer}
 use Rattle.rules.proofs.Validity.{Distinct, valid-facts, is-valid}
 use Rattle.rules.proofs.Changes.{distinct-change, grantable-facts, is-grantable}
 use Rattle.rules.proofs.Reached.{moved-within, moved-code}
 use Rattle.rules.proofs.Oldest.{Oldest, oldest-none, oldest-some, earlier}
 use Rattle.rules.proofs.Grants.{askedCount, Turn, granted-fewer, granted-place, none-asked, few-asked, settled-next}
 use Rattle.rules.proofs.Settling.{settled-settles}
-use Rattle.rules.proofs.Acceptance.{by-verdict, refusal-leaves, accepted-facts}
+use Rattle.rules.proofs.Acceptance.{by-verdict, refusal-leaves, paired, accepted-facts}
 use Rattle.assurance.specs.Types.{Fe, Record, State, Sent}
 use Rattle.assurance.specs.OneFrame.{ValidKept, RefusalsChangeNothing, AtMostSix, BitInTable, NoneLeft, First}
 use Rattle.assurance.specs.OneFrame.{Granting, done, next, ExactGrant, OldestFirst, RightGrant}
@@ -41,8 +41,8 @@ at-most-six s table journal frame out n =
     (λ k q e. absurd (let z : _≡_ {A = ℕ} 0 1 = cc in omega arith))
     (λ p e.
     let a = accepted-facts table s (p .valid-state) (readFrame frame) (p .message) in
-    let same : length (sent (accepted table s (readFrame frame))) ≡ n = cc in
-    omega (arith, a .few, length-drop 1 (accepted table s (readFrame frame) .logged)))
+    let same : length (accepted table s (readFrame frame) .sent) ≡ n = cc in
+    omega (arith, a .few, paired a))
 
 pub bit-in-table : BitInTable
 bit-in-table s t e k asks = moved-code s (valid-facts s e) t k asks
@@ -101,8 +101,8 @@ oldest-first table w t e f =
     let d = valid-facts (w .state) e in
     let rest = settled-settles table (granted w t) in (
       rest .answers,
-      ap (λ (v : Work). v .logged) (sym (settled-next table w t d (first-turn table (w .state) t f))) ∙ rest .added ∙
-          append-assoc (w .logged) (Fe (nextMove (w .state) t) ∷ []) (rest .answers),
+      ap (λ (v : Work). v .sent) (sym (settled-next table w t d (first-turn table (w .state) t f))) ∙ rest .added ∙
+          append-assoc (w .sent) (Fe (nextMove (w .state) t) ∷ []) (rest .answers),
     )
 
 -- ---- the grant, with the table of the line

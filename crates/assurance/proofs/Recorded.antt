@@ -3,14 +3,14 @@ use mathlib.Core.Path.{_≡_, refl, sym, ap, subst, _∙_}
 use mathlib.Core.List.{List, [], _∷_, _++_, append-assoc, append-nil, map}
 use Prim.Native.Nat.{ℕ, _+_}
 use native.Mathlib.Omega.{arith}
-use lib.ListN.{length, take, drop, length-append, length-map, take-append-drop}
+use lib.ListN.{length, take, drop, length-append, take-append-drop}
 use lib.Seq.{take-at, drop-at, length-take-le, drop-drop}
 use Rattle.common.specs.Part.{replaced}
 use Rattle.frame.specs.Frame.{readFrame}
 use Rattle.journal.specs.Journal.{recordOf}
 use Rattle.completion.specs.Table.{filled}
 use Rattle.line.specs.Book.{lineOf as lineIn}
-use Rattle.rules.specs.Answer.{accepted, framesOf, sent, answered, answer}
+use Rattle.rules.specs.Answer.{accepted, framesOf, answered, answer}
 use Rattle.rules.specs.Opening.{Opening, openedState}
 use Rattle.rules.proofs.Acceptance.{Passed, by-verdict, accepted-facts}
 use Rattle.assurance.specs.Types.{Message, Record, State, Sent}
@@ -40,20 +40,19 @@ module _ (table : List ℕ) (s : State) (j : List Record) (frame out : List ℕ)
   accepted-adds p =
       let w = accepted table s (readFrame frame) in
       let facts = accepted-facts table s (p .valid-state) (readFrame frame) (p .message) in
-      let after = replaced out 0 (framesOf (sent w)) in
-      let back : readFrames (length (sent w)) after ≡ sent w = answers-back (sent w) out (facts .messages) in
-      let new : map recordOf (w .logged) ≡ loggedBy (Sent (length (sent w))) frame after =
-      ap (map recordOf) (facts .first ∙ ap (λ (z : List Message). readFrame frame ∷ z) (sym back)) in
-      let size : length (map recordOf (w .logged)) ≡ length (w .logged) = length-map (w .logged) recordOf in
+      let after = replaced out 0 (framesOf (w .sent)) in
+      let back : readFrames (length (w .sent)) after ≡ w .sent = answers-back (w .sent) out (facts .messages) in
+      let new : w .logged ≡ loggedBy (Sent (length (w .sent))) frame after =
+      facts .written ∙ ap (λ (z : List Message). map recordOf (readFrame frame ∷ z)) (sym back) in
       let old : length (take (s .logged) j) ≡ s .logged =
       length-take-le (s .logged) j (omega (arith, p .long-journal, p .valid-state .few-logged)) in
-      let whole : length (take (s .logged) j ++ map recordOf (w .logged)) ≡ w .state .logged =
-      length-append (take (s .logged) j) (map recordOf (w .logged)) ∙ omega (arith, facts .counted) in
-      let reach : s .logged + length (map recordOf (w .logged)) ≡ w .state .logged = omega (arith, facts .counted) in
-      subst (Adds s j (w .state) (replaced j (s .logged) (map recordOf (w .logged)))) new (record {
-        count = facts .counted ∙ rw size;
-        records = take-at (take (s .logged) j ++ map recordOf (w .logged)) _ (w .state .logged) whole;
-        rest = drop-at (take (s .logged) j ++ map recordOf (w .logged)) _ (w .state .logged) whole
+      let whole : length (take (s .logged) j ++ w .logged) ≡ w .state .logged =
+      length-append (take (s .logged) j) (w .logged) ∙ omega (arith, facts .counted) in
+      let reach : s .logged + length (w .logged) ≡ w .state .logged = omega (arith, facts .counted) in
+      subst (Adds s j (w .state) (replaced j (s .logged) (w .logged))) new (record {
+        count = facts .counted;
+        records = take-at (take (s .logged) j ++ w .logged) _ (w .state .logged) whole;
+        rest = drop-at (take (s .logged) j ++ w .logged) _ (w .state .logged) whole
             ∙ ap (λ n. drop n j) reach;
       })
 

@@ -2,11 +2,11 @@
 use mathlib.Core.Path.{_≡_, refl, sym, ap, _∙_}
 use mathlib.Core.Logic.{inl, inr}
 use mathlib.Core.Bool.{true, false≢true}
-use mathlib.Core.List.{List, [], _∷_}
+use mathlib.Core.List.{List}
 use Prim.Native.Nat.{ℕ, zero, suc, _+_, _*_, _<_}
 use native.Mathlib.Omega.{arith}
 use lib.ListN.{length, drop, length-map}
-use lib.Seq.{drop-at, drop-append-le}
+use lib.Seq.{drop-at}
 use Rattle.common.specs.Part.{replaced}
 use Rattle.common.proofs.Tests.{clash, by-cases, by-equality}
 use Rattle.frame.specs.Frame.{readFrame}
@@ -15,12 +15,12 @@ use Rattle.rules.specs.declared.state.Status.the-variants.{Asked}
 use Rattle.rules.specs.declared.state.Train.{Train}
 use Rattle.rules.specs.State.{isAsked, trainOf, nextMove, withStatus, arrivedNext}
 use Rattle.rules.specs.Granting.{Work, settled}
-use Rattle.rules.specs.Answer.{taken, declined, accepted, framesOf, sent, Answer, answer}
+use Rattle.rules.specs.Answer.{taken, declined, accepted, framesOf, Answer, answer}
 use Rattle.rules.proofs.Trains.{changed-own, changed-other}
 use Rattle.rules.proofs.Changes.{short-place}
 use Rattle.rules.proofs.Frames.{frames-length}
 use Rattle.rules.proofs.Acceptance.{NextMove, Taken, request, arrival, by-verdict, accepted-facts}
-use Rattle.assurance.specs.Types.{Move, Message, Fa, Fe, Afe, Am, Record, State, Sent}
+use Rattle.assurance.specs.Types.{Move, Message, Fa, Fe, Am, Record, State, Sent}
 use Rattle.assurance.specs.Observer.{readFrames}
 use Rattle.assurance.specs.Replies.{Awaited, Authorities, Reply, OnlyAdded, Replies}
 use Rattle.assurance.specs.Replies as replies
@@ -33,7 +33,7 @@ use Rattle.assurance.proofs.Recorded.{all-records, answer-adds}
 authorities : (s b : State) (a : Message) (w : Work) → Serves b w
     → ((m : Move) → m .train .0 < b .trains → m ≡ nextMove b (m .train .0)
     → isAsked (trainOf b (m .train .0) .status) ≡ true → Awaited s a m)
-    → Authorities s a (sent w)
+    → Authorities s a (w .sent)
 authorities s b a w k awaited = record {
   each = λ c h. let g = k .each c h in (g .0, g .1, awaited (g .0) (g .2 .known) (g .2 .next) (g .2 .waited));
   once = k .once;
@@ -64,23 +64,23 @@ module _ (s : State) (m : Move) (n : NextMove s m) where
       (λ h. rw (changed-other s t asking (s .logged + 1) (q .train .0) h) (λ next waits.
       record { known = known; next = next; waits = inl waits }))
 
-  asking-reply : (table : List ℕ) → Reply s (Fa m) (sent (declined m (settled table (taken s (Fa m) asking))))
+  asking-reply : (table : List ℕ) → Reply s (Fa m) (declined m (settled table (taken s (Fa m) asking)) .sent)
   asking-reply table = by-cases (isAsked (trainOf (w .state) t .status))
-      (λ e. rw (e, drop-append-le 1 (w .logged) (Afe m ∷ []) (k .begun)) (replies.declined m (sent w) all (λ q h same.
+      (λ e. rw e (replies.declined m (w .sent) all (λ q h same.
       let g = k .each (Fe q) h in
       let is : q ≡ g .0 = let y = g .1 in cc in
       let own : g .0 .train .0 ≡ t = ap (λ (z : Move). z .train .0) (sym is) ∙ same in
       clash (isAsked (trainOf (w .state) t .status)) e (rw own at (g .2 .runs)))))
-      (λ e. rw e (replies.granted m (sent w) all
+      (λ e. rw e (replies.granted m (w .sent) all
       (rw mine at (k .served t (rw (changed-own s t asking (s .logged + 1) place)) e))))
     where
       w : Work
       w = settled table (taken s (Fa m) asking)
 
       k : Serves (taken s (Fa m) asking .state) w
-      k = settled-serves table (taken s (Fa m) asking) (begins _ (Fa m))
+      k = settled-serves table (taken s (Fa m) asking) (begins _ _)
 
-      all : Authorities s (Fa m) (sent w)
+      all : Authorities s (Fa m) (w .sent)
       all = authorities s _ (Fa m) w k asking-awaited
 
       mine : nextMove (taken s (Fa m) asking .state) t ≡ m
@@ -97,11 +97,11 @@ module _ (s : State) (m : Move) (n : NextMove s m) where
       (λ h. rw (changed-other s t arriving (s .logged + 1) (q .train .0) h) (λ next waits.
       record { known = known; next = next; waits = inl waits }))
 
-  arriving-reply : (table : List ℕ) → Reply s (Am m) (sent (settled table (taken s (Am m) arriving)))
+  arriving-reply : (table : List ℕ) → Reply s (Am m) (settled table (taken s (Am m) arriving) .sent)
   arriving-reply table = replies.arrived m _ (authorities s _ (Am m) _
-      (settled-serves table (taken s (Am m) arriving) (begins _ (Am m))) arriving-awaited)
+      (settled-serves table (taken s (Am m) arriving) (begins _ _)) arriving-awaited)
 
-accepted-reply : (table : List ℕ) (s : State) (a : Message) → Taken s a → Reply s a (sent (accepted table s a))
+accepted-reply : (table : List ℕ) (s : State) (a : Message) → Taken s a → Reply s a (accepted table s a .sent)
 unfolding accepted
 accepted-reply table s a (request m n free idle) = asking-reply s m n table
 accepted-reply table s a (arrival m n runs) = arriving-reply s m n table
@@ -117,8 +117,8 @@ module _ (s : State) (table : List ℕ) (journal : List Record) (frame out : Lis
       (λ p e.
       let w = accepted table s (readFrame frame) in
       let facts = accepted-facts table s (p .valid-state) (readFrame frame) (p .message) in
-      let same : n ≡ length (sent w) = cc in
-      rw (same, answers-back (sent w) out (facts .messages)) (accepted-reply table s (readFrame frame) (p .message)))
+      let same : n ≡ length (w .sent) = cc in
+      rw (same, answers-back (w .sent) out (facts .messages)) (accepted-reply table s (readFrame frame) (p .message)))
 
   rest-kept : let a = answer s table journal frame out in a .verdict ≡ Sent n → drop (7 * n) (a .out) ≡ drop (7 * n) out
   unfolding replaced
@@ -126,7 +126,7 @@ module _ (s : State) (table : List ℕ) (journal : List Record) (frame out : Lis
       (λ (a : Answer). a .verdict ≡ Sent n → drop (7 * n) (a .out) ≡ drop (7 * n) out)
       (λ k q e. absurd (let z : _≡_ {A = ℕ} 0 1 = cc in omega arith))
       (λ p e.
-      let l = sent (accepted table s (readFrame frame)) in
+      let l = accepted table s (readFrame frame) .sent in
       let same : length l ≡ n = cc in
       let size : length (framesOf l) ≡ 7 * n = frames-length l ∙ rw same in
       let reach : 0 + length (framesOf l) ≡ 7 * n = omega arith in

@@ -5,21 +5,19 @@ use mathlib.Core.Logic.{_≢_, ⊎-elim}
 use mathlib.Core.Bool.{true, false, false≢true}
 use mathlib.Core.List.{List, [], _∷_, _++_, List·Memᴰ, List·Memᴰ·head, List·Memᴰ·append-cases}
 use mathlib.Core.List.{List·Memᴰ·eq-of-singleton, List·Memᴰ·not-nil, Memᴰ·append-left, Memᴰ·append-right}
-use Prim.Native.Nat.{ℕ, _+_, _≤_, _<_}
+use Prim.Native.Nat.{ℕ, _+_, _<_}
 use native.Mathlib.Omega.{arith}
 use lib.ListN.{length, length-append}
-use lib.Seq.{drop-append-le}
 use Rattle.common.proofs.Tests.{clash, by-equality}
 use Rattle.frame.specs.Frame.{moveOf}
 use Rattle.rules.specs.declared.state.Status.the-variants.{Running}
 use Rattle.rules.specs.declared.state.Train.{Train}
-use Rattle.rules.specs.State.{isAsked, nextOf, trainOf, nextMove, withStatus}
-use Rattle.rules.specs.Granting.{Work, granted, settled}
-use Rattle.rules.specs.Answer.{sent}
+use Rattle.rules.specs.State.{isAsked, nextOf, trainOf, nextMove, withStatus, oneLogged}
+use Rattle.rules.specs.Granting.{Work, begun, granted, settled}
 use Rattle.rules.proofs.Trains.{changed-own, changed-other, changed-each}
 use Rattle.rules.proofs.Changes.{grantable-facts}
 use Rattle.rules.proofs.Grants.{Turn, grants-keep, granted-place}
-use Rattle.assurance.specs.Types.{Move, Message, Fe, State}
+use Rattle.assurance.specs.Types.{Move, Message, Fe, Record, State}
 use Rattle.assurance.proofs.Logging.{split-last}
 
 -- the move that a train has before it, by its record
@@ -36,27 +34,25 @@ pub record Served (b : State) (w : Work) (m : Move) : Type 0 where
   pub runs : isAsked (trainOf (w .state) (m .train .0) .status) ≡ false
 
 pub record Serves (b : State) (w : Work) : Type 0 where
-  pub begun : 1 ≤ length (w .logged)
   pub trains : w .state .trains ≡ b .trains
   pub moves : (u : ℕ) → nextMove (w .state) u ≡ nextMove b u
   pub waiting : (u : ℕ) → isAsked (trainOf (w .state) u .status) ≡ true → isAsked (trainOf b u .status) ≡ true
-  pub each : (a : Message) → List·Memᴰ a (sent w) → (m : Move) × (a ≡ Fe m) × Served b w m
-  pub once : (said : List Message) (m : Move) (rest : List Message) → sent w ≡ said ++ Fe m ∷ rest
+  pub each : (a : Message) → List·Memᴰ a (w .sent) → (m : Move) × (a ≡ Fe m) × Served b w m
+  pub once : (said : List Message) (m : Move) (rest : List Message) → w .sent ≡ said ++ Fe m ∷ rest
       → (q : Move) → List·Memᴰ (Fe q) said → q .train .0 ≢ m .train .0
   -- who waits no more has got its own
   pub served : (u : ℕ) → isAsked (trainOf b u .status) ≡ true → isAsked (trainOf (w .state) u .status) ≡ false
-      → List·Memᴰ (Fe (nextMove b u)) (sent w)
+      → List·Memᴰ (Fe (nextMove b u)) (w .sent)
 
-pub begins : (b : State) (a : Message) → Serves b (record { state = b; logged = a ∷ [] })
-begins b a = record {
-  begun = omega arith;
+pub begins : (s : State) (r : Record) → Serves (oneLogged s) (begun s r)
+begins s r = record {
   trains = refl;
   moves = λ u. refl;
   waiting = λ u e. e;
   each = λ c h. absurd (List·Memᴰ·not-nil h);
   once = λ said m rest e.
       absurd (let n = ap length e in omega (arith, length-append said (Fe m ∷ rest)));
-  served = λ u e f. clash (isAsked (trainOf b u .status)) e f;
+  served = λ u e f. clash (isAsked (trainOf s u .status)) e f;
 }
 
 module _ (table : List ℕ) (b : State) (w : Work) (t : ℕ) (k : Serves b w) (f : Turn table w t) where
@@ -71,9 +67,6 @@ module _ (table : List ℕ) (b : State) (w : Work) (t : ℕ) (k : Serves b w) (f
 
   asks : isAsked (trainOf s t .status) ≡ true
   asks = grantable-facts table s t (f .can) .asks
-
-  more : sent (granted w t) ≡ sent w ++ Fe new ∷ []
-  more = drop-append-le 1 (w .logged) (Fe new ∷ []) (k .begun)
 
   -- who does not wait does not wait after it
   not-after : (u : ℕ) → isAsked (trainOf s u .status) ≡ false → isAsked (trainOf (granted w t .state) u .status) ≡ false
@@ -91,14 +84,13 @@ module _ (table : List ℕ) (b : State) (w : Work) (t : ℕ) (k : Serves b w) (f
 
   serves-next : Serves b (granted w t)
   serves-next = record {
-    begun = omega (arith, length-append (w .logged) (Fe new ∷ []), k .begun);
     trains = k .trains;
     moves = λ u. changed-each s t x (s .logged + 1) (λ v y. moveBy v y ≡ nextMove b v) (granted-place table w t f)
         (k .moves t) u (λ h. k .moves u);
     waiting = λ u. changed-each s t x (s .logged + 1)
         (λ v y. isAsked (y .status) ≡ true → isAsked (trainOf b v .status) ≡ true) (granted-place table w t f)
         (λ e. absurd (false≢true e)) u (λ h. k .waiting u);
-    each = rw more (λ a h. ⊎-elim
+    each = λ a h. ⊎-elim
         (λ q. let g = k .each a q in (
           g .0,
           g .1,
@@ -110,19 +102,19 @@ module _ (table : List ℕ) (b : State) (w : Work) (t : ℕ) (k : Serves b w) (f
           },
         ))
         (λ q. (new, List·Memᴰ·eq-of-singleton q, own))
-        (List·Memᴰ·append-cases (sent w) h));
-    once = rw more (λ said m rest e q h. ⊎-elim
+        (List·Memᴰ·append-cases (w .sent) h);
+    once = λ said m rest e q h. ⊎-elim
         (λ z same.
         let g = k .each (Fe q) (rw (z .0) at h) in
         let is : q ≡ g .0 = let y = g .1 in cc in
         let to : m ≡ new = let y = z .1 in cc in
         clash (isAsked (trainOf s t .status)) asks (rw (← is, same, to) at (g .2 .runs)))
         (λ z. k .once said m (z .0) (z .1) q h)
-        (split-last (sent w) (Fe new) said (Fe m) rest e));
-    served = rw more (λ u e. by-equality u t
-        (λ q g. Memᴰ·append-right (sent w) (List·Memᴰ·head (rw (q, k .moves t))))
+        (split-last (w .sent) (Fe new) said (Fe m) rest e);
+    served = λ u e. by-equality u t
+        (λ q g. Memᴰ·append-right (w .sent) (List·Memᴰ·head (rw (q, k .moves t))))
         (λ h. rw (changed-other s t x (s .logged + 1) u h)
-        (λ g. Memᴰ·append-left (Fe new ∷ []) (k .served u e g))));
+        (λ g. Memᴰ·append-left (Fe new ∷ []) (k .served u e g)));
   }
 
 pub settled-serves : (table : List ℕ) (w : Work) → Serves (w .state) w → Serves (w .state) (settled table w)

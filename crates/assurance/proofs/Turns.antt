@@ -8,7 +8,7 @@ use Prim.Native.Nat.{ℕ, _+_, _≤_, _<_}
 use native.Mathlib.Nat.{zero-add}
 use native.Mathlib.Omega.{arith}
 use lib.ListN.{length, length-append}
-use lib.Seq.{drop-append-le}
+use Rattle.common.specs.Part.{replaced}
 use Rattle.common.specs.Update.{update}
 use Rattle.common.proofs.Tests.{clash, by-cases}
 use Rattle.line.specs.Book.{lineOf as lineIn}
@@ -18,7 +18,7 @@ use Rattle.completion.specs.Table.{filled}
 use Rattle.rules.specs.declared.state.Status.the-variants.{Asked, Running}
 use Rattle.rules.specs.State.{isAsked, trainOf, lineOf, nextMove, withStatus, arrivedNext}
 use Rattle.rules.specs.Granting.{Work, granted, settled}
-use Rattle.rules.specs.Answer.{taken, declined, accepted, sent, Answer, answer}
+use Rattle.rules.specs.Answer.{taken, declined, accepted, Answer, answer}
 use Rattle.rules.specs.Opening.{openedState}
 use Rattle.rules.proofs.Trains.{changed-line}
 use Rattle.rules.proofs.Changes.{grantable-facts, short-place}
@@ -31,9 +31,9 @@ use Rattle.assurance.specs.Observer.{Observer, atOpening, hearFrame, hea
 use Rattle.assurance.specs.Turns.{Turns, turnBy, turnIn, turnsFrom, turns, InTurn, TurnByTurn}
 use Rattle.assurance.proofs.Invariant.{Invariant}
 use Rattle.assurance.proofs.Order.{InOrder, no-more-asked, asks-last}
-use Rattle.assurance.proofs.Logging.{split-last, journalOf}
+use Rattle.assurance.proofs.Logging.{split-last}
 use Rattle.assurance.proofs.Steps.{request-kept, arrival-kept}
-use Rattle.assurance.proofs.Accept.{Room, Worked, granted-worked, taken-worked}
+use Rattle.assurance.proofs.Accept.{Room, Worked, granted-worked, begun-worked}
 use Rattle.assurance.proofs.Exchanged.{Settled, answers-back, answer-kept}
 use Rattle.assurance.proofs.Opened.{opening-accepted, opened-line, opened-settled}
 use Rattle.assurance.proofs.Told.{at-post, asked-told, next-told}
@@ -64,17 +64,17 @@ module _ (table : List ℕ) (c : ℕ) (j : List Record) (o : Observer) (long : j
     worked : Worked table c j o w × Room w
     line : lineOf (w .state) ≡ l
     ordered : InOrder (w .state) n k
-    given : GivenInTurn l k o (sent w)
+    given : GivenInTurn l k o (w .sent)
 
   -- a grant to the oldest, as the observer tells it
   module _ (w : Work) (t : ℕ) (h : Turned w) (f : Turn table w t) where
     abbrev s : State
     s = w .state
 
-    inv : Invariant table s (journalOf j c (w .logged)) (hearAnswers o (sent w))
+    inv : Invariant table s (replaced j c (w .logged)) (hearAnswers o (w .sent))
     inv = h .worked .0 .kept
 
-    turn : InTurn (lineOf s) k (hearAnswers o (sent w)) (nextMove s t)
+    turn : InTurn (lineOf s) k (hearAnswers o (w .sent)) (nextMove s t)
     turn = record {
       known = f .known;
       next = rw (next-told table s _ _ inv t (f .known), at-post table s _ _ inv t (f .known));
@@ -92,10 +92,9 @@ module _ (table : List ℕ) (c : ℕ) (j : List Record) (o : Observer) (long : j
       line = granted-line table w t f ∙ h .line;
       ordered = no-more-asked s t (withStatus (trainOf s t) Running) (s .logged + 1) n k (granted-place table w t f)
           refl (h .ordered);
-      given = rw (drop-append-le 1 (w .logged) (Fe (nextMove s t) ∷ []) (h .worked .0 .begun))
-          (given-more l k o (sent w) (Fe (nextMove s t)) (h .given) (λ m e.
+      given = given-more l k o (w .sent) (Fe (nextMove s t)) (h .given) (λ m e.
           let same : m ≡ nextMove s t = cc in
-          rw same (subst (λ (z : Line). InTurn z k (hearAnswers o (sent w)) (nextMove s t)) (h .line) turn)));
+          rw same (subst (λ (z : Line). InTurn z k (hearAnswers o (w .sent)) (nextMove s t)) (h .line) turn));
     }
 
   settled-turned : (w : Work) → Turned w → Turned (settled table w)
@@ -104,15 +103,14 @@ module _ (table : List ℕ) (c : ℕ) (j : List Record) (o : Observer) (long : j
 -- what an accepted frame leaves
 record Kept (l : Line) (n : ℕ) (k : Turns) (o : Observer) (w : Work) : Type 0 where
   ordered : InOrder (w .state) n k
-  given : GivenInTurn l k o (sent w)
+  given : GivenInTurn l k o (w .sent)
 
 declined-kept : (table : List ℕ) (c : ℕ) (j : List Record) (o : Observer) (long : journalLength ≤ length j) (l : Line)
     (n : ℕ) (k : Turns) (m : Move) (w : Work) → Turned table c j o long l n k w → Kept l n k o (declined m w)
 declined-kept table c j o long l n k m w h = by-cases (isAsked (trainOf (w .state) (m .train .0) .status))
     (λ e. rw e (record {
       ordered = record { before = h .ordered .before; order = h .ordered .order };
-      given = rw (drop-append-le 1 (w .logged) (Afe m ∷ []) (h .worked .0 .begun))
-          (given-more l k o (sent w) (Afe m) (h .given) (λ q z. absurd (other q z)));
+      given = given-more l k o (w .sent) (Afe m) (h .given) (λ q z. absurd (other q z));
     }))
     (λ e. rw e (record { ordered = h .ordered; given = h .given }))
   where
@@ -131,7 +129,7 @@ module _ (table : List ℕ) (s : State) (j : List Record) (o : Observer) (inv : 
       declined-kept table (s .logged) j (hearFrame o (Fa m)) (inv .room) (lineOf s) (n + 1) (update k t n) m
       (settled table w)
       (settled-turned table (s .logged) j (hearFrame o (Fa m)) (inv .room) (lineOf s) (n + 1) (update k t n) w (record {
-        worked = taken-worked table (s .logged) j (hearFrame o (Fa m)) (inv .room) (w .state) (Fa m) refl (q .space)
+        worked = begun-worked table (s .logged) j (hearFrame o (Fa m)) (inv .room) _ _ refl (q .space)
             (request-kept table s j o inv m q idle);
         line = changed-line s t x (s .logged + 1) refl;
         ordered = asks-last s (inv .valid-state) t (s .logged + 1) n k (short-place s t (q .short)) h;
@@ -145,7 +143,7 @@ module _ (table : List ℕ) (s : State) (j : List Record) (o : Observer) (inv : 
       record { before = λ u ku e. omega (arith, h .before u ku e); order = h .order } in
       let v =
       settled-turned table (s .logged) j (hearFrame o (Am m)) (inv .room) (lineOf s) (n + 1) k w (record {
-        worked = taken-worked table (s .logged) j (hearFrame o (Am m)) (inv .room) (w .state) (Am m) refl (q .space)
+        worked = begun-worked table (s .logged) j (hearFrame o (Am m)) (inv .room) _ _ refl (q .space)
             (arrival-kept table s j o inv m q runs);
         line = changed-line s t x (s .logged + 1) refl;
         ordered = no-more-asked s t x (s .logged + 1) (n + 1) k (short-place s t (q .short)) refl later;
@@ -172,7 +170,7 @@ answer-turned table s j o inv n k h frame out = by-verdict s table j frame out (
     let facts = accepted-facts table s (inv .valid-state) (readFrame frame) (p .message) in
     record {
       ordered = v .ordered;
-      given = rw (answers-back (sent (accepted table s (readFrame frame))) out (facts .messages)) (v .given);
+      given = rw (answers-back (accepted table s (readFrame frame) .sent) out (facts .messages)) (v .given);
     })
 
 run-ordered : (table : List ℕ) (is : List Input) (s : State) (j : List Record) (o : Observer) → Settled table s j o

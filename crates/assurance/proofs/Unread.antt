@@ -10,11 +10,11 @@ use Rattle.common.proofs.Tests.{by-cases, by-equality}
 use Rattle.common.proofs.Below.{count-le}
 use Rattle.common.proofs.Check.{refuses}
 use Rattle.frame.specs.Frame.{readFrame}
-use Rattle.journal.specs.Journal.{journalLength}
+use Rattle.journal.specs.Journal.{journalLength, recordOf}
 use Rattle.rules.specs.declared.state.Train.{Train}
 use Rattle.rules.specs.declared.state.Status.the-variants.{Asked}
 use Rattle.rules.specs.State.{isAsked, trainOf, withStatus, arrivedNext}
-use Rattle.rules.specs.Granting.{Work, log, grants, settled}
+use Rattle.rules.specs.Granting.{Work, sends, grants, settled}
 use Rattle.rules.specs.Answer.{mostLogged, moveIn, frameChecks, taken, declined, accepted, answered, refused, answer}
 use Rattle.rules.proofs.Trains.{changed, changed-other, changed-each}
 use Rattle.rules.proofs.Validity.{Valid}
@@ -24,7 +24,7 @@ use Rattle.rules.proofs.Settling.{Roomy, settled-settles}
 use Rattle.rules.proofs.Acceptance.{NextMove, Taken, request, arrival, frame-passed, by-verdict}
 use Rattle.assurance.specs.Types.{Line, Move, Message, Fa, Afe, Am, Record, State}
 use Rattle.assurance.specs.Unread.{Alike, SameAnswer, Unread, Kept, LeftAlone}
-use Rattle.assurance.proofs.Alike.{SameWork, refusal-same, changed-alike, logged-same, grants-same}
+use Rattle.assurance.proofs.Alike.{SameWork, refusal-same, changed-alike, grants-same}
 
 -- ---- the places are not read
 
@@ -39,6 +39,7 @@ module _ (table : List ℕ) (s u : State) (a : Alike s u) (d : Valid s) (b : Mes
         (short-place u (moveIn b .train .0) (rw (a .train (moveIn b .train .0) known) short))
         same (ap (λ (n : ℕ). n + 1) (a .logged));
     logged = refl;
+    sent = refl;
   }
 
   taken-roomy : Roomy (taken s b x)
@@ -62,7 +63,7 @@ declined-same : (m : Move) (w v : Work) → SameWork w v → m .train .0 < w .st
 declined-same m w v k known = rw (k .state .train (m .train .0) known)
     (by-cases (isAsked (trainOf (w .state) (m .train .0) .status)) (λ e. rw e more) (λ e. rw e k))
   where
-    more : SameWork (log (w .state) (w .logged) (Afe m)) (log (v .state) (v .logged) (Afe m))
+    more : SameWork (sends (w .state) w (recordOf (Afe m)) (Afe m)) (sends (v .state) v (recordOf (Afe m)) (Afe m))
     more = record {
       state = record {
         posts = k .state .posts;
@@ -71,7 +72,8 @@ declined-same m w v k known = rw (k .state .train (m .train .0) known)
         tracks = k .state .tracks;
         train = k .state .train;
       };
-      logged = logged-same w v (Afe m) (Afe m) k refl;
+      logged = rw (k .logged);
+      sent = rw (k .sent);
     }
 
 accepted-same : (table : List ℕ) (s u : State) → Alike s u → Valid s → (b : Message) → Taken s b
@@ -96,9 +98,9 @@ answered-same : (s u : State) (journal : List Record) (out : List ℕ) (w v : Wo
     → SameAnswer (answered (s .logged) journal out w) (answered (u .logged) journal out v)
 answered-same s u journal out w v a k = record {
   state = k .state;
-  verdict = rw (k .logged);
+  verdict = rw (k .sent);
   journal = rw (a .logged, k .logged);
-  out = rw (k .logged);
+  out = rw (k .sent);
 }
 
 pub unread : Unread

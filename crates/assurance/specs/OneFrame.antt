@@ -68,7 +68,7 @@ pub record ExactGrant : Type 0 where
 -- the first authority
 abbrev pub OldestFirst : Type 0
 OldestFirst = (table : List ℕ) (w : Work) (t : ℕ) → valid (w .state) ≡ true → First table (w .state) t
-    → (others : List Message) × (settled table w .logged ≡ w .logged ++ Fe (nextMove (w .state) t) ∷ others)
+    → (others : List Message) × (settled table w .sent ≡ w .sent ++ Fe (nextMove (w .state) t) ∷ others)
 
 -- what demand 2 asks for an authority: the train asked, "the section is free, the next post has a free track, and all
 -- trains could still reach their ends"

@@ -11,7 +11,8 @@ use Rattle.common.specs.Below.{countBelow}
 use Rattle.line.specs.Line.{routeOf, tracksAt}
 use Rattle.line.specs.Holding.{holdsSection, postHolders}
 use Rattle.line.specs.Book.{lineOf}
-use Rattle.journal.specs.Journal.{recordAt, recordOf}
+use Rattle.frame.specs.Frame.{bytesOf}
+use Rattle.journal.specs.Journal.{frameOf, recordAt}
 use Rattle.rules.specs.State.{reached}
 use Rattle.rules.specs.Valid.{valid}
 use Rattle.rules.specs.Opening.{opening}
@@ -22,13 +23,13 @@ use Rattle.assurance.specs.Observer.{hasAsked, nextTold, reachedTold}
 
 -- "An authority written, that is an FE, has its logged request if, below the journal count, the journal has that FE
 -- and, at a lower number, an FA of the same train, from and to."
-pub record Requested (r : Ran) (m : Move) : Type 0 where
+pub record Requested (count : ℕ) (journal : List Record) (m : Move) : Type 0 where
   pub granted : ℕ
-  pub below : granted < r .state .logged
-  pub authority : recordAt (r .journal) granted ≡ recordOf (Fe m)
+  pub below : granted < count
+  pub authority : frameOf (recordAt journal granted) ≡ bytesOf (Fe m)
   pub requested : ℕ
   pub lower : requested < granted
-  pub request : recordAt (r .journal) requested ≡ recordOf (Fa m)
+  pub request : frameOf (recordAt journal requested) ≡ bytesOf (Fa m)
 
 -- train t's FE records below the journal count
 abbrev pub isFeOf : ℕ → Record → Bool
@@ -61,7 +62,7 @@ pub record Assured (l : Line) (r : Ran) (o : Observer) : Type 0 where
   pub short : (t : ℕ) → t < l .trains → o t .claim ≢ nothing → ShortOfEnd l o t
   -- "Every authority written has its logged request."
   pub requests : (e : Exchange) → List·Memᴰ e (r .exchanges) → (m : Move)
-      → List·Memᴰ (Fe m) (answersOf (e .verdict) (e .out)) → Requested r m
+      → List·Memᴰ (Fe m) (answersOf (e .verdict) (e .out)) → Requested (r .state .logged) (r .journal) m
   -- "While any train is short of its end, at least one such train has an authority or has not asked for its next
   -- section."
   pub onward : (t : ℕ) → t < l .trains → ShortOfEnd l o t → Unhindered l o

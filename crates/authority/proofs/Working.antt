@@ -5,11 +5,11 @@ use mathlib.Core.List.{List, [], _∷_, _++_}
 use Prim.Native.Nat.{ℕ, _+_, _≤_, _<_}
 use native.Mathlib.Omega.{arith}
 use Rattle.common.proofs.Below.{count-le}
-use Rattle.journal.specs.Journal.{journalLength, recordOf, emptyBatch, withRecord}
-use Rattle.authority.specs.Types.{Message, Batch, State, Progress}
-use Rattle.rules.specs.State.{isAsked, trainOf, oneLogged}
+use Rattle.journal.specs.Journal.{journalLength, emptyBatch, withRecord}
+use Rattle.authority.specs.Types.{Message, Fe, Record, Batch, State, Progress}
+use Rattle.rules.specs.State.{isAsked, trainOf, nextMove, oneLogged}
 use Rattle.rules.specs.Valid.{valid}
-use Rattle.rules.specs.Granting.{Work, log, granted, settled}
+use Rattle.rules.specs.Granting.{Work, begun, sends, granted, settled}
 use Rattle.rules.specs.Answer.{mostLogged}
 use Rattle.authority.specs.Progress.{addRecords, batchOf, progressOf, progressWith, progressTo}
 use Rattle.rules.proofs.Validity.{valid-facts, is-valid}
@@ -17,15 +17,15 @@ use Rattle.rules.proofs.Oldest.{Nobody, Oldest}
 use Rattle.rules.proofs.Grants.{askedCount, granted-fewer, settled-stop, settled-next}
 use Rattle.rules.proofs.Settling.{Roomy, roomy-next}
 
--- a message more
-records-more : (b : Batch) (l : List Message) (a : Message) → withRecord (addRecords b l) (recordOf a) ≡ addRecords b
-    (l ++ a ∷ [])
+-- a record more
+records-more : (b : Batch) (l : List Record) (r : Record) → withRecord (addRecords b l) r ≡ addRecords b (l ++ r ∷ [])
 unfolding addRecords
-records-more b [] a = refl
-records-more b (c ∷ l) a = records-more (withRecord b (recordOf c)) l a
+records-more b [] r = refl
+records-more b (c ∷ l) r = records-more (withRecord b c) l r
 
-pub logged-more : (s : State) (l : List Message) (a : Message) → progressWith s (batchOf l) a ≡ progressOf (log s l a)
-logged-more s l a = rw (records-more emptyBatch l a)
+pub sent-more : (s : State) (w : Work) (r : Record) (a : Message)
+    → progressWith s (batchOf (w .logged)) r ≡ progressOf (sends s w r a)
+sent-more s w r a = rw (records-more emptyBatch (w .logged) r)
 
 -- ---- the granting that began with the work w, when the code holds p
 
@@ -36,20 +36,20 @@ pub record Working (table : List ℕ) (w : Work) (p : Progress) : Type 0 where
   pub ends : settled table work ≡ settled table w
 
 -- a frame is logged, and its own change made, which leaves a valid state with room for the answers
-pub begun-roomy : (s : State) (a : Message) → valid (oneLogged s) ≡ true → s .logged + mostLogged ≤ journalLength
-    → Roomy (log s [] a)
-begun-roomy s a v room =
+pub begun-roomy : (s : State) (r : Record) → valid (oneLogged s) ≡ true → s .logged + mostLogged ≤ journalLength
+    → Roomy (begun s r)
+begun-roomy s r v room =
     let d = valid-facts (oneLogged s) v in
     record {
       valid-state = d;
       room = omega (arith, count-le (s .trains) (λ t. isAsked (trainOf s t .status)), d .line .few-trains);
     }
 
-pub working-start : (table : List ℕ) (s : State) (a : Message) (p : Progress) → valid (oneLogged s) ≡ true
+pub working-start : (table : List ℕ) (s : State) (r : Record) (p : Progress) → valid (oneLogged s) ≡ true
     → s .logged + mostLogged ≤ journalLength
-    → p ≡ progressWith s emptyBatch a → Working table (log s [] a) p
+    → p ≡ progressWith s emptyBatch r → Working table (begun s r) p
 unfolding addRecords
-working-start table s a p v room e = record { work = log s [] a; held = e; roomy = begun-roomy s a v room; ends = refl }
+working-start table s r p v room e = record { work = begun s r; held = e; roomy = begun-roomy s r v room; ends = refl }
 
 module _ (table : List ℕ) (w : Work) (p : Progress) (g : Working table w p) where
   state : g .work .state ≡ p .state
@@ -70,7 +70,8 @@ module _ (table : List ℕ) (w : Work) (p : Progress) (g : Working table w p) wh
 
     module _ (q : Progress) (e : q ≡ progressTo p t) where
       after : q ≡ progressOf (granted (g .work) t)
-      after = e ∙ ap (λ (r : Progress). progressTo r t) (g .held) ∙ logged-more _ (g .work .logged) _
+      after = e ∙ ap (λ (r : Progress). progressTo r t) (g .held) ∙ sent-more _ (g .work) _
+          (Fe (nextMove (g .work .state) t))
 
       pub working-next : Working table w q
       working-next = record {

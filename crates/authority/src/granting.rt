@@ -2,12 +2,11 @@
 // an FE is written; again from the oldest, until none can be granted."
 ghost use mathlib.Core.Path.{_≡_};
 ghost use mathlib.Core.Bool.{true};
-ghost use mathlib.Core.List.{[]};
 ghost use Prim.Native.Nat.{_+_, _≤_, _<_};
-ghost use Rattle.journal.specs.Journal.{journalLength};
+ghost use Rattle.journal.specs.Journal.{journalLength, recordOf};
 ghost use Rattle.rules.specs.State.{oneLogged};
 ghost use Rattle.rules.specs.Valid.{valid};
-ghost use Rattle.rules.specs.Granting.{log, settled};
+ghost use Rattle.rules.specs.Granting.{begun, settled};
 ghost use Rattle.rules.specs.Answer.{mostLogged};
 ghost use Rattle.authority.specs.Progress.{progressOf, progressWith, progressTo};
 use crate::asking::Asker;
@@ -33,7 +32,7 @@ pub struct Progress {
 // The granting, after `message` is logged.
 pub fn settle(state: State, table: &[u8], message: Message) -> Progress
     requires { ⌜ (valid (oneLogged state) ≡ true) × (state .logged + mostLogged ≤ journalLength) ⌝ }
-    ensures { λ r. ⌜ r ≡ progressOf (settled (now (table .entry)) (log state [] message)) ⌝ }
+    ensures { λ r. ⌜ r ≡ progressOf (settled (now (table .entry)) (begun state (recordOf message))) ⌝ }
 {
     let mut work = logged(state, journal::empty(), message);
     'again: loop {
@@ -55,7 +54,7 @@ pub fn settle(state: State, table: &[u8], message: Message) -> Progress
 // A message more is logged.
 pub fn logged(state: State, batch: Batch, message: Message) -> Progress
     requires { ⌜ state .logged ≤ journalLength ⌝ }
-    ensures { λ r. ⌜ r ≡ progressWith state batch message ⌝ }
+    ensures { λ r. ⌜ r ≡ progressWith state batch (recordOf message) ⌝ }
 {
     let state = one_logged(state);
     let batch = journal::with(batch, journal::record_of(message));

@@ -6,7 +6,7 @@ use mathlib.Core.Bool.{true}
 use mathlib.Core.List.{List}
 use Prim.Native.Nat.{ℕ, zero, suc, _+_, _≤_}
 use native.Mathlib.Omega.{arith}
-use lib.ListN.{length, length-map}
+use lib.ListN.{length}
 use borrow.Author.Tests.{eq-eqb}
 use Rattle.common.specs.Check.{refusal, unlessRefused}
 use Rattle.common.proofs.Check.{accepts, refuses}
@@ -79,7 +79,7 @@ module _ (s : State) (table : List ℕ) (journal : List Record) (frame out : Lis
       (λ p.
       let k = accepted-facts table s (p .valid-state) (readFrame frame) (p .message) in
       let room = space (readFrame frame) (p .message) in
-      length-replaced journal (s .logged) _ (rw length-map (omega (arith, k .few, p .long-journal))))
+      length-replaced journal (s .logged) _ (omega (arith, k .few, p .long-journal)))
 
 -- ---- the claims
 

@@ -1,5 +1,5 @@
--- What a batch of at most seven messages has: their records, in order. So the journal with the batch appended, and the
--- frames of the answers, are those of the definitions, which have the messages in a list.
+-- What a batch of at most seven records has: these, in order. So the journal with the batch appended, and the frames of
+-- the answers, are those of the definitions, which have records and messages in lists.
 use mathlib.Core.Path.{_≡_, refl, sym, ap, subst, _∙_}
 use mathlib.Core.List.{List, [], _∷_, _++_, append-assoc, append-nil, map, List·Memᴰ, List·Memᴰ·head, List·Memᴰ·tail}
 use Prim.Native.Nat.{ℕ, suc, _+_, _-_, _≤_, _<_}
@@ -37,16 +37,16 @@ batched-more b rs r k h =
       same = records-with b r (k .seven) room ∙ ap (λ (l : List Record). l ++ r ∷ []) (k .same);
     }
 
-batched-all : (l : List Message) (b : Batch) (rs : List Record) → Batched b rs → length rs + length l ≤ batchLength
-    → Batched (addRecords b l) (rs ++ map recordOf l)
+batched-all : (l : List Record) (b : Batch) (rs : List Record) → Batched b rs → length rs + length l ≤ batchLength
+    → Batched (addRecords b l) (rs ++ l)
 unfolding addRecords
 batched-all [] b rs k h = rw append-nil k
-batched-all (a ∷ l) b rs k h =
-    subst (Batched (addRecords (withRecord b (recordOf a)) l)) (append-assoc rs (recordOf a ∷ []) (map recordOf l))
-    (batched-all l (withRecord b (recordOf a)) (rs ++ recordOf a ∷ []) (batched-more b rs (recordOf a) k (omega arith))
-    (omega (arith, length-append rs (recordOf a ∷ []))))
+batched-all (r ∷ l) b rs k h =
+    subst (Batched (addRecords (withRecord b r) l)) (append-assoc rs (r ∷ []) l)
+    (batched-all l (withRecord b r) (rs ++ r ∷ []) (batched-more b rs r k (omega arith))
+    (omega (arith, length-append rs (r ∷ []))))
 
-pub batched : (l : List Message) → length l ≤ batchLength → Batched (batchOf l) (map recordOf l)
+pub batched : (l : List Record) → length l ≤ batchLength → Batched (batchOf l) l
 batched l h = batched-all l emptyBatch [] batched-none (omega arith)
 
 -- ---- the journal

@@ -1,18 +1,18 @@
 -- An accepted frame, as the code works on it: the frame's own change before the granting, and the asker's AFE after it.
 use mathlib.Core.Path.{_≡_, subst⁻¹, _∙_}
 use mathlib.Core.Bool.{Bool, true, false}
-use mathlib.Core.List.{List, []}
+use mathlib.Core.List.{List}
 use Prim.Native.Nat.{ℕ, _≤_, _<_}
 use native.Mathlib.Omega.{arith}
-use Rattle.journal.specs.Journal.{journalLength}
+use Rattle.journal.specs.Journal.{journalLength, recordOf}
 use Rattle.rules.specs.State.{isAsked, trainOf, withTrain, oneLogged}
 use Rattle.rules.specs.Valid.{valid}
-use Rattle.rules.specs.Granting.{Work, log, settled}
+use Rattle.rules.specs.Granting.{Work, begun, settled}
 use Rattle.rules.specs.Answer.{moveIn, taken, declined}
 use Rattle.rules.proofs.Validity.{valid-facts}
 use Rattle.rules.proofs.Settling.{settled-roomy}
 use Rattle.authority.specs.Progress.{batchOf, progressOf, progressWith}
-use Rattle.authority.proofs.Working.{begun-roomy, logged-more}
+use Rattle.authority.proofs.Working.{begun-roomy, sent-more}
 use Rattle.dispatcher.specs.Types.{Move, Message, Afe, Train, State, Progress}
 use Rattle.dispatcher.specs.Step.{Ready}
 
@@ -25,30 +25,31 @@ module _ (s : State) (a : Message) (x : Train) (r : Ready s a x) where
   ready-take y e = rw e (r .2)
 
   pub taken-with : (table : List ℕ) (y : Train) → y ≡ x
-      → progressOf (settled table (log (withTrain s (moveIn a .train .0) y) [] a))
+      → progressOf (settled table (begun (withTrain s (moveIn a .train .0) y) (recordOf a)))
       ≡ progressOf (settled table (taken s a x))
   taken-with table y e = rw e
 
   pub ready-logged : (table : List ℕ) → settled table (taken s a x) .state .logged ≤ journalLength
   ready-logged table =
       settled-roomy table (taken s a x)
-      (begun-roomy (withTrain s (moveIn a .train .0) x) a (r .2) (r .1)) .valid-state .few-logged
+      (begun-roomy (withTrain s (moveIn a .train .0) x) (recordOf a) (r .2) (r .1)) .valid-state .few-logged
 
 module _ (m : Move) (w : Work) where
   abbrev asks : State → Bool
   asks s = isAsked (trainOf s (m .train .0) .status)
 
-  still-asked : asks (w .state) ≡ true → progressWith (w .state) (batchOf (w .logged)) (Afe m) ≡ progressOf
-      (declined m w)
-  still-asked e = logged-more (w .state) (w .logged) (Afe m) ∙ rw e
+  still-asked : asks (w .state) ≡ true
+      → progressWith (w .state) (batchOf (w .logged)) (recordOf (Afe m)) ≡ progressOf (declined m w)
+  still-asked e = sent-more (w .state) w (recordOf (Afe m)) (Afe m) ∙ rw e
 
   not-asked : asks (w .state) ≡ false → progressOf w ≡ progressOf (declined m w)
   not-asked e = rw e
 
   module _ (p : Progress) (held : p ≡ progressOf w) where
-    pub declined-asker : asks (p .state) ≡ true → progressWith (p .state) (p .batch) (Afe m) ≡ progressOf (declined m w)
-    declined-asker = subst⁻¹ (λ (q : Progress). asks (q .state) ≡ true → progressWith (q .state) (q .batch)
-        (Afe m) ≡ progressOf (declined m w)) held still-asked
+    pub declined-asker : asks (p .state) ≡ true
+        → progressWith (p .state) (p .batch) (recordOf (Afe m)) ≡ progressOf (declined m w)
+    declined-asker = subst⁻¹ (λ (q : Progress). asks (q .state) ≡ true
+        → progressWith (q .state) (q .batch) (recordOf (Afe m)) ≡ progressOf (declined m w)) held still-asked
 
     pub granted-asker : asks (p .state) ≡ false → p ≡ progressOf (declined m w)
     granted-asker = subst⁻¹ (λ (q : Progress). asks (q .state) ≡ false → q ≡ progressOf (declined m w)) held not-asked

@@ -1,25 +1,26 @@
 -- The step on a frame: what it leaves by value is the answer, with every journal of the length that was handed in.
 use mathlib.Core.Path.{_≡_, refl, sym, ap, subst, _∙_}
 use mathlib.Core.Logic.{_≢_}
-use mathlib.Core.List.{List, map}
-use Prim.Native.Nat.{ℕ, suc, _+_, _-_, _≤_}
+use mathlib.Core.List.{List}
+use Prim.Native.Nat.{ℕ, _+_, _-_, _≤_}
 use native.Mathlib.Omega.{arith}
-use lib.ListN.{length, replicate, length-map, length-replicate}
+use lib.ListN.{length, replicate, length-replicate}
 use Rattle.common.specs.Check.{refusal}
 use Rattle.common.specs.Part.{replaced}
 use Rattle.common.proofs.Check.{accepts, refuses}
 use Rattle.frame.specs.Frame.{readFrame}
-use Rattle.journal.specs.Journal.{blank, journalLength, recordOf, batchLength, emptyBatch, appended}
+use Rattle.journal.specs.Journal.{blank, journalLength, batchLength, emptyBatch, appended}
 use Rattle.journal.proofs.Appended.{appended-none}
 use Rattle.dispatcher.specs.Types.{Message, Record, State, Sent, RefusedBy, Progress, Outcome}
 use Rattle.rules.specs.Granting.{Work}
-use Rattle.rules.specs.Answer.{mostLogged, frameChecks, accepted, framesOf, sent, Answer, answerOf, answered, refused}
+use Rattle.rules.specs.Answer.{mostLogged, frameChecks, accepted, framesOf, Answer, answerOf, answered, refused}
 use Rattle.rules.specs.Answer.{answer}
 use Rattle.authority.specs.Progress.{batchOf, progressOf}
 use Rattle.dispatcher.specs.Step.{Acceptable, framesIn, answersIn, outcomeOf, Stepped}
 use Rattle.rules.proofs.Validity.{Valid, is-valid}
 use Rattle.rules.proofs.Changes.{valid-request, valid-arrival}
-use Rattle.rules.proofs.Acceptance.{Taken, request, arrival, Passed, frame-passed, Accepted, accepted-facts}
+use Rattle.rules.proofs.Acceptance.{Taken, request, arrival, Passed, frame-passed, Accepted, paired}
+use Rattle.rules.proofs.Acceptance.{accepted-facts}
 use Rattle.dispatcher.proofs.Batched.{Batched, batched, batched-appended, batched-answers, frames-logged}
 
 -- an FA or an AM that passes the checks can be taken
@@ -80,36 +81,32 @@ module _ (s : State) (table : List ℕ) (count : ℕ) (frame out : List ℕ) (nu
     left = accepted-facts table s (step-passed .valid-state) (readFrame frame) (step-passed .message)
 
     -- the batch has the frame's record and those of its answers
-    kept : Batched (batchOf (work .logged)) (map recordOf (work .logged))
+    kept : Batched (batchOf (work .logged)) (work .logged)
     kept = batched (work .logged) (left .few)
-
-    counted : length (work .logged) ≡ suc (length (sent work))
-    counted = ap length (left .first)
 
     module _ (p : Progress) (held : p ≡ progressOf work) where
       size : p .batch .n ≡ length (work .logged)
-      size = ap (λ (q : Progress). q .batch .n) held ∙ kept .count ∙ length-map (work .logged) recordOf
+      size = ap (λ (q : Progress). q .batch .n) held ∙ kept .count
 
       pub step-some : 1 ≤ p .batch .n
-      step-some = omega (arith, size, counted)
+      step-some = omega (arith, size, paired left)
 
       pub step-few : p .batch .n ≤ batchLength
       step-few = omega (arith, size, left .few)
 
-      frames : framesIn (answersIn (p .batch .items) (p .batch .n)) ≡ framesOf (sent work)
+      frames : framesIn (answersIn (p .batch .items) (p .batch .n)) ≡ framesOf (work .sent)
       frames =
           ap (λ (q : Progress). framesIn (answersIn (q .batch .items) (q .batch .n))) held
           ∙ ap framesIn (batched-answers (batchOf (work .logged)) _ _
-          (subst (Batched (batchOf (work .logged))) (ap (map recordOf) (left .first)) kept))
-          ∙ frames-logged (sent work) (left .messages)
+          (subst (Batched (batchOf (work .logged))) (left .written) kept))
+          ∙ frames-logged (work .sent) (left .messages)
 
       written : (journal : List Record) → length journal ≡ count
-          → replaced journal (s .logged) (map recordOf (work .logged)) ≡ appended journal (s .logged) (p .batch)
+          → replaced journal (s .logged) (work .logged) ≡ appended journal (s .logged) (p .batch)
       written journal long =
-          let fits = length-map (work .logged) recordOf in
           let space : s .logged + mostLogged ≤ journalLength = room (readFrame frame) (step-passed .message) in
           let enough : journalLength ≤ count = rw length-replicate at (step-passed .long-journal) in
-          sym (batched-appended (batchOf (work .logged)) (map recordOf (work .logged)) kept journal (s .logged)
+          sym (batched-appended (batchOf (work .logged)) (work .logged) kept journal (s .logged)
           (omega (arith, left .few)) (omega (arith, left .few)))
           ∙ ap (λ (q : Progress). appended journal (s .logged) (q .batch)) (sym held)
         where
@@ -122,23 +119,24 @@ module _ (s : State) (table : List ℕ) (count : ℕ) (frame out : List ℕ) (nu
           → Stepped s table count frame out (outcomeOf (p .state) (Sent k) (s .logged) (p .batch)) after
       step-accepted k ek after ea =
           let state : work .state ≡ p .state = ap (λ (q : Progress). q .state) (sym held) in
-          let verdict : length (sent work) ≡ k = omega (arith, size, counted) in
-          let bytes : replaced out 0 (framesOf (sent work)) ≡ after = ap (replaced out 0) (sym frames) ∙ sym ea in
+          let verdict : length (work .sent) ≡ k = omega (arith, size, paired left) in
+          let bytes : replaced out 0 (framesOf (work .sent)) ≡ after = ap (replaced out 0) (sym frames) ∙ sym ea in
           let batch : batchOf (work .logged) ≡ p .batch = ap (λ (q : Progress). q .batch) (sym held) in
           record {
             exact = sym (
                 accepts _ refusing (sym given ∙ zero)
-                ∙ ap (λ (t : State). outcomeOf t (Sent (length (sent work))) (s .logged) (batchOf (work .logged))) state
+                ∙ ap (λ (t : State). outcomeOf t (Sent (length (work .sent))) (s .logged) (batchOf (work .logged)))
+                state
                 ∙ ap (λ (n : ℕ). outcomeOf (p .state) (Sent n) (s .logged) (batchOf (work .logged))) verdict
                 ∙ ap (outcomeOf (p .state) (Sent k) (s .logged)) batch);
             answers = λ journal long. sym (
                 taken journal long zero
-                ∙ ap (λ (t : State). made t (length (sent work))
-                (replaced journal (s .logged) (map recordOf (work .logged)))
-                (replaced out 0 (framesOf (sent work)))) state
-                ∙ ap (λ (n : ℕ). made (p .state) n (replaced journal (s .logged) (map recordOf (work .logged)))
-                (replaced out 0 (framesOf (sent work)))) verdict
-                ∙ ap (λ (j : List Record). made (p .state) k j (replaced out 0 (framesOf (sent work))))
+                ∙ ap (λ (t : State). made t (length (work .sent))
+                (replaced journal (s .logged) (work .logged))
+                (replaced out 0 (framesOf (work .sent)))) state
+                ∙ ap (λ (n : ℕ). made (p .state) n (replaced journal (s .logged) (work .logged))
+                (replaced out 0 (framesOf (work .sent)))) verdict
+                ∙ ap (λ (j : List Record). made (p .state) k j (replaced out 0 (framesOf (work .sent))))
                 (written journal long)
                 ∙ ap (λ (b : List ℕ). made (p .state) k (appended journal (s .logged) (p .batch)) b) bytes);
           }

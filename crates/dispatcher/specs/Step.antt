@@ -14,7 +14,7 @@ use Rattle.dispatcher.specs.Types.{Sent, RefusedBy, Outcome}
 use Rattle.authority.specs.Progress.{batchOf}
 use Rattle.rules.specs.State.{trainOf, withStatus, arrivedNext}
 use Rattle.rules.specs.Valid.{valid}
-use Rattle.rules.specs.Answer.{mostLogged, moveIn, moveChecks, frameChecks, taken, accepted, sent, answerOf, answer}
+use Rattle.rules.specs.Answer.{mostLogged, moveIn, moveChecks, frameChecks, taken, accepted, answerOf, answer}
 
 -- ---- a frame
 
@@ -59,7 +59,7 @@ abbrev pub outcomeFor : State → List ℕ → ℕ → List ℕ → ℕ → Outc
 outcomeFor s table records frame room =
     let w = accepted table s (readFrame frame) in
     unlessRefused (refusal (frameChecks s (length table) records frame room))
-    (outcomeOf (w .state) (Sent (length (sent w))) (s .logged) (batchOf (w .logged)))
+    (outcomeOf (w .state) (Sent (length (w .sent))) (s .logged) (batchOf (w .logged)))
     (λ n. outcomeOf s (RefusedBy n) 0 emptyBatch)
 
 -- o is that, and with its records written, and the out buffer afterwards, it is the answer, with every journal of so

@@ -1,14 +1,13 @@
 // What an accepted frame does.
 ghost use mathlib.Core.Path.{_≡_};
-ghost use mathlib.Core.List.{[]};
 ghost use mathlib.Core.Bool.{true};
 ghost use Prim.Native.Nat.{_+_, _≤_, _<_};
-ghost use Rattle.journal.specs.Journal.{journalLength};
+ghost use Rattle.journal.specs.Journal.{journalLength, recordOf};
 ghost use Rattle.dispatcher.specs.Types.{Fa, Am, Asked};
 ghost use Rattle.rules.specs.State.{trainOf, withStatus, arrivedNext, withTrain, oneLogged};
 ghost use Rattle.rules.specs.Valid.{valid};
-ghost use Rattle.rules.specs.Granting.{Work, log, settled};
-ghost use Rattle.rules.specs.Answer.{mostLogged, accepted, declined};
+ghost use Rattle.rules.specs.Granting.{Work, begun, settled};
+ghost use Rattle.rules.specs.Answer.{mostLogged, accepted, declined, untouched};
 ghost use Rattle.authority.specs.Progress.{progressOf};
 ghost use Rattle.dispatcher.specs.Step.{Ready, Acceptable};
 use authority::Progress;
@@ -65,7 +64,8 @@ fn arrival(state: State, table: &[u8], m: Move) -> Progress
 fn take(state: State, table: &[u8], message: Message, t: TrainNo, train: Train) -> Progress
     requires { ⌜ (t .0 < 6) × (state .logged + mostLogged ≤ journalLength) ⌝ }
     requires { ⌜ valid (oneLogged (withTrain state (t .0) train)) ≡ true ⌝ }
-    ensures { λ r. ⌜ r ≡ progressOf (settled (now (table .entry)) (log (withTrain state (t .0) train) [] message)) ⌝ }
+    ensures { λ r. ⌜ r ≡ progressOf (settled (now (table .entry))
+        (begun (withTrain state (t .0) train) (recordOf message))) ⌝ }
 {
     settle(with_train(state, t, train), table, message)
 }
@@ -84,7 +84,7 @@ fn decline(work: Progress, m: Move) -> Progress
 }
 
 fn untouched(state: State) -> Progress
-    ensures { λ r. ⌜ r ≡ progressOf (record { state = state; logged = [] }) ⌝ }
+    ensures { λ r. ⌜ r ≡ progressOf (untouched state) ⌝ }
 {
     let batch = journal::empty();
     Progress { state, batch }

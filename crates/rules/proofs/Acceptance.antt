@@ -3,11 +3,12 @@
 use mathlib.Core.Path.{_≡_, refl, sym, ap, subst, _∙_}
 use mathlib.Core.Logic.{_≢_, ⊎-elim}
 use mathlib.Core.Bool.{true, false, not, _&&_, _||_, false≢true}
-use mathlib.Core.List.{List, [], _∷_, List·Memᴰ, List·Memᴰ·append-cases, List·Memᴰ·eq-of-singleton}
+use mathlib.Core.List.{List, [], _∷_, map, map-append, List·Memᴰ, List·Memᴰ·append-cases}
+use mathlib.Core.List.{List·Memᴰ·eq-of-singleton}
 use Prim.Native.Nat.{ℕ, _+_, _≤_, _<_}
 use native.Mathlib.Omega.{arith}
 use lib.Dec.{leb, eqb}
-use lib.ListN.{length, length-append, length-set}
+use lib.ListN.{length, length-append, length-set, length-map}
 use borrow.Author.Tests.{ltb-true, leb-true, eqb-true, eqb-false, not-true}
 use Rattle.common.specs.Check.{refusal}
 use Rattle.common.proofs.Tests.{by-cases, by-equality, and-left, and-right}
@@ -15,14 +16,14 @@ use Rattle.common.proofs.Below.{count-le, count-some}
 use Rattle.common.proofs.Check.{passed-at, accepts, refuses}
 use Rattle.frame.specs.Frame.{readFrame}
 use Rattle.frame.specs.RoundTrip.{IsMessage}
-use Rattle.journal.specs.Journal.{journalLength}
+use Rattle.journal.specs.Journal.{journalLength, recordOf}
 use Rattle.completion.specs.Table.{tableLength}
 use Rattle.rules.specs.Types.{Line, Move, Message, Fa, Fe, Afe, Am, Refused, Record, Asked, Train, State}
 use Rattle.rules.specs.Types.{RefusedBy}
 use Rattle.rules.specs.State.{isAsked, isRunning, nextOf, trainOf, lineOf, withStatus, arrivedNext, oneLogged}
-use Rattle.rules.specs.Granting.{grantable, Work, log, settled}
+use Rattle.rules.specs.Granting.{grantable, Work, sends, settled}
 use Rattle.rules.specs.Answer.{outLength, mostLogged, isFa, isAm, moveIn, frameChecks, taken, declined, accepted}
-use Rattle.rules.specs.Answer.{sent, verdictNumber, verdictFrames, Answer, answered, refused, answer}
+use Rattle.rules.specs.Answer.{verdictNumber, verdictFrames, Answer, answered, refused, answer}
 use Rattle.rules.proofs.Trains.{changed-line}
 use Rattle.rules.proofs.Validity.{Valid, valid-facts}
 use Rattle.rules.proofs.Changes.{valid-logged, valid-request, valid-arrival}
@@ -133,11 +134,15 @@ pub record Accepted (table : List ℕ) (s : State) (a : Message) (w : Work) : Ty
   pub line : lineOf (w .state) ≡ lineOf s
   pub size : length (w .state .fleet) ≡ length (s .fleet)
   pub nobody : Nobody table (w .state) (w .state .trains)
-  -- the frame, then the answers
-  pub first : w .logged ≡ a ∷ sent w
+  -- the frame's record, then one for each answer
+  pub written : w .logged ≡ map recordOf (a ∷ w .sent)
   pub few : length (w .logged) ≤ mostLogged
   pub counted : w .state .logged ≡ s .logged + length (w .logged)
-  pub messages : (b : Message) → List·Memᴰ b (sent w) → IsMessage b
+  pub messages : (b : Message) → List·Memᴰ b (w .sent) → IsMessage b
+
+pub paired : {table : List ℕ} {s : State} {a : Message} {w : Work} → Accepted table s a w
+    → length (w .logged) ≡ 1 + length (w .sent)
+paired {a = a} {w = w} k = ap length (k .written) ∙ omega (arith, length-map (a ∷ w .sent) recordOf)
 
 module _ (table : List ℕ) (s : State) (d : Valid s) (a : Message) where
   -- the granting, after the frame's own change of its train's record
@@ -162,7 +167,7 @@ module _ (table : List ℕ) (s : State) (d : Valid s) (a : Message) where
       line = settles .line ∙ changed-line s (moveIn a .train .0) x (s .logged + 1) same;
       size = settles .size ∙ length-set (s .fleet) (moveIn a .train .0) x;
       nobody = settled-end table (taken s a x);
-      first = rw (settles .added);
+      written = rw (settles .written, settles .added);
       few = omega (arith, paid);
       counted = omega (arith, settles .counted, settles .spent);
       messages = rw (settles .added) (settles .messages);
@@ -186,22 +191,22 @@ declined-accepted table s a m w known r paid k =
     by-cases (isAsked (trainOf (w .state) (m .train .0) .status)) (λ e. rw e (more e)) (λ e. rw e k)
   where
     more : isAsked (trainOf (w .state) (m .train .0) .status) ≡ true
-        → Accepted table s a (log (w .state) (w .logged) (Afe m))
+        → Accepted table s a (sends (w .state) w (recordOf (Afe m)) (Afe m))
     more e =
         let here : m .train .0 < w .state .trains = rw (ap (λ (l : Line). l .trains) (k .line)) known in
         let one = count-some (w .state .trains) (λ t. isAsked (trainOf (w .state) t .status)) (m .train .0) here e in
-        let long = length-append (w .logged) (Afe m ∷ []) in
+        let long = length-append (w .logged) (recordOf (Afe m) ∷ []) in
         record {
           valid-state = valid-logged (w .state) (k .valid-state) (omega (arith, r .room));
           line = k .line;
           size = k .size;
           nobody = record { barred = λ u ku. logged-grantable table (w .state) u ∙ k .nobody .barred u ku };
-          first = rw (k .first);
+          written = rw (k .written, map-append recordOf (w .sent) (Afe m ∷ []));
           few = omega (arith, long);
           counted = omega (arith, long, k .counted);
-          messages = rw (k .first) (λ b h.
+          messages = λ b h.
               ⊎-elim (k .messages b) (λ q. subst IsMessage (sym (List·Memᴰ·eq-of-singleton q)) (declining m))
-              (List·Memᴰ·append-cases (sent w) h));
+              (List·Memᴰ·append-cases (w .sent) h);
         }
 
 -- ---- both frames

@@ -2,13 +2,13 @@
 -- paid for by an Asked train. In a valid state with room in the journal for every Asked train it leaves a valid state.
 use mathlib.Core.Path.{_≡_, refl, sym, ap, subst, _∙_}
 use mathlib.Core.Logic.{⊎-elim}
-use mathlib.Core.List.{List, [], _∷_, _++_, append-assoc, append-nil, List·Memᴰ, List·Memᴰ·append-cases}
-use mathlib.Core.List.{List·Memᴰ·eq-of-singleton, List·Memᴰ·not-nil}
+use mathlib.Core.List.{List, [], _∷_, _++_, append-assoc, append-nil, map, map-append, List·Memᴰ}
+use mathlib.Core.List.{List·Memᴰ·append-cases, List·Memᴰ·eq-of-singleton, List·Memᴰ·not-nil}
 use Prim.Native.Nat.{ℕ, _+_, _≤_}
 use native.Mathlib.Omega.{arith}
 use lib.ListN.{length, length-append, length-set}
 use Rattle.frame.specs.RoundTrip.{IsMessage}
-use Rattle.journal.specs.Journal.{journalLength}
+use Rattle.journal.specs.Journal.{journalLength, recordOf}
 use Rattle.rules.specs.Types.{Message, Fe, Running, Train, State}
 use Rattle.rules.specs.State.{trainOf, lineOf, nextMove, withStatus}
 use Rattle.rules.specs.Granting.{Work, granted, settled}
@@ -22,9 +22,10 @@ pub record Settles (w v : Work) : Type 0 where
   pub size : length (v .state .fleet) ≡ length (w .state .fleet)
   pub route : (t : ℕ) → trainOf (v .state) t .route ≡ trainOf (w .state) t .route
   pub post : (t : ℕ) → trainOf (v .state) t .at ≡ trainOf (w .state) t .at
-  -- what is logged is added at the end, and each of it is a message
+  -- what is sent is added at the end, and logged by its records; each of it is a message
   pub answers : List Message
-  pub added : v .logged ≡ w .logged ++ answers
+  pub added : v .sent ≡ w .sent ++ answers
+  pub written : v .logged ≡ w .logged ++ map recordOf answers
   pub messages : (a : Message) → List·Memᴰ a answers → IsMessage a
   -- each takes an Asked train
   pub spent : length (v .logged) + askedCount (v .state) ≡ length (w .logged) + askedCount (w .state)
@@ -37,7 +38,8 @@ settles-begin w = record {
   route = λ t. refl;
   post = λ t. refl;
   answers = [];
-  added = sym (append-nil (w .logged));
+  added = sym (append-nil (w .sent));
+  written = sym (append-nil (w .logged));
   messages = λ a h. absurd (List·Memᴰ·not-nil h);
   spent = refl;
   counted = refl;
@@ -57,15 +59,15 @@ settles-next table w v t k f = record {
   post = λ u.
       changed-each (v .state) t x n (λ u (y : Train). y .at ≡ trainOf (w .state) u .at) (granted-place table v t f)
       (k .post t) u (λ h. k .post u);
-  answers = k .answers ++ Fe (nextMove (v .state) t) ∷ [];
-  added =
-      ap (λ (l : List Message). l ++ Fe (nextMove (v .state) t) ∷ []) (k .added)
-      ∙ append-assoc (w .logged) (k .answers) _;
-  messages = λ a h.
-      ⊎-elim (k .messages a) (λ m. subst IsMessage (sym (List·Memᴰ·eq-of-singleton m)) (authority (v .state) t))
+  answers = k .answers ++ a ∷ [];
+  added = ap (λ (l : List Message). l ++ a ∷ []) (k .added) ∙ append-assoc (w .sent) (k .answers) (a ∷ []);
+  written = rw (k .written, map-append recordOf (k .answers) (a ∷ []))
+      (append-assoc (w .logged) (map recordOf (k .answers)) (recordOf a ∷ []));
+  messages = λ b h.
+      ⊎-elim (k .messages b) (λ m. subst IsMessage (sym (List·Memᴰ·eq-of-singleton m)) (authority (v .state) t))
       (List·Memᴰ·append-cases (k .answers) h);
   spent =
-      let one = length-append (v .logged) (Fe (nextMove (v .state) t) ∷ []) in
+      let one = length-append (v .logged) (recordOf a ∷ []) in
       omega (arith, k .spent, granted-fewer table v t f);
   counted = omega (arith, k .counted, granted-fewer table v t f);
 }
@@ -75,6 +77,9 @@ settles-next table w v t k f = record {
 
     n : ℕ
     n = v .state .logged + 1
+
+    a : Message
+    a = Fe (nextMove (v .state) t)
 
 pub settled-settles : (table : List ℕ) (w : Work) → Settles w (settled table w)
 settled-settles table w = grants-keep table (Settles w) (settles-next table w) (w .state .trains) w (settles-begin w)

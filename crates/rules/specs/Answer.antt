@@ -1,10 +1,10 @@
 -- The answer to a frame: the checks in order, what an accepted frame does, and what is left in state, journal and out
 -- buffer.
 use mathlib.Core.Bool.{Bool, true, false, not, cond, _&&_, _||_}
-use mathlib.Core.List.{List, [], _∷_, _++_, map}
+use mathlib.Core.List.{List, [], _∷_, _++_}
 use Prim.Native.Nat.{ℕ, _+_}
 use lib.Dec.{leb, ltb, eqb}
-use lib.ListN.{length, drop}
+use lib.ListN.{length}
 use Rattle.common.specs.Check.{Check, check, refusal, unlessRefused}
 use Rattle.common.specs.Part.{replaced}
 use Rattle.line.specs.Refusal.{strangeState, shortStore, wrongEnd, unknownTrain, atEnd as trainAtEnd, wrongPost}
@@ -16,7 +16,7 @@ use Rattle.rules.specs.Types.{Move, Message, Fa, Fe, Afe, Am, Refused, R
 use Rattle.rules.specs.Types.{Verdict, Sent, RefusedBy, Reply}
 use Rattle.rules.specs.State.{isAsked, isRunning, atEnd, nextOf, trainOf, withStatus, arrivedNext, withTrain}
 use Rattle.rules.specs.Valid.{valid}
-use Rattle.rules.specs.Granting.{Work, log, settled}
+use Rattle.rules.specs.Granting.{Work, begun, sends, settled}
 
 -- "At most 6 frames go out, 42 bytes"
 abbrev pub outLength : ℕ
@@ -81,11 +81,16 @@ frameChecks s table records frame room =
 
 -- the frame is logged, and x is its train's record
 abbrev pub taken : State → Message → Train → Work
-taken s a x = log (withTrain s (moveIn a .train .0) x) [] a
+taken s a x = begun (withTrain s (moveIn a .train .0) x) (recordOf a)
 
 -- "If the asker was not granted, its AFE comes last."
 abbrev pub declined : Move → Work → Work
-declined m w = cond (isAsked (trainOf (w .state) (m .train .0) .status)) (log (w .state) (w .logged) (Afe m)) w
+declined m w =
+    cond (isAsked (trainOf (w .state) (m .train .0) .status)) (sends (w .state) w (recordOf (Afe m)) (Afe m)) w
+
+-- nothing is logged or sent
+abbrev pub untouched : State → Work
+untouched s = record { state = s; logged = []; sent = [] }
 
 unfoldable pub accepted : List ℕ → State → Message → Work
 -- "FA: the train becomes Asked. Then the oldest Asked train .. that can be granted"
@@ -94,9 +99,9 @@ accepted table s (Fa m) =
     declined m (settled table (taken s (Fa m) asked))
 -- "AM: the train becomes Free at the post it ran to. Then the same granting."
 accepted table s (Am m) = settled table (taken s (Am m) (arrivedNext (trainOf s (m .train .0))))
-accepted table s (Fe m) = record { state = s; logged = [] }
-accepted table s (Afe m) = record { state = s; logged = [] }
-accepted table s (Refused n) = record { state = s; logged = [] }
+accepted table s (Fe m) = untouched s
+accepted table s (Afe m) = untouched s
+accepted table s (Refused n) = untouched s
 
 -- ---- the answer
 
@@ -104,10 +109,6 @@ accepted table s (Refused n) = record { state = s; logged = [] }
 unfoldable pub framesOf : List Message → List ℕ
 framesOf [] = []
 framesOf (a ∷ l) = bytesOf a ++ framesOf l
-
--- what is sent: all that was logged but the frame itself
-abbrev pub sent : Work → List Message
-sent w = drop 1 (w .logged)
 
 -- "Where an answer is an enum, a definition gives this paper's number and values for each of the enum's cases. The
 -- promises use that definition." Of a verdict: the number of the refusal, 0 where there is none, and how many frames
@@ -143,11 +144,11 @@ answerOf r journal out = record {
 abbrev pub answered : ℕ → List Record → List ℕ → Work → Answer
 answered count journal out w = record {
   state = w .state;
-  verdict = Sent (length (sent w));
+  verdict = Sent (length (w .sent));
   number = 0;
-  frames = length (sent w);
-  journal = replaced journal count (map recordOf (w .logged));
-  out = replaced out 0 (framesOf (sent w));
+  frames = length (w .sent);
+  journal = replaced journal count (w .logged);
+  out = replaced out 0 (framesOf (w .sent));
 }
 
 -- "A refusal returns its number and the state unchanged, and changes no buffer."

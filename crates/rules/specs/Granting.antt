@@ -8,9 +8,10 @@ use lib.Dec.{ltb, eqb}
 use lib.ListN.{getD}
 use Rattle.line.specs.Route.{sectionOf}
 use Rattle.line.specs.Holding.{postHolders, sectionHolders}
+use Rattle.journal.specs.Journal.{recordOf}
 use Rattle.completion.specs.Configuration.{moved, codeBelow}
 use Rattle.completion.specs.Table.{bitOf}
-use Rattle.rules.specs.Types.{Message, Fe, Running, State}
+use Rattle.rules.specs.Types.{Message, Fe, Record, Running, State}
 use Rattle.rules.specs.State.{isAsked, askedAs, nextOf, trainOf, located, reached, nextMove, withStatus}
 use Rattle.rules.specs.State.{withTrain, oneLogged}
 
@@ -35,20 +36,26 @@ unfoldable pub oldest : List ℕ → State → ℕ → Option ℕ
 oldest table s zero = none
 oldest table s (suc n) = let r = oldest table s n in cond (grantable table s n) (older s n r) r
 
--- ---- the work on one frame: the state, and what was logged so far, the frame and then each answer
+-- ---- the work on one frame: the state, the records logged so far, and the messages sent
 
 pub record Work : Type 0 where
   pub state : State
-  pub logged : List Message
+  pub logged : List Record
+  pub sent : List Message
 
--- "An accepted frame is logged, then each answer in order of sending."
-abbrev pub log : State → List Message → Message → Work
-log s l m = record { state = oneLogged s; logged = l ++ m ∷ [] }
+-- "An accepted frame is logged": by r, and s is the state but for the count
+abbrev pub begun : State → Record → Work
+begun s r = record { state = oneLogged s; logged = r ∷ []; sent = [] }
+
+-- "then each answer in order of sending": a is sent, and logged by r
+abbrev pub sends : State → Work → Record → Message → Work
+sends s w r a = record { state = oneLogged s; logged = w .logged ++ r ∷ []; sent = w .sent ++ a ∷ [] }
 
 abbrev pub granted : Work → ℕ → Work
 granted w t =
     let s = w .state in
-    log (withTrain s t (withStatus (trainOf s t) Running)) (w .logged) (Fe (nextMove s t))
+    let a = Fe (nextMove s t) in
+    sends (withTrain s t (withStatus (trainOf s t) Running)) w (recordOf a) a
 
 abbrev pub proceed : Option ℕ → Work → (ℕ → Work) → Work
 proceed none w next = w

@@ -2,14 +2,15 @@
 -- Asked train fewer. Inner loop: nothing is changed, and nobody whose request has a number below `from` can be granted.
 use mathlib.Core.Path.{_≡_, refl, sym, ap, subst, _∙_}
 use mathlib.Core.Bool.{true}
-use mathlib.Core.List.{List, []}
+use mathlib.Core.List.{List}
 use Prim.Native.Nat.{ℕ, _-_, _<_}
 use native.Mathlib.Omega.{arith}
 use denote.Ref.{now}
 use borrow.Author.Needs.{needs}
+use Rattle.journal.specs.Journal.{recordOf}
 use Rattle.authority.specs.Types.{TrainNo, Asker, Batch, State, Progress}
 use Rattle.rules.specs.Valid.{valid}
-use Rattle.rules.specs.Granting.{Work, log}
+use Rattle.rules.specs.Granting.{Work, begun}
 use Rattle.authority.specs.Asking.{NextAsked}
 use Rattle.authority.specs.Progress.{progressWith}
 use Rattle.rules.proofs.Validity.{valid-facts}
@@ -60,13 +61,13 @@ module _ (c : tie.At-loop Inv-loop μ-loop Inv-again μ-again) where
 
   -- the work that the granting begins with
   abbrev first : Work
-  first = log (start .args .state) [] (start .args .message)
+  first = begun (start .args .state) (recordOf (start .args .message))
 
-  begun : Working table first (c .before .before .logged .result)
-  begun =
-      working-start table (start .args .state) (start .args .message) _ (start .pre .0) (start .pre .1)
+  starts : Working table first (c .before .before .logged .result)
+  starts =
+      working-start table (start .args .state) _ _ (start .pre .0) (start .pre .1)
       (c .before .before .logged .ensures
-      ∙ ap (λ (b : Batch). progressWith (start .args .state) b (start .args .message))
+      ∙ ap (λ (b : Batch). progressWith (start .args .state) b (recordOf (start .args .message)))
       (c .before .before .before .empty .ensures))
 
   -- the inner loop has changed nothing
@@ -74,7 +75,7 @@ module _ (c : tie.At-loop Inv-loop μ-loop Inv-again μ-again) where
   kept w g = subst (λ (p : Progress). Working table w p) (sym (c .loop .inv .0)) (c .before .again .inv w g)
 
   on : Working table first (c .loop .work)
-  on = kept first begun
+  on = kept first starts
 
   valid-state : valid state ≡ true
   valid-state = working-valid table first _ on

@@ -6,7 +6,7 @@ use borrow.Author.Needs.{needs}
 use Rattle.journal.specs.Journal.{journalLength}
 use Rattle.dispatcher.specs.Types.{Fa, Asked, Train, Progress}
 use Rattle.rules.specs.State.{trainOf, withStatus}
-use Rattle.rules.specs.Granting.{settled}
+use Rattle.rules.specs.Granting.{Work, settled}
 use Rattle.rules.specs.Answer.{taken, accepted}
 use Rattle.authority.specs.Progress.{progressOf}
 use Rattle.dispatcher.proofs.Declining.{ready-train, ready-take, taken-with, ready-logged}
@@ -42,8 +42,10 @@ module _ (c : tie.After-take) where
   abbrev start : tie.Start
   start = c .before .before .before .before
 
-  settles : c .take .result
-      ≡ progressOf (settled (now (start .args .table)) (taken (start .args .state) (Fa (start .args .m)) (asked start)))
+  abbrev work : Work
+  work = settled (now (start .args .table)) (taken (start .args .state) (Fa (start .args .m)) (asked start))
+
+  settles : c .take .result ≡ progressOf work
   settles = c .take .ensures
       ∙ taken-with (start .args .state) (Fa (start .args .m)) _ (start .pre) (now (start .args .table)) _
       (record-made (c .before))
@@ -58,7 +60,7 @@ decline-requires c κs =
 
 returns : tie.Need-returns
 unfolding accepted
-returns c = c .decline .ensures _ (settles (c .before))
+returns c = c .decline .ensures (work (c .before)) (settles (c .before))
 
 pub request-spec : {M : Type 1} → statement M
 request-spec =

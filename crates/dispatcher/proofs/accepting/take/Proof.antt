@@ -1,15 +1,14 @@
 -- `take` meets its contract: the granting begins with the train's new record.
 use mathlib.Core.Path.{_≡_, ap, subst⁻¹, _∙_}
 use mathlib.Core.Bool.{true}
-use mathlib.Core.List.{[]}
 use Prim.Native.Nat.{_+_, _≤_}
 use denote.Ref.{now}
 use borrow.Author.Needs.{needs}
-use Rattle.journal.specs.Journal.{journalLength}
+use Rattle.journal.specs.Journal.{journalLength, recordOf}
 use Rattle.dispatcher.specs.Types.{State}
 use Rattle.rules.specs.State.{oneLogged}
 use Rattle.rules.specs.Valid.{valid}
-use Rattle.rules.specs.Granting.{log, settled}
+use Rattle.rules.specs.Granting.{begun, settled}
 use Rattle.rules.specs.Answer.{mostLogged}
 use Rattle.authority.specs.Progress.{progressOf}
 use Rattle.dispatcher.proofs.accepting.take.Statement.{statement}
@@ -27,7 +26,8 @@ returns : tie.Need-returns
 returns c =
     let a = c .before .before .before .args in
     c .settle .ensures
-    ∙ ap (λ (s : State). progressOf (settled (now (a .table)) (log s [] (a .message)))) (c .before .with-train .ensures)
+    ∙ ap (λ (s : State). progressOf (settled (now (a .table)) (begun s (recordOf (a .message)))))
+    (c .before .with-train .ensures)
 
 pub take-spec : {M : Type 1} → statement M
 take-spec = tie.close (tie.spec with-train-requires settle-requires returns)
