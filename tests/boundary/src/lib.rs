@@ -101,14 +101,16 @@ pub trait Ends {
     fn hear(&self, unit: &mut [u8], frame: &[u8]) -> u32;
 }
 
-/// The proved ends, of the library that is linked.
+/// The proved ends, of the library that is linked. Inlined, so that to measure them is to measure the library.
 pub struct Proved;
 
 impl Ends for Proved {
+    #[inline]
     fn read_book(&self, book: &[u8], line: &mut [u8]) -> u32 {
         unsafe { c::quangevit_read_book(book.as_ptr(), book.len(), line.as_mut_ptr(), line.len()) }
     }
 
+    #[inline]
     fn open(&self, book: &[u8], state: &mut [u8], table: &mut [u8], journal: &[u8]) -> u32 {
         unsafe {
             c::quangevit_open(
@@ -124,6 +126,7 @@ impl Ends for Proved {
         }
     }
 
+    #[inline]
     fn answer(
         &self,
         state: &mut [u8],
@@ -148,10 +151,12 @@ impl Ends for Proved {
         }
     }
 
+    #[inline]
     fn make_unit(&self, train: u8, start: u8, end: u8, unit: &mut [u8]) -> u32 {
         unsafe { c::quangevit_make_unit(train, start, end, unit.as_mut_ptr(), unit.len()) }
     }
 
+    #[inline]
     fn press(&self, unit: &mut [u8], button: u8, frame: &mut [u8]) -> u32 {
         unsafe {
             c::quangevit_press(
@@ -164,6 +169,7 @@ impl Ends for Proved {
         }
     }
 
+    #[inline]
     fn hear(&self, unit: &mut [u8], frame: &[u8]) -> u32 {
         unsafe { c::quangevit_hear(unit.as_mut_ptr(), unit.len(), frame.as_ptr(), frame.len()) }
     }

@@ -17,7 +17,7 @@ pub type Strange = (&'static str, Lent);
 const LONGEST_RUN: usize = 400;
 
 /// How the frames of a whole run come about.
-#[derive(Clone, Copy, PartialEq)]
+#[derive(Clone, Copy)]
 pub enum Crews {
     ByFrames,
     /// Every frame of a crew comes from its unit, and every unit hears every answer.
