@@ -24,7 +24,7 @@ use Rattle.frame.specs.Frame.{readChecks, readFrame}
 use Rattle.rules.specs.declared.state.Train.{Train}
 use Rattle.rules.specs.declared.state.Status.the-variants.{Running}
 use Rattle.rules.specs.State.{isAsked, nextOf, locatedAt, reachedBy, trainOf, lineOf, located, reached}
-use Rattle.rules.specs.State.{withStatus}
+use Rattle.rules.specs.State.{withStatus, oneLogged}
 use Rattle.rules.specs.Valid.{valid}
 use Rattle.rules.specs.Granting.{grantable, older, oldest, Work, granted, proceed, grants}
 use Rattle.rules.specs.Answer.{isFa, isAm, moveIn, moveChecks, frameChecks}
@@ -180,6 +180,17 @@ module _ (s u : State) (a : Alike s u) where
     train = λ v k. by-equality v t
         (λ q. rw q (changed-own u t y n ku ∙ e ∙ sym (changed-own s t x m ks)))
         (λ h. changed-other u t y n v h ∙ a .train v k ∙ sym (changed-other s t x m v h));
+  }
+
+  -- ---- a record logged alone
+
+  pub logged-alike : Alike (oneLogged s) (oneLogged u)
+  logged-alike = record {
+    posts = a .posts;
+    trains = a .trains;
+    logged = ap (λ (n : ℕ). n + 1) (a .logged);
+    tracks = a .tracks;
+    train = a .train;
   }
 
 -- ---- the work

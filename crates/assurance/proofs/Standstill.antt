@@ -21,7 +21,7 @@ use Rattle.completion.proofs.Agreement.{first-move}
 use Rattle.rules.specs.declared.state.Train.{Train}
 use Rattle.rules.specs.State.{isAsked, isRunning, atEnd, nextOf, trainOf, lineOf, located, reached}
 use Rattle.rules.specs.Granting.{grantable}
-use Rattle.rules.proofs.Trains.{asked-idle, running-busy, idle-located, route-of}
+use Rattle.rules.proofs.Trains.{asked-idle, running-busy, route-of}
 use Rattle.rules.proofs.Validity.{Valid, next-post-below}
 use Rattle.rules.proofs.Changes.{is-grantable}
 use Rattle.rules.proofs.Oldest.{Nobody}
@@ -44,8 +44,7 @@ module _ (table : List ℕ) (s : State) (d : Valid s) (right : Right (lineOf s) 
         (post-travelled (trainOf s v .route) (trainOf s v .at .0) (d .each v k .inside))
 
     placed : (v : ℕ) → v < s .trains → located s v ≡ whereabouts (lineOf s) (reached s) v
-    placed v k =
-        idle-located (trainOf s v .status) (trainOf s v .at .0) (nextOf (trainOf s v)) (idle v k) ∙ rw (stands v k)
+    placed v k = rw (stands v k, idle v k)
 
     short-of : (t : ℕ) → t < s .trains → Short s t → Arrived (lineOf s) (reached s) → ⊥
     short-of t k short e =
@@ -67,7 +66,7 @@ module _ (table : List ℕ) (s : State) (d : Valid s) (right : Right (lineOf s) 
 
       free-section : sectionHolders (s .trains) (located s) (sectionOf (mover .at .0) (nextOf mover)) ≡ 0
       free-section = count-none (s .trains) (λ v. holdsSection (located s v) (sectionOf (mover .at .0) (nextOf mover)))
-          (λ v k. rw (idle-located (trainOf s v .status) (trainOf s v .at .0) (nextOf (trainOf s v)) (idle v k)))
+          (λ v k. rw (idle v k))
 
       -- the next post, with the mover there, has no more trains than tracks; the mover is not there yet
       free-track : postHolders (s .trains) (located s) (nextOf mover) < tracksAt (lineOf s) (nextOf mover)

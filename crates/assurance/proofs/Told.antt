@@ -1,7 +1,7 @@
 -- The observer tells of each train what its record says, so that the invariant says what is claimed.
 use mathlib.Core.Path.{_≡_, refl, sym, ap, _∙_}
 use mathlib.Core.Logic.{_≢_}
-use mathlib.Core.Bool.{false}
+use mathlib.Core.Bool.{false, cond}
 use mathlib.Core.List.{List}
 use Prim.Native.Nat.{ℕ, _+_, _<_}
 use native.Mathlib.Omega.{arith}
@@ -9,12 +9,12 @@ use Rattle.common.specs.Below.{ofBool}
 use Rattle.common.proofs.Below.{count-cong}
 use Rattle.line.specs.Route.{nextPost, distance}
 use Rattle.line.specs.Line.{routeOf}
-use Rattle.line.specs.Holding.{Whereabouts, holdsPost, holdsSection, postHolders, sectionHolders}
+use Rattle.line.specs.Holding.{Whereabouts, at, moving, holdsPost, holdsSection, postHolders, sectionHolders}
 use Rattle.rules.specs.declared.state.Status.{Status}
 use Rattle.rules.specs.declared.state.Status.the-variants.{Free, Asked, Running}
 use Rattle.rules.specs.declared.state.Train.{Train}
-use Rattle.rules.specs.State.{isFree, isAsked, isRunning, nextOf, trainOf, lineOf, locatedBy as recordedBy}
-use Rattle.rules.specs.State.{located as recorded, reached}
+use Rattle.rules.specs.State.{isFree, isAsked, isRunning, nextOf, trainOf, lineOf, located as recorded}
+use Rattle.rules.specs.State.{reached}
 use Rattle.rules.proofs.Trains.{route-of}
 use Rattle.rules.proofs.Validity.{one-holder, is-valid}
 use Rattle.assurance.specs.Types.{Record, State}
@@ -29,10 +29,11 @@ use Rattle.assurance.proofs.Ran.{AllRequested}
 
 -- ---- a claim, by a status
 
-located-as : (w : Status) (p q : ℕ) → locatedBy p (claimOf w p q) ≡ recordedBy w p q
-located-as Free p q = refl
-located-as (Asked n) p q = refl
-located-as Running p q = refl
+located-as : (w : Status) (here : Whereabouts) (p q : ℕ)
+    → locatedBy here (claimOf w p q) ≡ cond (isRunning w) (moving p q) here
+located-as Free here p q = refl
+located-as (Asked n) here p q = refl
+located-as Running here p q = refl
 
 asked-as : (w : Status) (p q : ℕ) → hasAsked (claimOf w p q) ≡ isAsked w
 asked-as Free p q = refl
@@ -65,7 +66,7 @@ module _ (table : List ℕ) (s : State) (j : List Record) (o : Observer) (inv : 
   seen = inv .each t kt .seen
 
   pub told : located o t ≡ recorded s t
-  told = rw seen (located-as (x .status) (x .at .0) (nextOf x))
+  told = rw seen (located-as (x .status) (at (x .at .0)) (x .at .0) (nextOf x))
 
   pub at-post : o t .post ≡ x .at .0
   at-post = ap (λ (y : Seen). y .post) seen

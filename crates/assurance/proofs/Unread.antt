@@ -13,7 +13,7 @@ use Rattle.frame.specs.Frame.{readFrame}
 use Rattle.journal.specs.Journal.{journalLength, recordOf}
 use Rattle.rules.specs.declared.state.Train.{Train}
 use Rattle.rules.specs.declared.state.Status.the-variants.{Asked}
-use Rattle.rules.specs.State.{isAsked, trainOf, withStatus, arrivedNext}
+use Rattle.rules.specs.State.{isAsked, trainOf, withStatus, arrivedNext, oneLogged}
 use Rattle.rules.specs.Granting.{Work, sends, grants, settled}
 use Rattle.rules.specs.Answer.{mostLogged, moveIn, frameChecks, taken, declined, accepted, answered, refused, answer}
 use Rattle.rules.proofs.Trains.{changed, changed-other, changed-each}
@@ -24,7 +24,7 @@ use Rattle.rules.proofs.Settling.{Roomy, settled-settles}
 use Rattle.rules.proofs.Acceptance.{NextMove, Taken, request, arrival, frame-passed, by-verdict}
 use Rattle.assurance.specs.Types.{Line, Move, Message, Fa, Afe, Am, Record, State}
 use Rattle.assurance.specs.Unread.{Alike, SameAnswer, Unread, Kept, LeftAlone}
-use Rattle.assurance.proofs.Alike.{SameWork, refusal-same, changed-alike, grants-same}
+use Rattle.assurance.proofs.Alike.{SameWork, refusal-same, changed-alike, logged-alike, grants-same}
 
 -- ---- the places are not read
 
@@ -65,13 +65,7 @@ declined-same m w v k known = rw (k .state .train (m .train .0) known)
   where
     more : SameWork (sends (w .state) w (recordOf (Afe m)) (Afe m)) (sends (v .state) v (recordOf (Afe m)) (Afe m))
     more = record {
-      state = record {
-        posts = k .state .posts;
-        trains = k .state .trains;
-        logged = ap (λ (n : ℕ). n + 1) (k .state .logged);
-        tracks = k .state .tracks;
-        train = k .state .train;
-      };
+      state = logged-alike (w .state) (v .state) (k .state);
       logged = rw (k .logged);
       sent = rw (k .sent);
     }
@@ -132,6 +126,16 @@ kept-changed s v t x n k known place same = record {
   places = λ i h. changed-other v t x n i (λ e. omega arith) ∙ k .places i h;
 }
 
+kept-logged : (s v : State) → Kept s v → Kept s (oneLogged v)
+kept-logged s v k = record {
+  posts = k .posts;
+  tracks = k .tracks;
+  trains = k .trains;
+  size = k .size;
+  routes = k .routes;
+  places = k .places;
+}
+
 unchanged : (s : State) → Kept s s
 unchanged s = record {
   posts = refl;
@@ -150,14 +154,7 @@ settled-kept table s w = grants-keep table (λ (v : Work). Kept s (v .state))
 
 declined-kept : (s : State) (m : Move) (w : Work) → Kept s (w .state) → Kept s (declined m w .state)
 declined-kept s m w k = by-cases (isAsked (trainOf (w .state) (m .train .0) .status))
-    (λ e. rw e (record {
-      posts = k .posts;
-      tracks = k .tracks;
-      trains = k .trains;
-      size = k .size;
-      routes = k .routes;
-      places = k .places;
-    }))
+    (λ e. rw e (kept-logged s (w .state) k))
     (λ e. rw e k)
 
 -- the frame's own change of its train's record

@@ -90,13 +90,13 @@ observe o (e ∷ es) = observe (hear o e) es
 
 -- "a train with an authority holds as a Running train does, between the posts of its move; any other holds at its post
 -- in the tally"
-abbrev pub locatedBy : ℕ → Claim → Whereabouts
-locatedBy p nothing = at p
-locatedBy p asked = at p
-locatedBy p (authority a b) = moving a b
+abbrev pub locatedBy : Whereabouts → Claim → Whereabouts
+locatedBy here nothing = here
+locatedBy here asked = here
+locatedBy here (authority p q) = moving p q
 
 abbrev pub located : Observer → ℕ → Whereabouts
-located o t = locatedBy (o t .post) (o t .claim)
+located o t = locatedBy (at (o t .post)) (o t .claim)
 
 abbrev pub hasAuthority : Claim → Bool
 hasAuthority nothing = false

@@ -1,6 +1,6 @@
 -- The sets of holders: one train more in them, and the ones counted.
 use mathlib.Core.Path.{_≡_, refl, sym, ap, _∙_}
-use mathlib.Core.Bool.{Bool, true, false, _||_, true≢false, false≢true}
+use mathlib.Core.Bool.{Bool, true, false, _||_}
 use mathlib.Core.List.{List}
 use Prim.Native.Nat.{ℕ, _+_, _*_, _%_, _^_, _≤_, _<_}
 use native.Mathlib.Omega.{arith}
@@ -16,8 +16,8 @@ use Rattle.common.proofs.Bits.{ones-set, set-none, set-low, set-more}
 use Rattle.common.proofs.Tests.{by-equality}
 use Rattle.line.specs.Route.{sectionOf}
 use Rattle.line.specs.Holding.{Whereabouts, at, moving, holdsPost, holdsSection, postHolders, sectionHolders}
-use Rattle.authority.specs.Types.{Status, Free, Asked, Running, Train, State, Holders}
-use Rattle.rules.specs.State.{isRunning, nextOf, locatedBy, locatedAt, trainOf, located}
+use Rattle.authority.specs.Types.{Train, State, Holders}
+use Rattle.rules.specs.State.{isRunning, nextOf, locatedAt, trainOf, located}
 use Rattle.authority.specs.Holders.{joined, Joined, withPost, withSection, WithPlaces, HeldBy, Held}
 
 -- ---- one set of eight
@@ -44,28 +44,16 @@ held-none s = record {
 
 -- ---- where a train is
 
-standing : (w : Status) (p q : ℕ) → isRunning w ≡ false → locatedBy w p q ≡ at p
-standing Free p q e = refl
-standing (Asked n) p q e = refl
-standing Running p q e = absurd (true≢false e)
-
-under-way : (w : Status) (p q : ℕ) → isRunning w ≡ true → locatedBy w p q ≡ moving p q
-under-way Free p q e = absurd (false≢true e)
-under-way (Asked n) p q e = absurd (false≢true e)
-under-way Running p q e = refl
-
 module _ (h : Holders) (t : ℕ) (x : Train) (posts : List ℕ) (own : Joined (x .at .0) t (h .posts) posts) where
   pub places-standing : isRunning (x .status) ≡ false
       → WithPlaces h t (locatedAt x) (record { posts = posts; sections = h .sections })
-  places-standing e =
-      rw (standing (x .status) (x .at .0) (nextOf x) e)
-      (record { posts = own; sections = λ i k. refl })
+  places-standing e = rw e (record { posts = own; sections = λ i k. refl })
 
   pub places-running : isRunning (x .status) ≡ true → (q i : ℕ) → q ≡ nextOf x → i ≡ sectionOf (x .at .0) q
       → (more sections : List ℕ) → Joined q t posts more → Joined i t (h .sections) sections
       → WithPlaces h t (locatedAt x) (record { posts = more; sections = sections })
   places-running e q i f g more sections next between =
-      rw (under-way (x .status) (x .at .0) (nextOf x) e, ← f)
+      rw (e, ← f)
       (record {
         posts = λ p k. next p k ∙ ap (joined (eqb q p) t) (own p k);
         sections = λ k l. between k l ∙ ap (λ (m : ℕ). joined (eqb m k) t (getD (h .sections) k 0)) g;

@@ -8,6 +8,7 @@ use Rattle.frame.specs.Frame.{bytesOf}
 use Rattle.journal.specs.Journal.{journalLength, blank, recordOf}
 use Rattle.completion.specs.Table.{tableLength}
 use Rattle.rules.specs.Answer.{outLength, answer}
+use Rattle.rules.specs.State.{stateWith}
 use Rattle.rules.specs.Opening.{emptyState}
 use Rattle.assurance.specs.Types.{Record, State, Verdict, Sent, RefusedBy}
 use Rattle.assurance.specs.Run.{Input, Ran}
@@ -113,14 +114,7 @@ frameWith size version kind t p q = 0 ∷ size ∷ version ∷ kind ∷ t ∷ p 
 abbrev pub withRecords : ℕ → List (List ℕ) → Ran
 withRecords n frames =
     let s = opened bookX .state in
-    let made : State = record {
-      posts = s .posts;
-      tracks = s .tracks;
-      trains = s .trains;
-      fleet = s .fleet;
-      logged = n;
-    } in
-    ranFrom made (opened bookX .table) frames
+    ranFrom (stateWith s (s .fleet) n) (opened bookX .table) frames
 
 -- the verdict on a frame of a torn length, by the lengths of table, journal and out buffer
 abbrev pub shortStores : State → ℕ → ℕ → ℕ → Verdict

@@ -25,8 +25,8 @@ use Rattle.rules.specs.Types.{Asked, Running, Train, State}
 use Rattle.rules.specs.State.{isAsked, isRunning, askedAs, atEnd, nextOf, locatedAt, trainOf, lineOf, located}
 use Rattle.rules.specs.State.{reached, withStatus, arrivedNext, withTrain, oneLogged}
 use Rattle.rules.specs.Granting.{grantable}
-use Rattle.rules.proofs.Trains.{asked-idle, running-located, idle-located, in-fleet, changed, changed-own}
-use Rattle.rules.proofs.Trains.{changed-other, changed-each, changed-line, changed-count}
+use Rattle.rules.proofs.Trains.{asked-idle, in-fleet, changed, changed-own, changed-other, changed-each}
+use Rattle.rules.proofs.Trains.{changed-line, changed-count}
 use Rattle.rules.proofs.Validity.{TrainValid, Distinct, Valid, asked-short}
 
 -- ---- the law
@@ -141,9 +141,7 @@ module _ (s : State) (d : Valid s) (t : ℕ) (known : t < s .trains) (room : s .
         few = omega arith;
         train = record { inside = d .each t known .inside; busy = λ q. short; numbered = λ q. omega arith };
         section = λ i k. omega (arith, d .sections i k);
-        post = λ p k.
-            rw (idle-located (trainOf s t .status) (trainOf s t .at .0) (nextOf (trainOf s t)) idle)
-            (omega (arith, d .posts p k));
+        post = λ p k. rw idle (omega (arith, d .posts p k));
         number = λ u ku h p q e. omega (arith, d .each u ku .numbered q);
       })
 
@@ -162,7 +160,7 @@ module _ (s : State) (d : Valid s) (t : ℕ) (known : t < s .trains) (room : s .
     };
     section = λ i k. omega (arith, d .sections i k);
     post = λ p k.
-        rw (running-located (trainOf s t .status) (trainOf s t .at .0) (nextOf (trainOf s t)) runs)
+        rw runs
         (omega (arith, d .posts p k, fewer-held (eqb (trainOf s t .at .0) p) (eqb (nextOf (trainOf s t)) p)));
     number = λ u ku h p. absurd (false≢true p);
   })
@@ -191,8 +189,7 @@ module _ (s : State) (d : Valid s) (t : ℕ) (known : t < s .trains) (room : s .
         omega (arith, ofBool-le (eqb (trainOf s t .at .0) p || eqb (nextOf (trainOf s t)) p)))
         (λ q.
         rw (
-          idle-located (trainOf s t .status) (trainOf s t .at .0) (nextOf (trainOf s t))
-              (asked-idle (trainOf s t .status) (g .asks)),
+          asked-idle (trainOf s t .status) (g .asks),
           ne-eqb (nextOf (trainOf s t)) p q,
           or-false (eqb (trainOf s t .at .0) p),
         )

@@ -12,9 +12,8 @@ use Rattle.common.specs.Below.{ofBool, countBelow}
 use Rattle.common.proofs.Tests.{clash, by-cases, by-equality}
 use Rattle.common.proofs.Below.{count-change}
 use Rattle.line.specs.Line.{routeOf}
-use Rattle.line.specs.Holding.{at, moving}
 use Rattle.rules.specs.Types.{Status, Free, Asked, Running, Train, State}
-use Rattle.rules.specs.State.{isFree, isAsked, isRunning, locatedBy, noTrain, trainOf, lineOf}
+use Rattle.rules.specs.State.{isFree, isAsked, isRunning, noTrain, trainOf, lineOf, stateWith}
 
 -- ---- a status
 
@@ -38,15 +37,6 @@ running-is Free e = absurd (false≢true e)
 running-is (Asked n) e = absurd (false≢true e)
 running-is Running e = refl
 
--- a train that is not Running is at its post
-pub idle-located : (w : Status) (p q : ℕ) → isRunning w ≡ false → locatedBy w p q ≡ at p
-idle-located Free p q e = refl
-idle-located (Asked n) p q e = refl
-idle-located Running p q e = absurd (false≢true (sym e))
-
-pub running-located : (w : Status) (p q : ℕ) → isRunning w ≡ true → locatedBy w p q ≡ moving p q
-running-located w p q e = rw (running-is w e)
-
 -- ---- the state
 
 -- the line's route is the record's
@@ -65,13 +55,7 @@ in-fleet s t f none passes = by-cases (ltb t (length (s .fleet)))
 -- ---- the state with x as train t's record and n records logged: `withTrain` and `oneLogged` give such states
 
 abbrev pub changed : State → ℕ → Train → ℕ → State
-changed s t x n = record {
-  posts = s .posts;
-  tracks = s .tracks;
-  trains = s .trains;
-  fleet = set (s .fleet) t x;
-  logged = n;
-}
+changed s t x n = stateWith s (set (s .fleet) t x) n
 
 module _ (s : State) (t : ℕ) (x : Train) (n : ℕ) where
   pub changed-own : t < length (s .fleet) → trainOf (changed s t x n) t ≡ x

@@ -1,7 +1,7 @@
 -- Valid states as facts, both ways: `Valid s` holds exactly where the test `valid s` passes.
 use mathlib.Core.Path.{_≡_, refl, sym}
 use mathlib.Core.Logic.{_≢_, ⊎-elim}
-use mathlib.Core.Bool.{Bool, true, false, not, _||_, false≢true, true≢false}
+use mathlib.Core.Bool.{Bool, true, false, not, cond, _||_, false≢true, true≢false}
 use Prim.Native.Nat.{ℕ, _≤_, _<_}
 use native.Mathlib.Omega.{arith}
 use lib.Dec.{leb, eqb, ltb}
@@ -11,12 +11,12 @@ use Rattle.common.proofs.Tests.{by-cases, by-equality, and-left, and-right, and
 use Rattle.common.proofs.Below.{all-below, below-all, one-counted}
 use Rattle.line.specs.Route.{between, sectionOf}
 use Rattle.line.specs.Line.{wellFormed, tracksAt}
-use Rattle.line.specs.Holding.{holdsSection, postHolders, sectionHolders}
+use Rattle.line.specs.Holding.{at, moving, holdsSection, postHolders, sectionHolders}
 use Rattle.line.proofs.Travel.{Between, between-of, of-between, next-below}
 use Rattle.line.proofs.WellFormed.{WellFormed, well-formed, is-well-formed}
 use Rattle.journal.specs.Journal.{journalLength}
 use Rattle.rules.specs.Types.{Status, Free, Asked, Running, Train, State}
-use Rattle.rules.specs.State.{isFree, isAsked, askedAs, atEnd, nextOf, locatedBy, trainOf, lineOf, located}
+use Rattle.rules.specs.State.{isFree, isAsked, isRunning, askedAs, atEnd, nextOf, trainOf, lineOf, located}
 use Rattle.rules.specs.Valid.{trainValid, sectionsValid, postsValid, numberBelow, sameNumber, numberValid, valid}
 use Rattle.rules.proofs.Trains.{asked-busy, route-of}
 
@@ -166,10 +166,11 @@ pub one-holder : (s : State) → Valid s → (i t u : ℕ) → t < s .trains →
 one-holder s d i t u kt ku p q =
     one-counted (s .trains) (λ v. holdsSection (located s v) i) (d .sections i on) t u kt ku p q
   where
-    low : (w : Status) (a b : ℕ) → holdsSection (locatedBy w a b) i ≡ true → i ≤ a
-    low Free a b e = absurd (false≢true e)
-    low (Asked n) a b e = absurd (false≢true e)
-    low Running a b e = let z = eqb-true (sectionOf a b) i e in omega arith
+    low : (runs : Bool) (a b : ℕ) → holdsSection (cond runs (moving a b) (at a)) i ≡ true → i ≤ a
+    low true a b e = let z = eqb-true (sectionOf a b) i e in omega arith
+    low false a b e = absurd (false≢true e)
 
     on : i < s .posts
-    on = omega (arith, low (trainOf s t .status) (trainOf s t .at .0) (nextOf (trainOf s t)) p, post-below s d t kt)
+    on =
+        let x = trainOf s t in
+        omega (arith, low (isRunning (x .status)) (x .at .0) (nextOf x) p, post-below s d t kt)

@@ -1,6 +1,6 @@
 -- One train's record and the state, read: the next post, where the train is, what it has travelled.
-use mathlib.Core.Bool.{Bool, true, false}
-use mathlib.Core.List.{map}
+use mathlib.Core.Bool.{Bool, true, false, cond}
+use mathlib.Core.List.{List, map}
 use Prim.Native.Nat.{ℕ, _+_}
 use lib.Dec.{eqb}
 use lib.ListN.{getD, set}
@@ -44,13 +44,8 @@ nextOf x = nextPost (x .at .0) (x .route .end .0)
 
 -- "A Running train, from its present post p to q, holds the section between them and a track at each of p and q. ..
 -- Another train holds a track at its present post."
-abbrev pub locatedBy : Status → ℕ → ℕ → Whereabouts
-locatedBy Free p q = at p
-locatedBy (Asked n) p q = at p
-locatedBy Running p q = moving p q
-
 abbrev pub locatedAt : Train → Whereabouts
-locatedAt x = locatedBy (x .status) (x .at .0) (nextOf x)
+locatedAt x = cond (isRunning (x .status)) (moving (x .at .0) (nextOf x)) (at (x .at .0))
 
 -- the posts travelled, and one more for a train that is Running: it "has reached its next post"
 abbrev pub reachedBy : Train → ℕ
@@ -89,22 +84,20 @@ withStatus x w = record { route = x .route; at = x .at; status = w }
 abbrev pub arrivedNext : Train → Train
 arrivedNext x = record { route = x .route; at = record { 0 = nextOf x }; status = Free }
 
--- x as train t's record
-abbrev pub withTrain : State → ℕ → Train → State
-withTrain s t x = record {
+-- the state with these records of its trains, and so many records logged
+abbrev pub stateWith : State → List Train → ℕ → State
+stateWith s fleet n = record {
   posts = s .posts;
   tracks = s .tracks;
   trains = s .trains;
-  fleet = set (s .fleet) t x;
-  logged = s .logged;
+  fleet = fleet;
+  logged = n;
 }
+
+-- x as train t's record
+abbrev pub withTrain : State → ℕ → Train → State
+withTrain s t x = stateWith s (set (s .fleet) t x) (s .logged)
 
 -- one record more in the journal
 abbrev pub oneLogged : State → State
-oneLogged s = record {
-  posts = s .posts;
-  tracks = s .tracks;
-  trains = s .trains;
-  fleet = s .fleet;
-  logged = s .logged + 1;
-}
+oneLogged s = stateWith s (s .fleet) (s .logged + 1)
