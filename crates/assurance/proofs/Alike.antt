@@ -29,11 +29,12 @@ use Rattle.rules.specs.Valid.{valid}
 use Rattle.rules.specs.Granting.{grantable, older, oldest, Work, granted, proceed, grants}
 use Rattle.rules.specs.Answer.{isFa, isAm, moveIn, moveChecks, frameChecks}
 use Rattle.rules.proofs.Trains.{route-of, in-fleet, changed, changed-own, changed-other}
-use Rattle.rules.proofs.Validity.{TrainValid, Valid, valid-facts, is-valid, asked-short, next-post-below}
+use Rattle.rules.proofs.Validity.{TrainValid, Valid, valid-facts, few-logged, is-valid, asked-short}
+use Rattle.rules.proofs.Validity.{next-post-below}
 use Rattle.rules.proofs.Changes.{grantable-facts, is-grantable}
 use Rattle.rules.proofs.Oldest.{oldest-some}
 use Rattle.rules.proofs.Grants.{Turn, granted-place}
-use Rattle.rules.proofs.Settling.{Roomy, roomy-next}
+use Rattle.rules.proofs.Settling.{granted-valid}
 use Rattle.assurance.specs.Types.{Move, State}
 use Rattle.assurance.specs.Unread.{Alike}
 
@@ -93,7 +94,6 @@ module _ (s u : State) (a : Alike s u) where
             (subst (TrainValid (trainOf s t)) (sym (a .logged)) (d .each t (trains t k)));
         sections = λ i k. rw (section-same i) (d .sections i (posts i k));
         posts = λ p k. rw (post-same p, a .tracks p (posts p k)) (d .posts p (posts p k));
-        few-logged = rw (a .logged) (d .few-logged);
         distinct = λ t v kt kv. rw (a .train t (trains t kt), a .train v (trains v kv))
             (d .distinct t v (trains t kt) (trains v kv));
       }
@@ -125,8 +125,8 @@ module _ (s u : State) (a : Alike s u) where
 module _ (s u : State) (a : Alike s u) where
   valid-same : valid u ≡ valid s
   valid-same = same-test (valid u) (valid s)
-      (λ e. is-valid s (valid-alike u s (alike-back s u a) (valid-facts u e)))
-      (λ e. is-valid u (valid-alike s u a (valid-facts s e)))
+      (λ e. is-valid s (valid-alike u s (alike-back s u a) (valid-facts u e)) (rw (← a .logged) (few-logged u e)))
+      (λ e. is-valid u (valid-alike s u a (valid-facts s e)) (rw (a .logged) (few-logged s e)))
 
   -- the checks after 7 are reached with a train below T only
   move-same : (asks arrives : Bool) (m : Move)
@@ -214,18 +214,19 @@ module _ (table : List ℕ) where
         sent = rw (k .sent, e);
       }
 
-  pub grants-same : (n : ℕ) (w v : Work) → Roomy w → SameWork w v → SameWork (grants table n w) (grants table n v)
+  pub grants-same : (n : ℕ) (w v : Work) → Valid (w .state) → SameWork w v
+      → SameWork (grants table n w) (grants table n v)
   unfolding grants
-  grants-same zero w v r k = k
-  grants-same (suc n) w v r k = rw (oldest-same (w .state) (v .state) (k .state) table (r .valid-state))
+  grants-same zero w v d k = k
+  grants-same (suc n) w v d k = rw (oldest-same (w .state) (v .state) (k .state) table d)
       (at (oldest table (w .state) (w .state .trains)) refl
       (λ t p q. grants-same n (granted w t) (granted v t) p q))
     where
       at : (o : Option ℕ) → oldest table (w .state) (w .state .trains) ≡ o
-          → ((t : ℕ) → Roomy (granted w t) → SameWork (granted w t) (granted v t)
+          → ((t : ℕ) → Valid (granted w t .state) → SameWork (granted w t) (granted v t)
           → SameWork (grants table n (granted w t)) (grants table n (granted v t)))
           → SameWork (proceed o w (λ t. grants table n (granted w t))) (proceed o v (λ t. grants table n (granted v t)))
       at none e rest = k
       at (some t) e rest =
           let f = oldest-some table (w .state) (w .state .trains) t e in
-          rest t (roomy-next table w t r f) (granted-same w v t k f)
+          rest t (granted-valid table w t d f) (granted-same w v t k f)

@@ -30,13 +30,12 @@ use Rattle.assurance.specs.WholeList.{Unhindered, Assured}
 use Rattle.assurance.specs.Homecoming.{AllAtEnds}
 use Rattle.assurance.specs.Arrival.{dueBy, due, acceptedFrames, framesTold, Arrives, Arrival}
 use Rattle.assurance.proofs.Invariant.{claimOf, Invariant}
-use Rattle.assurance.proofs.Exchanged.{Settled}
+use Rattle.assurance.proofs.Exchanged.{Settled, valid-settled}
 use Rattle.assurance.proofs.Accepted.{framesIn, run-frames, frames-told, frames-within, few-frames}
-use Rattle.assurance.proofs.NeverRefused.{Counted, opened-counted}
 use Rattle.assurance.proofs.Opened.{opening-accepted, opened-line, opened-settled}
 use Rattle.assurance.proofs.Ran.{run-kept}
 use Rattle.assurance.proofs.Told.{seen, at-post, asked-told, next-told, assured}
-use Rattle.assurance.proofs.Homecoming.{next-move, taken-message, run-counted, long-table}
+use Rattle.assurance.proofs.Homecoming.{next-move, taken-message, long-table}
 
 -- ---- the frame that a train has before it
 
@@ -49,12 +48,12 @@ module _ (table : List ℕ) (s : State) (j : List Record) (o : Observer) (inv : 
   due-told t kt = rw (next-told table s j o inv t kt, seen table s j o inv t kt)
 
   -- a train that does not wait
-  due-taken : Counted s → (u : Unhindered (lineOf s) o) → Taken s (due (lineOf s) o (u .train))
-  due-taken c u = rw (due-told (u .train) (u .known))
+  due-taken : Settled table s j o → (u : Unhindered (lineOf s) o) → Taken s (due (lineOf s) o (u .train))
+  due-taken k u = rw (due-told (u .train) (u .known))
       (at (trainOf s (u .train) .status) refl (sym (asked-told table s j o inv (u .train) (u .known)) ∙ u .unasked))
     where
       move : NextMove s (nextMove s (u .train))
-      move = next-move s c (u .train) (u .known)
+      move = next-move k (u .train) (u .known)
           (λ e. u .short (at-post table s j o inv (u .train) (u .known) ∙ e ∙ rw (route-of s (u .train))))
 
       at : (w : Status) → trainOf s (u .train) .status ≡ w → isAsked w ≡ false → Taken s (dueOf s w (u .train))
@@ -96,7 +95,7 @@ module _ (table : List ℕ) (s : State) (j : List Record) (o : Observer) (inv : 
 -- ---- the claim
 
 module _ (table : List ℕ) (long : tableLength ≤ length table) (r : Ran) (o : Observer)
-    (k : Settled table (r .state) (r .journal) o) (c : Counted (r .state)) where
+    (k : Settled table (r .state) (r .journal) o) where
   abbrev s : State
   s = r .state
 
@@ -106,8 +105,8 @@ module _ (table : List ℕ) (long : tableLength ≤ length table) (r : Ran) (o :
   due-accepted u out room =
       let a = due (lineOf s) o (u .train) in
       let e =
-      taken-accepted s table (r .journal) out (c .valid-state) long (k .kept .room) room a
-      (due-taken table s (r .journal) o (k .kept) c u) in
+      taken-accepted s table (r .journal) out (valid-settled k) long (k .kept .room) room a
+      (due-taken table s (r .journal) o (k .kept) k u) in
       let w = accepted table s (readFrame (bytesOf a)) in
       let same = accepts (answered (s .logged) (r .journal) out w) (refused s (r .journal) out) e in
       (length (w .sent), ap (λ (b : Answer). b .verdict) same)
@@ -136,18 +135,17 @@ module _ (table : List ℕ) (long : tableLength ≤ length table) (r : Ran) (o :
       absurd (omega arith))
 
 pub arrives : (l : Line) (table : List ℕ) (s : State) (j : List Record) (o : Observer) (inputs : List Input)
-    → tableLength ≤ length table → Settled table s j o → Counted s → lineOf s ≡ l → framesIn s ≡ 0
+    → tableLength ≤ length table → Settled table s j o → lineOf s ≡ l → framesIn s ≡ 0
     → let r = run table s j inputs in Arrives table l r (observe o (r .exchanges))
-arrives l table s j o inputs long k c line none =
+arrives l table s j o inputs long k line none =
     let r = run table s j inputs in
     let kept = run-kept table inputs s j o k in
     let after = kept .after in
-    let counted = run-counted table inputs s j c in
     let frames : acceptedFrames (r .exchanges) ≡ framesIn (r .state) = omega (arith, run-frames table inputs s j) in
     subst (λ (z : Line). Arrives table z r (observe o (r .exchanges))) (kept .line ∙ line) (record {
-      taken = due-accepted table long r _ after counted;
-      only = accepted-due table long r _ after counted;
-      ended = all-ended table long r _ after counted (assured table r _ after (kept .requested));
+      taken = due-accepted table long r _ after;
+      only = accepted-due table long r _ after;
+      ended = all-ended table long r _ after (assured table r _ after (kept .requested));
       frames = frames ∙ frames-told table (r .state) (r .journal) _ (after .kept);
       bounded = rw frames (frames-within (r .state) (after .kept .valid-state));
       few = few-frames (r .state) (after .kept .valid-state);
@@ -158,7 +156,6 @@ arrival-of-all book table journal inputs e =
     let l = lineIn book in
     let a = opening-accepted book table journal e in
     let k = opened-settled l table journal (a .1) (opened-line book) in
-    let counted : Counted (openedState l) = rw (a .0) at (opened-counted book table journal e) in
     let told : framesIn (openedState l) ≡ sumBelow (l .trains) (framesTold l (atOpening l)) =
     subst (λ (z : Line). framesIn (openedState l) ≡ sumBelow (l .trains) (framesTold z (atOpening l)))
     (opened-line book)
@@ -169,5 +166,5 @@ arrival-of-all book table journal inputs e =
     (λ (o : Opening).
     let r = run (o .table) (o .state) journal inputs in Arrives (o .table) l r (observe (atOpening l) (r .exchanges)))
     (sym (a .0))
-    (arrives l (filled l table) (openedState l) journal (atOpening l) inputs (long-table l table) k counted
+    (arrives l (filled l table) (openedState l) journal (atOpening l) inputs (long-table l table) k
     (opened-line book) none)

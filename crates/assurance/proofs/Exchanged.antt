@@ -1,9 +1,10 @@
 -- One frame: the answers are read back from the out buffer, and the answer to any frame, accepted or refused, keeps the
 -- invariant.
 use mathlib.Core.Path.{_≡_, refl, ap, _∙_}
+use mathlib.Core.Bool.{true}
 use mathlib.Core.List.{List, [], _∷_, _++_, append-assoc, List·Memᴰ, List·Memᴰ·head, List·Memᴰ·tail}
 use mathlib.Core.List.{List·Memᴰ·not-nil}
-use Prim.Native.Nat.{ℕ, _+_}
+use Prim.Native.Nat.{ℕ, _+_, _≤_}
 use native.Mathlib.Omega.{arith}
 use lib.ListN.{length, take, drop}
 use lib.Seq.{take-at, drop-at}
@@ -12,9 +13,11 @@ use Rattle.common.proofs.Part.{replaced-before}
 use Rattle.frame.specs.Frame.{readFrame, bytesOf}
 use Rattle.frame.specs.RoundTrip.{IsMessage}
 use Rattle.frame.proofs.RoundTrip.{round-trip}
-use Rattle.journal.specs.Journal.{blank}
+use Rattle.journal.specs.Journal.{journalLength, blank}
 use Rattle.rules.specs.State.{lineOf}
-use Rattle.rules.specs.Answer.{accepted, framesOf, Answer, answered, refused, answer}
+use Rattle.rules.specs.Valid.{valid}
+use Rattle.rules.specs.Answer.{mostLogged, accepted, framesOf, Answer, answered, refused, answer}
+use Rattle.rules.proofs.Validity.{is-valid}
 use Rattle.rules.proofs.Oldest.{Nobody}
 use Rattle.rules.proofs.Frames.{bytes-length}
 use Rattle.rules.proofs.Acceptance.{Passed, by-verdict, accepted-facts}
@@ -23,6 +26,7 @@ use Rattle.assurance.specs.Observer.{Observer, readFrames, answersOf, he
 use Rattle.assurance.specs.WholeList.{Requested}
 use Rattle.assurance.proofs.Invariant.{Invariant}
 use Rattle.assurance.proofs.Logging.{Later, later-same}
+use Rattle.assurance.proofs.Records.{recordsIn, few-records, accepted-bounded}
 use Rattle.assurance.proofs.Accept.{accepted-worked}
 
 -- ---- frames read back
@@ -50,10 +54,19 @@ answers-back l out h = read-back l (drop (0 + length (framesOf l)) out) h
 
 -- ---- one frame
 
--- the invariant between frames: nobody can be granted
+-- the invariant between frames: nobody can be granted, and the count is at most what the trains can have taken
 pub record Settled (table : List ℕ) (s : State) (j : List Record) (o : Observer) : Type 0 where
   pub kept : Invariant table s j o
   pub nobody : Nobody table s (s .trains)
+  pub bounded : s .logged ≤ recordsIn s
+
+-- so that the journal has room for the next frame, and the state is valid, its count included
+module _ {table : List ℕ} {s : State} {j : List Record} {o : Observer} (k : Settled table s j o) where
+  pub room-settled : s .logged + mostLogged ≤ journalLength
+  room-settled = omega (arith, k .bounded, few-records s (k .kept .valid-state))
+
+  pub valid-settled : valid s ≡ true
+  valid-settled = is-valid s (k .kept .valid-state) (omega (arith, room-settled))
 
 -- what the answer to a frame leaves
 pub record Exchanged (table : List ℕ) (s : State) (j : List Record) (o : Observer) (frame : List ℕ) (a : Answer)
@@ -80,17 +93,22 @@ module _ (table : List ℕ) (s : State) (j : List Record) (o : Observer) (k : Se
       let w = accepted table s (readFrame frame) in
       let facts = accepted-facts table s (k .kept .valid-state) (readFrame frame) (p .message) in
       let worked = accepted-worked table s j o (k .kept) (readFrame frame) (p .message) in
+      let count = accepted-bounded table s (k .kept .valid-state) (readFrame frame) (p .message) (k .bounded) in
       let back : readFrames (length (w .sent)) (replaced out 0 (framesOf (w .sent))) ≡ w .sent =
       answers-back (w .sent) out (facts .messages) in
       record {
-        after = rw back (record { kept = worked .kept; nobody = facts .nobody });
+        after = rw back (record {
+          kept = worked .kept;
+          nobody = facts .nobody;
+          bounded = omega (arith, count .spare);
+        });
         line = facts .line;
         requested = rw back (worked .requested);
         later = record {
           more = omega (arith, facts .counted);
           same = λ i l.
               replaced-before j (s .logged) (w .logged) i blank l
-              (omega (arith, k .kept .room, k .kept .valid-state .few-logged));
+              (omega (arith, k .kept .room, room-settled k));
         };
       }
 

@@ -30,30 +30,24 @@ use Rattle.assurance.specs.Run.{Input, run}
 use Rattle.assurance.specs.Observer.{Observer, atOpening, observe}
 use Rattle.assurance.specs.Homecoming.{Homecoming}
 use Rattle.assurance.proofs.Standstill.{Short, goes-on}
-use Rattle.assurance.proofs.Exchanged.{Settled, answer-kept}
+use Rattle.assurance.proofs.Exchanged.{Settled, room-settled, valid-settled, answer-kept}
 use Rattle.assurance.proofs.Records.{recordsIn, few-records, accepted-bounded}
-use Rattle.assurance.proofs.NeverRefused.{Counted, answer-counted, opened-counted}
 use Rattle.assurance.proofs.Opened.{opening-accepted, opened-line, opened-settled}
 use Rattle.assurance.proofs.Told.{at-post}
 use Rattle.assurance.proofs.Ran.{RunKept, run-kept}
 
 -- ---- one frame that is accepted
 
-pub next-move : (s : State) → Counted s → (u : ℕ) → u < s .trains → Short s u → NextMove s (nextMove s u)
-next-move s k u known short = record {
-  known = known;
-  short = short;
-  from = refl;
-  to = refl;
-  space = omega (arith, k .bounded, few-records s (k .valid-state));
-}
+module _ {table : List ℕ} {s : State} {j : List Record} {o : Observer} (k : Settled table s j o) (u : ℕ)
+    (known : u < s .trains) (short : Short s u) where
+  pub next-move : NextMove s (nextMove s u)
+  next-move = record { known = known; short = short; from = refl; to = refl; space = room-settled k }
 
--- a train that is short of its end and has not asked sends its next move's AM or FA
-next-frame : (s : State) → Counted s → (u : ℕ) → u < s .trains → Short s u → isAsked (trainOf s u .status) ≡ false
-    → (a : Message) × Taken s a
-next-frame s k u known short free = by-cases (isRunning (trainOf s u .status))
-    (λ e. (Am (nextMove s u), arrival (nextMove s u) (next-move s k u known short) e))
-    (λ e. (Fa (nextMove s u), request (nextMove s u) (next-move s k u known short) free e))
+  -- a train that is short of its end and has not asked sends its next move's AM or FA
+  next-frame : isAsked (trainOf s u .status) ≡ false → (a : Message) × Taken s a
+  next-frame free = by-cases (isRunning (trainOf s u .status))
+      (λ e. (Am (nextMove s u), arrival (nextMove s u) next-move e))
+      (λ e. (Fa (nextMove s u), request (nextMove s u) next-move free e))
 
 -- what is taken is a message
 pub taken-message : (s : State) (a : Message) → Taken s a → IsMessage a
@@ -69,13 +63,13 @@ sending a = record { frame = bytesOf a; out = buffer }
 
 module _ (table : List ℕ) (long : tableLength ≤ length table) where
   -- the answer raises the number of records
-  raises : (s : State) (j : List Record) (o : Observer) → Settled table s j o → Counted s → (a : Message) → Taken s a
+  raises : (s : State) (j : List Record) (o : Observer) → Settled table s j o → (a : Message) → Taken s a
       → recordsIn s < recordsIn (answer s table j (bytesOf a) buffer .state)
   unfolding answer
-  raises s j o k c a t =
+  raises s j o k a t =
       let read : readFrame (bytesOf a) ≡ a = round-trip .back a (taken-message s a t) in
-      let e = taken-accepted s table j buffer (c .valid-state) long (k .kept .room) (omega arith) a t in
-      let b = accepted-bounded table s (c .valid-state) a t (c .bounded) .raised in
+      let e = taken-accepted s table j buffer (valid-settled k) long (k .kept .room) (omega arith) a t in
+      let b = accepted-bounded table s (k .kept .valid-state) a t (k .bounded) .raised in
       rw (
         accepts (answered (s .logged) j buffer (accepted table s (readFrame (bytesOf a)))) (refused s j buffer) e,
         read,
@@ -100,16 +94,16 @@ module _ (table : List ℕ) (long : tableLength ≤ length table) where
   short-train s t = not (atEnd (trainOf s t))
 
   -- all are there, or an accepted frame brings them nearer
-  nearer : (s : State) (j : List Record) (o : Observer) → Settled table s j o → Counted s
+  nearer : (s : State) (j : List Record) (o : Observer) → Settled table s j o
       → ((a : Message) → Taken s a → ComesHome s j) → ComesHome s j
   unfolding run short-train
-  nearer s j o k c step = by-cases (anyBelow (s .trains) (short-train s))
+  nearer s j o k step = by-cases (anyBelow (s .trains) (short-train s))
       (λ e.
       let f = any-below (s .trains) (short-train s) e in
       let g =
-      goes-on table s (c .valid-state) (k .kept .right) (k .kept .completable) (k .nobody) (f .0) (f .1)
+      goes-on table s (k .kept .valid-state) (k .kept .right) (k .kept .completable) (k .nobody) (f .0) (f .1)
       (eqb-false _ _ (not-true _ (f .2))) in
-      let a = next-frame s c (g .0) (g .1) (g .2) (g .3) in
+      let a = next-frame k (g .0) (g .1) (g .2) (g .3) in
       step (a .0) (a .1))
       (λ e. record {
         inputs = [];
@@ -118,17 +112,15 @@ module _ (table : List ℕ) (long : tableLength ≤ length table) where
       })
 
   -- n bounds what the records can still rise by
-  comes-home : (n : ℕ) (s : State) (j : List Record) (o : Observer) → Settled table s j o → Counted s
+  comes-home : (n : ℕ) (s : State) (j : List Record) (o : Observer) → Settled table s j o
       → 168 ≤ recordsIn s + n → ComesHome s j
-  comes-home zero s j o k c few = nearer s j o k c (λ a t.
-      let more = raises s j o k c a t in
-      let after = few-records _ (answer-counted table s j (bytesOf a) buffer c .valid-state) in
+  comes-home zero s j o k few = nearer s j o k (λ a t.
+      let more = raises s j o k a t in
+      let after = few-records _ (answer-kept table s j o k (bytesOf a) buffer .after .kept .valid-state) in
       absurd (omega arith))
-  comes-home (suc n) s j o k c few = nearer s j o k c (λ a t.
-      let more = raises s j o k c a t in
-      goes-home s j o k a
-      (comes-home n _ _ _ (answer-kept table s j o k (bytesOf a) buffer .after)
-      (answer-counted table s j (bytesOf a) buffer c) (omega arith)))
+  comes-home (suc n) s j o k few = nearer s j o k (λ a t.
+      let more = raises s j o k a t in
+      goes-home s j o k a (comes-home n _ _ _ (answer-kept table s j o k (bytesOf a) buffer .after) (omega arith)))
 
 -- ---- runs one after the other
 
@@ -140,25 +132,19 @@ run-append table (i ∷ is) more s j =
     let a = answer s table j (i .frame) (i .out) in
     run-append table is more (a .state) (a .journal)
 
-pub run-counted : (table : List ℕ) (is : List Input) (s : State) (j : List Record) → Counted s
-    → Counted (run table s j is .state)
-unfolding run
-run-counted table [] s j k = k
-run-counted table (i ∷ is) s j k = run-counted table is _ _ (answer-counted table s j (i .frame) (i .out) k)
-
 -- after any list of frames from a settled state on
 home-after : (table : List ℕ) → tableLength ≤ length table → (s : State) (j : List Record) (o : Observer)
-    → Settled table s j o → Counted s
+    → Settled table s j o
     → (inputs : List Input) → (further : List Input)
     × ((t : ℕ) → t < s .trains
     → observe o (run table s j (inputs ++ further) .exchanges) t .post ≡ routeOf (lineOf s) t .end .0)
-home-after table long s j o k c inputs = (h .inputs, told)
+home-after table long s j o k inputs = (h .inputs, told)
   where
     kept : RunKept table s j o (run table s j inputs)
     kept = run-kept table inputs s j o k
 
     h : ComesHome table long (run table s j inputs .state) (run table s j inputs .journal)
-    h = comes-home table long 168 _ _ _ (kept .after) (run-counted table inputs s j c) (omega arith)
+    h = comes-home table long 168 _ _ _ (kept .after) (omega arith)
 
     line : lineOf (run table s j (inputs ++ h .inputs) .state) ≡ lineOf s
     line = run-kept table (inputs ++ h .inputs) s j o k .line
@@ -185,9 +171,8 @@ pub homecoming : Homecoming
 homecoming book table journal inputs e =
     let l = lineIn book in
     let a = opening-accepted book table journal e in
-    let counted : Counted (openedState l) = rw (a .0) at (opened-counted book table journal e) in
     let home = home-after (filled l table) (long-table l table) (openedState l) journal (atOpening l)
-    (opened-settled l table journal (a .1) (opened-line book)) counted inputs in
+    (opened-settled l table journal (a .1) (opened-line book)) inputs in
     let after : Line → Type 0 = λ v. (t : ℕ) → t < l .trains
     → observe (atOpening l) (run (filled l table) (openedState l) journal (inputs ++ home .0) .exchanges) t .post
     ≡ routeOf v t .end .0 in

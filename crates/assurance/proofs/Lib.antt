@@ -5,6 +5,7 @@ pub mod Standstill
 pub mod Logging
 pub mod Steps
 pub mod Accept
+pub mod Records
 pub mod Exchanged
 pub mod Opened
 pub mod Ran
@@ -13,7 +14,6 @@ pub mod WholeList
 pub mod OneFrame
 pub mod Alike
 pub mod Unread
-pub mod Records
 pub mod NeverRefused
 pub mod Homecoming
 pub mod Waiting

@@ -16,13 +16,13 @@ use Rattle.rules.specs.State.{trainOf, lineOf, reached, nextMove, withStatus}
 use Rattle.rules.specs.Valid.{valid}
 use Rattle.rules.specs.Granting.{oldest, Work, granted, proceed, grants}
 use Rattle.rules.specs.Answer.{accepted, answer}
-use Rattle.rules.proofs.Validity.{Distinct, valid-facts, is-valid}
+use Rattle.rules.proofs.Validity.{Distinct, valid-facts}
 use Rattle.rules.proofs.Changes.{distinct-change, grantable-facts, is-grantable}
 use Rattle.rules.proofs.Reached.{moved-within, moved-code}
 use Rattle.rules.proofs.Oldest.{Oldest, oldest-none, oldest-some, earlier}
 use Rattle.rules.proofs.Grants.{askedCount, Turn, granted-fewer, granted-place, none-asked, few-asked, settled-next}
 use Rattle.rules.proofs.Settling.{settled-settles}
-use Rattle.rules.proofs.Acceptance.{by-verdict, refusal-leaves, paired, accepted-facts}
+use Rattle.rules.proofs.Acceptance.{by-verdict, refusal-leaves, paired, accepted-facts, accepted-valid}
 use Rattle.assurance.specs.Types.{Fe, Record, State, Sent}
 use Rattle.assurance.specs.OneFrame.{ValidKept, RefusalsChangeNothing, AtMostSix, BitInTable, NoneLeft, First}
 use Rattle.assurance.specs.OneFrame.{Granting, done, next, ExactGrant, OldestFirst, RightGrant}
@@ -30,7 +30,7 @@ use Rattle.assurance.specs.OneFrame.{Granting, done, next, ExactGrant, O
 pub valid-kept : ValidKept
 valid-kept s table journal frame out e =
     by-verdict s table journal frame out (λ a. valid (a .state) ≡ true) (λ n q. e)
-    (λ p. is-valid _ (accepted-facts table s (p .valid-state) (readFrame frame) (p .message) .valid-state))
+    (λ p. accepted-valid table s (p .valid-state) (readFrame frame) (p .message))
 
 pub refusals-change-nothing : RefusalsChangeNothing
 refusals-change-nothing = refusal-leaves

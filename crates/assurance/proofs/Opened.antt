@@ -95,7 +95,6 @@ module _ (l : Line) (table : List ℕ) (journal : List Record) (a : Accepted l t
         (λ t. holdsPost (whereabouts l start t) p)
         (λ t kt. rw (fresh-train t kt, post-start (routeOf l t))))
         (a .fits .fits p k);
-    few-logged = omega arith;
     distinct = λ t u kt ku p. absurd (false≢true (rw (fresh-train t kt) at p));
   }
 
@@ -121,6 +120,7 @@ module _ (l : Line) (table : List ℕ) (journal : List Record) (a : Accepted l t
   pub opened-settled : Settled (filled l table) (openedState l) journal (atOpening l)
   opened-settled = record {
     kept = opened-kept;
+    bounded = omega arith;
     nobody = record {
       barred = λ t k. not-passed (grantable (filled l table) (openedState l) t) (λ e.
           false≢true (rw (fresh-train t k) at (grantable-facts (filled l table) (openedState l) t e .asks)));

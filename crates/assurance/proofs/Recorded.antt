@@ -12,7 +12,7 @@ use Rattle.completion.specs.Table.{filled}
 use Rattle.line.specs.Book.{lineOf as lineIn}
 use Rattle.rules.specs.Answer.{accepted, framesOf, answered, answer}
 use Rattle.rules.specs.Opening.{Opening, openedState}
-use Rattle.rules.proofs.Acceptance.{Passed, by-verdict, accepted-facts}
+use Rattle.rules.proofs.Acceptance.{Passed, by-verdict, accepted-facts, taken-space}
 use Rattle.assurance.specs.Types.{Message, Record, State, Sent}
 use Rattle.assurance.specs.Run.{Input, run}
 use Rattle.assurance.specs.Observer.{readFrames}
@@ -45,7 +45,7 @@ module _ (table : List ℕ) (s : State) (j : List Record) (frame out : List ℕ)
       let new : w .logged ≡ loggedBy (Sent (length (w .sent))) frame after =
       facts .written ∙ ap (λ (z : List Message). map recordOf (readFrame frame ∷ z)) (sym back) in
       let old : length (take (s .logged) j) ≡ s .logged =
-      length-take-le (s .logged) j (omega (arith, p .long-journal, p .valid-state .few-logged)) in
+      length-take-le (s .logged) j (omega (arith, p .long-journal, taken-space s (readFrame frame) (p .message))) in
       let whole : length (take (s .logged) j ++ w .logged) ≡ w .state .logged =
       length-append (take (s .logged) j) (w .logged) ∙ omega (arith, facts .counted) in
       let reach : s .logged + length (w .logged) ≡ w .state .logged = omega (arith, facts .counted) in

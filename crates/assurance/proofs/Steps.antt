@@ -57,7 +57,7 @@ module _ (table : List ℕ) (s : State) (j : List Record) (o : Observer) (inv : 
       let further : reachedBy x ≡ reached s t + 1 = rw idle (omega arith) in
       changed-kept table s j o (hearAnswer o (Fe (nextMove s t))) t (Fe (nextMove s t)) x inv refl space
       (λ u h. update-other o t _ u h)
-      (in-fleet s t (λ y. isAsked (y .status)) refl (g .asks)) refl (valid-grant s d t known space table e)
+      (in-fleet s t (λ y. isAsked (y .status)) refl (g .asks)) refl (valid-grant s d t known table e)
       (record {
         seen = update-own o t _ ∙ ap (λ (y : Seen). seenWith (y .post) permit) (inv .each t known .seen);
         request = λ q. absurd (false≢true q);
@@ -100,7 +100,7 @@ module _ (table : List ℕ) (s : State) (j : List Record) (o : Observer) (inv : 
         let t = m .train .0 in
         let x = withStatus (trainOf s t) (Asked (s .logged)) in
         changed-kept table s j o (hearFrame o (Fa m)) t (Fa m) x inv refl space (λ u h. update-other o t _ u h)
-        place refl (valid-request s (inv .valid-state) t (n .known) space (n .short) idle)
+        place refl (valid-request s (inv .valid-state) t (n .known) (n .short) idle)
         (record {
           seen = update-own o t _ ∙ ap (λ (y : Seen). seenWith (y .post) asked) (inv .each t (n .known) .seen);
           request = λ q.
@@ -132,7 +132,7 @@ module _ (table : List ℕ) (s : State) (j : List Record) (o : Observer) (inv : 
         ) in
         let heard : hearFrame o (Am m) ≡ arrived = rw authorised in
         rw heard (changed-kept table s j o arrived t (Am m) x inv refl space (λ u h. update-other o t _ u h) place refl
-        (valid-arrival s (inv .valid-state) t (n .known) space (n .short) runs)
+        (valid-arrival s (inv .valid-state) t (n .known) (n .short) runs)
         (record {
           seen = update-own o t _ ∙ rw (n .to);
           request = λ q. absurd (false≢true q);
@@ -151,7 +151,7 @@ module _ (table : List ℕ) (s : State) (j : List Record) (o : Observer) (inv : 
       subst (λ (z : State). Invariant table z (set j (s .logged) (recordOf (Afe m))) o) same
       (changed-kept table s j o o t (Afe m) (trainOf s t) inv refl room (λ u h. refl)
       (in-fleet s t (λ y. isAsked (y .status)) refl asks) refl
-      (subst Valid (sym same) (valid-logged s (inv .valid-state) room))
+      (subst Valid (sym same) (valid-logged s (inv .valid-state)))
       (record {
         seen = v .seen;
         request = λ q.

@@ -16,7 +16,7 @@ use Rattle.rules.specs.declared.state.Train.{Train}
 use Rattle.rules.specs.State.{isFree, isAsked, isRunning, nextOf, trainOf, lineOf, located as recorded}
 use Rattle.rules.specs.State.{reached}
 use Rattle.rules.proofs.Trains.{route-of}
-use Rattle.rules.proofs.Validity.{one-holder, is-valid}
+use Rattle.rules.proofs.Validity.{one-holder}
 use Rattle.assurance.specs.Types.{Record, State}
 use Rattle.assurance.specs.Run.{Ran}
 use Rattle.assurance.specs.Observer.{nothing, authority, Seen, Observer, locatedBy, located, hasAuthority}
@@ -24,7 +24,7 @@ use Rattle.assurance.specs.Observer.{hasAsked, nextTold, reachedTold}
 use Rattle.assurance.specs.WholeList.{ShortOfEnd, Unhindered, Assured}
 use Rattle.assurance.proofs.Invariant.{claimOf, seenOf, Invariant}
 use Rattle.assurance.proofs.Standstill.{goes-on}
-use Rattle.assurance.proofs.Exchanged.{Settled}
+use Rattle.assurance.proofs.Exchanged.{Settled, valid-settled}
 use Rattle.assurance.proofs.Ran.{AllRequested}
 
 -- ---- a claim, by a status
@@ -147,5 +147,5 @@ module _ (table : List ℕ) (r : Ran) (o : Observer) (k : Settled table (r .stat
         authorities-given = λ t kt. inv .each t kt .authorities;
         authorities-seen = λ t kt.
             inv .each t kt .authorities ∙ sym (reached-told table _ _ o inv t kt);
-        valid-state = is-valid s (inv .valid-state);
+        valid-state = valid-settled k;
       }

@@ -2,25 +2,24 @@
 use mathlib.Core.Path.{_≡_, refl, sym, ap, subst, _∙_}
 use mathlib.Core.Logic.{_≢_}
 use mathlib.Core.List.{List}
-use Prim.Native.Nat.{ℕ, _+_, _≤_, _<_}
+use Prim.Native.Nat.{ℕ, _+_, _<_}
 use native.Mathlib.Omega.{arith}
 use lib.ListN.{length, length-set}
 use Rattle.common.specs.Check.{refusal, unlessRefused}
 use Rattle.common.proofs.Tests.{by-cases, by-equality}
-use Rattle.common.proofs.Below.{count-le}
 use Rattle.common.proofs.Check.{refuses}
 use Rattle.frame.specs.Frame.{readFrame}
-use Rattle.journal.specs.Journal.{journalLength, recordOf}
+use Rattle.journal.specs.Journal.{recordOf}
 use Rattle.rules.specs.declared.state.Train.{Train}
 use Rattle.rules.specs.declared.state.Status.the-variants.{Asked}
 use Rattle.rules.specs.State.{isAsked, trainOf, withStatus, arrivedNext, oneLogged}
 use Rattle.rules.specs.Granting.{Work, sends, grants, settled}
-use Rattle.rules.specs.Answer.{mostLogged, moveIn, frameChecks, taken, declined, accepted, answered, refused, answer}
+use Rattle.rules.specs.Answer.{moveIn, frameChecks, taken, declined, accepted, answered, refused, answer}
 use Rattle.rules.proofs.Trains.{changed, changed-other, changed-each}
 use Rattle.rules.proofs.Validity.{Valid}
 use Rattle.rules.proofs.Changes.{short-place, valid-request, valid-arrival}
 use Rattle.rules.proofs.Grants.{grants-keep, granted-place}
-use Rattle.rules.proofs.Settling.{Roomy, settled-settles}
+use Rattle.rules.proofs.Settling.{settled-settles}
 use Rattle.rules.proofs.Acceptance.{NextMove, Taken, request, arrival, frame-passed, by-verdict}
 use Rattle.assurance.specs.Types.{Line, Move, Message, Fa, Afe, Am, Record, State}
 use Rattle.assurance.specs.Unread.{Alike, SameAnswer, Unread, Kept, LeftAlone}
@@ -29,8 +28,8 @@ use Rattle.assurance.proofs.Alike.{SameWork, refusal-same, changed-alik
 -- ---- the places are not read
 
 -- the frame's own change of its train's record, and the granting
-module _ (table : List ℕ) (s u : State) (a : Alike s u) (d : Valid s) (b : Message) (x y : Train)
-    (same : y ≡ x) (v : Valid (taken s b x .state)) (space : s .logged + mostLogged ≤ journalLength)
+module _ (table : List ℕ) (s u : State) (a : Alike s u) (b : Message) (x y : Train)
+    (same : y ≡ x) (v : Valid (taken s b x .state))
     (known : moveIn b .train .0 < s .trains)
     (short : trainOf s (moveIn b .train .0) .at .0 ≢ trainOf s (moveIn b .train .0) .route .end .0) where
   taken-same : SameWork (taken s b x) (taken u b y)
@@ -42,20 +41,10 @@ module _ (table : List ℕ) (s u : State) (a : Alike s u) (d : Valid s) (b : Mes
     sent = refl;
   }
 
-  taken-roomy : Roomy (taken s b x)
-  taken-roomy = record {
-    valid-state = v;
-    room = omega (
-      arith,
-      count-le (s .trains) (λ t. isAsked (trainOf (taken s b x .state) t .status)),
-      d .line .few-trains,
-    );
-  }
-
   settled-same : SameWork (settled table (taken s b x)) (settled table (taken u b y))
   settled-same = subst
       (λ (n : ℕ). SameWork (settled table (taken s b x)) (grants table n (taken u b y))) (sym (a .trains))
-      (grants-same table (s .trains) (taken s b x) (taken u b y) taken-roomy taken-same)
+      (grants-same table (s .trains) (taken s b x) (taken u b y) v taken-same)
 
 -- "If the asker was not granted, its AFE comes last."
 declined-same : (m : Move) (w v : Work) → SameWork w v → m .train .0 < w .state .trains
@@ -77,16 +66,15 @@ accepted-same table s u a d b (request m n free idle) =
     let x = withStatus (trainOf s (m .train .0)) (Asked (s .logged)) in
     let y = withStatus (trainOf u (m .train .0)) (Asked (u .logged)) in
     let same : y ≡ x = rw (a .train (m .train .0) (n .known), a .logged) in
-    let v = valid-request s d (m .train .0) (n .known) (omega (arith, n .space)) (n .short) idle in
+    let v = valid-request s d (m .train .0) (n .known) (n .short) idle in
     let line = settled-settles table (taken s (Fa m) x) .line in
-    declined-same m _ _ (settled-same table s u a d (Fa m) x y same v (n .space) (n .known) (n .short))
+    declined-same m _ _ (settled-same table s u a (Fa m) x y same v (n .known) (n .short))
     (rw (ap (λ (l : Line). l .trains) line) (n .known))
 accepted-same table s u a d b (arrival m n runs) =
     let x = arrivedNext (trainOf s (m .train .0)) in
     let y = arrivedNext (trainOf u (m .train .0)) in
-    let v = valid-arrival s d (m .train .0) (n .known) (omega (arith, n .space)) (n .short) runs in
-    settled-same table s u a d (Am m) x y (ap arrivedNext (a .train (m .train .0) (n .known))) v (n .space) (n .known)
-    (n .short)
+    let v = valid-arrival s d (m .train .0) (n .known) (n .short) runs in
+    settled-same table s u a (Am m) x y (ap arrivedNext (a .train (m .train .0) (n .known))) v (n .known) (n .short)
 
 answered-same : (s u : State) (journal : List Record) (out : List ℕ) (w v : Work) → Alike s u → SameWork w v
     → SameAnswer (answered (s .logged) journal out w) (answered (u .logged) journal out v)

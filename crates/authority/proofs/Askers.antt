@@ -13,10 +13,10 @@ use Rattle.common.proofs.Below.{below-suc}
 use Rattle.journal.specs.Journal.{journalLength}
 use Rattle.authority.specs.Types.{TrainNo, Status, Free, Asked, Running, State, Asker, Of, Nobody}
 use Rattle.rules.specs.State.{isAsked, askedAs, trainOf}
-use Rattle.rules.specs.Valid.{valid}
+use Rattle.rules.specs.Valid.{consistent}
 use Rattle.rules.specs.Granting.{grantable}
 use Rattle.authority.specs.Asking.{lower, elder, NextAsked, nobody, next}
-use Rattle.rules.proofs.Validity.{valid-facts}
+use Rattle.rules.proofs.Validity.{consistent-facts}
 use Rattle.rules.proofs.Changes.{grantable-facts}
 use Rattle.rules.proofs.Oldest.{Nobody as NobodyLeft, Oldest}
 
@@ -84,12 +84,13 @@ pub record Next (s : State) (from : ℕ) (t : TrainNo) (k : ℕ) : Type 0 where
 pub next-found : (s : State) (from : ℕ) (t : TrainNo) (k : ℕ) → NextAsked s from (s .trains) (Of t k) → Next s from t k
 next-found s from t k (next _ _ known asks low least) = record { known = known; asks = asks; low = low; least = least }
 
-pub next-small : (s : State) (from : ℕ) (t : TrainNo) (k : ℕ) → valid s ≡ true → Next s from t k → k < journalLength
-next-small s from t k v n =
-    let d = valid-facts s v in
+pub next-small : (s : State) (from : ℕ) (t : TrainNo) (k : ℕ) → consistent s ≡ true → s .logged ≤ journalLength
+    → Next s from t k → k < journalLength
+next-small s from t k v few n =
+    let d = consistent-facts s v in
     let own : isAsked (trainOf s (t .0) .status) ≡ true = rw (n .asks) in
     let number : askedAs (trainOf s (t .0) .status) ≡ k = rw (n .asks) in
-    omega (arith, d .each (t .0) (n .known) .numbered own, d .few-logged)
+    omega (arith, d .each (t .0) (n .known) .numbered own)
 
 -- ---- a pass over the Asked trains
 
@@ -127,7 +128,7 @@ module _ (table : List ℕ) (s : State) (from : ℕ) (tried : Tried table s from
           (λ q. rw (n .asks) (n .least u l _ e q));
     }
 
-    pub tried-more : valid s ≡ true → grantable table s (t .0) ≡ false → Tried table s (k + 1)
+    pub tried-more : consistent s ≡ true → grantable table s (t .0) ≡ false → Tried table s (k + 1)
     tried-more v b = record {
       barred = λ u l m e q. by-order m from
           (λ z. tried .barred u l m e z)
@@ -136,5 +137,5 @@ module _ (table : List ℕ) (s : State) (from : ℕ) (tried : Tried table s from
           let own : isAsked (trainOf s (t .0) .status) ≡ true = rw (n .asks) in
           let same : askedAs (trainOf s u .status) ≡ askedAs (trainOf s (t .0) .status) =
           rw (e, n .asks) (omega (arith, n .least u l m e z)) in
-          rw (valid-facts s v .distinct u (t .0) l (n .known) asked own same) b);
+          rw (consistent-facts s v .distinct u (t .0) l (n .known) asked own same) b);
     }

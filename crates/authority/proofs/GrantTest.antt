@@ -20,20 +20,20 @@ use Rattle.completion.specs.Table.{bitOf}
 use Rattle.completion.proofs.Codes.{code-cong}
 use Rattle.authority.specs.Types.{Move, Train, State}
 use Rattle.rules.specs.State.{isAsked, isRunning, trainOf, located, reachedBy, reached, nextMove}
-use Rattle.rules.specs.Valid.{valid}
+use Rattle.rules.specs.Valid.{consistent}
 use Rattle.rules.specs.Granting.{grantable}
-use Rattle.rules.proofs.Validity.{valid-facts, start-below, post-below, next-post-below, asked-short}
+use Rattle.rules.proofs.Validity.{consistent-facts, start-below, post-below, next-post-below, asked-short}
 
 -- ---- the posts that train u has travelled, when train t has moved on
 
-module _ (s : State) (d : valid s ≡ true) where
+module _ (s : State) (d : consistent s ≡ true) where
   pub few-trains : s .trains ≤ 6
-  few-trains = valid-facts s d .line .few-trains
+  few-trains = consistent-facts s d .line .few-trains
 
   module _ (u : ℕ) (k : u < s .trains) (x : Train) (e : x ≡ trainOf s u) where
     pub short-way : distance (x .route .start .0) (x .at .0) < 8
     short-way =
-        let v = valid-facts s d in
+        let v = consistent-facts s d in
         rw e (omega (arith, start-below s v u k, post-below s v u k, v .line .few-posts))
 
     pub few-reached : reachedBy x < 10
@@ -71,16 +71,16 @@ module _ {n : ℕ} (h : ℕ) (e : n ≡ h) where
 -- ---- the test, in the code's order
 
 -- the move of an Asked train lies on the line
-module _ (s : State) (d : valid s ≡ true) (t : ℕ) (k : t < s .trains) (asks : isAsked (trainOf s t .status) ≡ true)
+module _ (s : State) (d : consistent s ≡ true) (t : ℕ) (k : t < s .trains) (asks : isAsked (trainOf s t .status) ≡ true)
     (m : Move) (next : m ≡ nextMove s t) where
   pub from-on-line : m .from .0 < 8
   from-on-line =
-      let v = valid-facts s d in
+      let v = consistent-facts s d in
       rw next (omega (arith, post-below s v t k, v .line .few-posts))
 
   pub to-on-line : m .to .0 < 8
   to-on-line =
-      let v = valid-facts s d in
+      let v = consistent-facts s d in
       rw next (omega (arith, next-post-below s v t k (asked-short s v t k asks), v .line .few-posts))
 
 module _ (table : List ℕ) (s : State) (t : ℕ) where

@@ -1,7 +1,7 @@
 -- The tests of a state in the order in which the code makes them: the first that fails decides, and else the last.
 -- Together they are those of `rules`.
 use mathlib.Core.Path.{_≡_, refl, sym, ap, _∙_}
-use mathlib.Core.Bool.{Bool, true, false, not, _&&_, and-false}
+use mathlib.Core.Bool.{Bool, true, false, not, _&&_, and-false, and-true}
 use Prim.Native.Nat.{ℕ, _≤_, _<_}
 use lib.Count.{ones}
 use lib.Dec.{leb}
@@ -20,7 +20,8 @@ use Rattle.authority.specs.Tests.{countsValid, onLine, recordValid, held
 use Rattle.rules.specs.State.{isFree, atEnd, trainOf, lineOf}
 use Rattle.rules.proofs.Trains.{route-of}
 use Rattle.authority.proofs.HolderSets.{posts-counted, sections-counted}
-use Rattle.rules.specs.Valid.{trainValid, sectionsValid, postsValid, numberBelow, sameNumber, numberValid, valid}
+use Rattle.rules.specs.Valid.{trainValid, sectionsValid, postsValid, numberBelow, sameNumber, numberValid}
+use Rattle.rules.specs.Valid.{consistent, valid}
 
 -- ---- one train's record
 
@@ -83,9 +84,9 @@ all-and n f g = same-test (allBelow n (λ k. f k && g k)) (allBelow n f && allBe
     let two = all-below n g (and-right (allBelow n f) (allBelow n g) e) in
     below-all n _ (λ k l. and-both (f k) (g k) (one k l) (two k l)))
 
--- a line of posts r, tracks k, trains t and routes o; trains v, sections s, posts p and a rest q, in two orders
+-- a line of posts r, tracks k, trains t and routes o; trains v, sections s, posts p and numbers q, in two orders
 in-turn : (r k t o v s p q : Bool)
-    → (r && (k && (t && o))) && (v && (s && (p && q))) ≡ (r && t) && ((o && v) && ((k && (p && s)) && q))
+    → r && (k && (t && o)) && v && s && p && q ≡ r && t && (o && v) && (k && (p && s)) && q
 in-turn false k t o v s p q = refl
 in-turn true k false o v s p q = rw (and-false k)
 in-turn true k true false v s p q = rw (and-false k)
@@ -119,16 +120,16 @@ module _ (s : State) where
   places = allBelow (s .posts) (placeValid s)
 
   abbrev numbers : Bool
-  numbers = leb (s .logged) journalLength && allBelow (s .trains) (numberValid s)
+  numbers = allBelow (s .trains) (numberValid s)
 
-  grouped : valid s ≡ counts && (trains && (places && numbers))
-  unfolding valid wellFormed
+  grouped : consistent s ≡ counts && trains && places && numbers
+  unfolding consistent wellFormed
   grouped =
       in-turn (postsInRange (lineOf s)) (tracksInRange (lineOf s)) (trainsInRange (lineOf s)) (routesOnLine (lineOf s))
       (allBelow (s .trains) (λ t. trainValid (trainOf s t))) (sectionsValid s) (postsValid s) numbers
       ∙ rw (trains-together, places-together)
 
-  pub counts-fail : counts ≡ false → false ≡ valid s
+  pub counts-fail : counts ≡ false → false ≡ consistent s
   counts-fail e = sym (grouped ∙ rw e)
 
   module _ (e : counts ≡ true) where
@@ -138,16 +139,23 @@ module _ (s : State) where
     pub six-trains : s .trains ≤ 6
     six-trains = high 1 6 (s .trains) (and-right (inRange 2 8 (s .posts)) _ e)
 
-    pub trains-fail : trains ≡ false → false ≡ valid s
+    pub trains-fail : trains ≡ false → false ≡ consistent s
     trains-fail f = sym (grouped ∙ rw (e, f))
 
     module _ (f : trains ≡ true) where
-      pub places-fail : places ≡ false → false ≡ valid s
+      pub places-fail : places ≡ false → false ≡ consistent s
       places-fail g = sym (grouped ∙ rw (e, f, g))
 
       module _ (g : places ≡ true) where
-        pub count-fails : journalLength < s .logged → false ≡ valid s
-        count-fails h = sym (grouped ∙ rw (e, f, g, lt-leb (s .logged) journalLength h))
+        pub numbers-decide : numbers ≡ consistent s
+        numbers-decide = sym (grouped ∙ rw (e, f, g))
 
-        pub numbers-decide : s .logged ≤ journalLength → allBelow (s .trains) (numberValid s) ≡ valid s
-        numbers-decide h = sym (grouped ∙ rw (e, f, g, le-leb (s .logged) journalLength h))
+  -- the count beside them
+
+  pub count-fails : journalLength < s .logged → false ≡ valid s
+  unfolding valid
+  count-fails h = sym (rw (lt-leb (s .logged) journalLength h) (and-false (consistent s)))
+
+  pub count-passes : s .logged ≤ journalLength → (b : Bool) → b ≡ consistent s → b ≡ valid s
+  unfolding valid
+  count-passes h b e = e ∙ sym (rw (le-leb (s .logged) journalLength h) (and-true (consistent s)))

@@ -8,11 +8,11 @@ use Rattle.common.proofs.Below.{count-le}
 use Rattle.journal.specs.Journal.{journalLength, emptyBatch, withRecord}
 use Rattle.authority.specs.Types.{Message, Fe, Record, Batch, State, Progress}
 use Rattle.rules.specs.State.{isAsked, trainOf, nextMove, oneLogged}
-use Rattle.rules.specs.Valid.{valid}
+use Rattle.rules.specs.Valid.{consistent}
 use Rattle.rules.specs.Granting.{Work, begun, sends, granted, settled}
 use Rattle.rules.specs.Answer.{mostLogged}
 use Rattle.authority.specs.Progress.{addRecords, batchOf, progressOf, progressWith, progressTo}
-use Rattle.rules.proofs.Validity.{valid-facts, is-valid}
+use Rattle.rules.proofs.Validity.{consistent-facts, is-consistent}
 use Rattle.rules.proofs.Oldest.{Nobody, Oldest}
 use Rattle.rules.proofs.Grants.{askedCount, granted-fewer, settled-stop, settled-next}
 use Rattle.rules.proofs.Settling.{Roomy, roomy-next}
@@ -36,16 +36,16 @@ pub record Working (table : List ℕ) (w : Work) (p : Progress) : Type 0 where
   pub ends : settled table work ≡ settled table w
 
 -- a frame is logged, and its own change made, which leaves a valid state with room for the answers
-pub begun-roomy : (s : State) (r : Record) → valid (oneLogged s) ≡ true → s .logged + mostLogged ≤ journalLength
+pub begun-roomy : (s : State) (r : Record) → consistent (oneLogged s) ≡ true → s .logged + mostLogged ≤ journalLength
     → Roomy (begun s r)
 begun-roomy s r v room =
-    let d = valid-facts (oneLogged s) v in
+    let d = consistent-facts (oneLogged s) v in
     record {
       valid-state = d;
       room = omega (arith, count-le (s .trains) (λ t. isAsked (trainOf s t .status)), d .line .few-trains);
     }
 
-pub working-start : (table : List ℕ) (s : State) (r : Record) (p : Progress) → valid (oneLogged s) ≡ true
+pub working-start : (table : List ℕ) (s : State) (r : Record) (p : Progress) → consistent (oneLogged s) ≡ true
     → s .logged + mostLogged ≤ journalLength
     → p ≡ progressWith s emptyBatch r → Working table (begun s r) p
 unfolding addRecords
@@ -55,8 +55,12 @@ module _ (table : List ℕ) (w : Work) (p : Progress) (g : Working table w p) wh
   state : g .work .state ≡ p .state
   state = ap (λ (q : Progress). q .state) (sym (g .held))
 
-  pub working-valid : valid (p .state) ≡ true
-  working-valid = subst (λ (s : State). valid s ≡ true) state (is-valid (g .work .state) (g .roomy .valid-state))
+  pub working-valid : consistent (p .state) ≡ true
+  working-valid =
+      subst (λ (s : State). consistent s ≡ true) state (is-consistent (g .work .state) (g .roomy .valid-state))
+
+  pub working-room : p .state .logged ≤ journalLength
+  working-room = rw (← state) (omega (arith, g .roomy .room))
 
   pub working-end : Nobody table (p .state) (p .state .trains) → p ≡ progressOf (settled table w)
   working-end h =

@@ -5,7 +5,7 @@ ghost use Prim.Native.Nat.{_<_};
 ghost use Rattle.common.specs.Tabulate.{padded};
 ghost use Rattle.completion.specs.Configuration.{moved};
 ghost use Rattle.rules.specs.State.{reached};
-ghost use Rattle.rules.specs.Valid.{valid};
+ghost use Rattle.rules.specs.Valid.{consistent};
 ghost use Rattle.rules.specs.Granting.{grantable};
 use crate::fleet::status_of;
 use crate::fleet::tracks_at;
@@ -23,7 +23,7 @@ use rules::State;
 // fewer trains than tracks, and the table has the bit for the placing in which every Running train,
 // and this one, has reached its next post."
 pub fn grantable(state: State, table: &[u8], t: TrainNo) -> bool
-    requires { ⌜ (valid state ≡ true) × (t .0 < state .trains) ⌝ }
+    requires { ⌜ (consistent state ≡ true) × (t .0 < state .trains) ⌝ }
     ensures { λ r. ⌜ r ≡ grantable (now (table .entry)) state (t .0) ⌝ }
 {
     if !is_asked(status_of(state, t)) {
@@ -42,7 +42,7 @@ pub fn grantable(state: State, table: &[u8], t: TrainNo) -> bool
 
 // The posts that each train has then travelled.
 fn reached_with(state: State, t: TrainNo) -> [u8; 6]
-    requires { ⌜ valid state ≡ true ⌝ }
+    requires { ⌜ consistent state ≡ true ⌝ }
     ensures { λ r. ⌜ r ≡ padded 6 (state .trains) (moved (reached state) (t .0)) 0 ⌝ }
 {
     let mut travelled = [0u8; 6];
@@ -56,7 +56,7 @@ fn reached_with(state: State, t: TrainNo) -> [u8; 6]
 
 // Train `u` has then travelled so many.
 fn travelled_by(state: State, t: TrainNo, u: TrainNo) -> u8
-    requires { ⌜ (valid state ≡ true) × (u .0 < state .trains) ⌝ }
+    requires { ⌜ (consistent state ≡ true) × (u .0 < state .trains) ⌝ }
     ensures { λ r. ⌜ r ≡ moved (reached state) (t .0) (u .0) ⌝ }
 {
     let posts = reached(train_of(state, u));

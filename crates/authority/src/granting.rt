@@ -5,7 +5,7 @@ ghost use mathlib.Core.Bool.{true};
 ghost use Prim.Native.Nat.{_+_, _≤_, _<_};
 ghost use Rattle.journal.specs.Journal.{journalLength, recordOf};
 ghost use Rattle.rules.specs.State.{oneLogged};
-ghost use Rattle.rules.specs.Valid.{valid};
+ghost use Rattle.rules.specs.Valid.{consistent};
 ghost use Rattle.rules.specs.Granting.{begun, settled};
 ghost use Rattle.rules.specs.Answer.{mostLogged};
 ghost use Rattle.authority.specs.Progress.{progressOf, progressWith, progressTo};
@@ -31,7 +31,7 @@ pub struct Progress {
 
 // The granting, after `message` is logged.
 pub fn settle(state: State, table: &[u8], message: Message) -> Progress
-    requires { ⌜ (valid (oneLogged state) ≡ true) × (state .logged + mostLogged ≤ journalLength) ⌝ }
+    requires { ⌜ (consistent (oneLogged state) ≡ true) × (state .logged + mostLogged ≤ journalLength) ⌝ }
     ensures { λ r. ⌜ r ≡ progressOf (settled (now (table .entry)) (begun state (recordOf message))) ⌝ }
 {
     let mut work = logged(state, journal::empty(), message);

@@ -5,7 +5,7 @@ ghost use Prim.Native.Nat.{_≤_, _<_};
 ghost use lib.Count.{ones};
 ghost use Rattle.common.specs.Below.{allBelow};
 ghost use Rattle.rules.specs.State.{trainOf};
-ghost use Rattle.rules.specs.Valid.{trainValid, numberBelow, sameNumber, numberValid, valid};
+ghost use Rattle.rules.specs.Valid.{trainValid, numberBelow, sameNumber, numberValid, consistent, valid};
 ghost use Rattle.authority.specs.Tests.{countsValid, onLine, recordValid, heldWithin, placeValid};
 use crate::fleet::status_of;
 use crate::fleet::train_of;
@@ -22,6 +22,16 @@ use rules::Train;
 pub fn valid(state: State) -> bool
     ensures { λ r. ⌜ r ≡ valid state ⌝ }
 {
+    if JOURNAL_LENGTH < state.logged as usize {
+        return false;
+    }
+    consistent(state)
+}
+
+// All but the range of the count.
+fn consistent(state: State) -> bool
+    ensures { λ r. ⌜ r ≡ consistent state ⌝ }
+{
     if !counts_valid(state.posts, state.trains) {
         return false;
     }
@@ -29,9 +39,6 @@ pub fn valid(state: State) -> bool
         return false;
     }
     if !places_valid(state) {
-        return false;
-    }
-    if JOURNAL_LENGTH < state.logged as usize {
         return false;
     }
     numbers_valid(state)

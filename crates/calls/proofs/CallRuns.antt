@@ -18,7 +18,7 @@ use Rattle.line.specs.Line.{wellFormed}
 use Rattle.line.specs.Book.{lineOf}
 use Rattle.frame.specs.Frame.{readFrame}
 use Rattle.rules.specs.Answer.{frameChecks, accepted, answered, refused, answer}
-use Rattle.rules.specs.Valid.{valid}
+use Rattle.rules.specs.Valid.{consistent, valid}
 use Rattle.rules.specs.Opening.{Opening, emptyState, openingWith, opening}
 use Rattle.assurance.specs.Run.{Input, Exchange, Ran, exchange, run}
 use Rattle.assurance.specs.Observer.{atOpening, observe}
@@ -185,7 +185,7 @@ refused-empty book table n =
 -- the empty state is not valid, so that every frame is refused by 1
 empty-strange : (table : List ℕ) (journal : List Record) (frame out : List ℕ)
     → answer emptyState table journal frame out .verdict ≡ RefusedBy strangeState
-unfolding answer unlessRefused refusal valid wellFormed
+unfolding answer unlessRefused refusal valid consistent wellFormed
 empty-strange table journal frame out = refl
 
 other-length : (b : List ℕ) → length b ≢ stateLength → encodesState b ≡ false

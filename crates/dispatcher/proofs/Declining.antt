@@ -6,10 +6,10 @@ use Prim.Native.Nat.{ℕ, _≤_, _<_}
 use native.Mathlib.Omega.{arith}
 use Rattle.journal.specs.Journal.{journalLength, recordOf}
 use Rattle.rules.specs.State.{isAsked, trainOf, withTrain, oneLogged}
-use Rattle.rules.specs.Valid.{valid}
+use Rattle.rules.specs.Valid.{consistent}
 use Rattle.rules.specs.Granting.{Work, begun, settled}
 use Rattle.rules.specs.Answer.{moveIn, taken, declined}
-use Rattle.rules.proofs.Validity.{valid-facts}
+use Rattle.rules.proofs.Validity.{consistent-facts}
 use Rattle.rules.proofs.Settling.{settled-roomy}
 use Rattle.authority.specs.Progress.{batchOf, progressOf, progressWith}
 use Rattle.authority.proofs.Working.{begun-roomy, sent-more}
@@ -18,10 +18,10 @@ use Rattle.dispatcher.specs.Step.{Ready}
 
 module _ (s : State) (a : Message) (x : Train) (r : Ready s a x) where
   pub ready-train : moveIn a .train .0 < 6
-  ready-train = omega (arith, r .0, valid-facts (taken s a x .state) (r .2) .line .few-trains)
+  ready-train = omega (arith, r .0, consistent-facts (taken s a x .state) (r .2) .line .few-trains)
 
   -- with another word for the new record, as the code has it
-  pub ready-take : (y : Train) → y ≡ x → valid (oneLogged (withTrain s (moveIn a .train .0) y)) ≡ true
+  pub ready-take : (y : Train) → y ≡ x → consistent (oneLogged (withTrain s (moveIn a .train .0) y)) ≡ true
   ready-take y e = rw e (r .2)
 
   pub taken-with : (table : List ℕ) (y : Train) → y ≡ x
@@ -31,8 +31,8 @@ module _ (s : State) (a : Message) (x : Train) (r : Ready s a x) where
 
   pub ready-logged : (table : List ℕ) → settled table (taken s a x) .state .logged ≤ journalLength
   ready-logged table =
-      settled-roomy table (taken s a x)
-      (begun-roomy (withTrain s (moveIn a .train .0) x) (recordOf a) (r .2) (r .1)) .valid-state .few-logged
+      let start = begun-roomy (withTrain s (moveIn a .train .0) x) (recordOf a) (r .2) (r .1) in
+      omega (arith, settled-roomy table (taken s a x) start .room)
 
 module _ (m : Move) (w : Work) where
   abbrev asks : State → Bool

@@ -17,10 +17,10 @@ use Rattle.rules.specs.Answer.{mostLogged, frameChecks, accepted, framesOf, Ans
 use Rattle.rules.specs.Answer.{answer}
 use Rattle.authority.specs.Progress.{batchOf, progressOf}
 use Rattle.dispatcher.specs.Step.{Acceptable, framesIn, answersIn, outcomeOf, Stepped}
-use Rattle.rules.proofs.Validity.{Valid, is-valid}
+use Rattle.rules.proofs.Validity.{Valid, is-consistent}
 use Rattle.rules.proofs.Changes.{valid-request, valid-arrival}
-use Rattle.rules.proofs.Acceptance.{Taken, request, arrival, Passed, frame-passed, Accepted, paired}
-use Rattle.rules.proofs.Acceptance.{accepted-facts}
+use Rattle.rules.proofs.Acceptance.{Taken, request, arrival, taken-space, Passed, frame-passed, Accepted}
+use Rattle.rules.proofs.Acceptance.{paired, accepted-facts}
 use Rattle.dispatcher.proofs.Batched.{Batched, batched, batched-appended, batched-answers, frames-logged}
 
 -- an FA or an AM that passes the checks can be taken
@@ -28,14 +28,12 @@ pub taken-acceptable : (s : State) → Valid s → (a : Message) → Taken s a �
 taken-acceptable s d a (request m n free idle) = (
   n .known,
   n .space,
-  is-valid _ (valid-request s d (m .train .0) (n .known) (omega (arith, n .space))
-      (n .short) idle),
+  is-consistent _ (valid-request s d (m .train .0) (n .known) (n .short) idle),
 )
 taken-acceptable s d a (arrival m n runs) = (
   n .known,
   n .space,
-  is-valid _ (valid-arrival s d (m .train .0) (n .known) (omega (arith, n .space))
-      (n .short) runs),
+  is-consistent _ (valid-arrival s d (m .train .0) (n .known) (n .short) runs),
 )
 
 module _ (s : State) (table : List ℕ) (count : ℕ) (frame out : List ℕ) (number : ℕ)
@@ -104,15 +102,11 @@ module _ (s : State) (table : List ℕ) (count : ℕ) (frame out : List ℕ) (nu
       written : (journal : List Record) → length journal ≡ count
           → replaced journal (s .logged) (work .logged) ≡ appended journal (s .logged) (p .batch)
       written journal long =
-          let space : s .logged + mostLogged ≤ journalLength = room (readFrame frame) (step-passed .message) in
+          let space : s .logged + mostLogged ≤ journalLength = taken-space s (readFrame frame) (step-passed .message) in
           let enough : journalLength ≤ count = rw length-replicate at (step-passed .long-journal) in
           sym (batched-appended (batchOf (work .logged)) (work .logged) kept journal (s .logged)
           (omega (arith, left .few)) (omega (arith, left .few)))
           ∙ ap (λ (q : Progress). appended journal (s .logged) (q .batch)) (sym held)
-        where
-          room : (a : Message) → Taken s a → s .logged + mostLogged ≤ journalLength
-          room a (request m n free idle) = n .space
-          room a (arrival m n runs) = n .space
 
       pub step-accepted : (k : ℕ) → k ≡ p .batch .n - 1 → (after : List ℕ)
           → after ≡ replaced out 0 (framesIn (answersIn (p .batch .items) (p .batch .n)))

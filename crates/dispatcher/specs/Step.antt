@@ -13,7 +13,7 @@ use Rattle.dispatcher.specs.Types.{Message, Fa, Fe, Afe, Am, Refused, Re
 use Rattle.dispatcher.specs.Types.{Sent, RefusedBy, Outcome}
 use Rattle.authority.specs.Progress.{batchOf}
 use Rattle.rules.specs.State.{trainOf, withStatus, arrivedNext}
-use Rattle.rules.specs.Valid.{valid}
+use Rattle.rules.specs.Valid.{consistent}
 use Rattle.rules.specs.Answer.{mostLogged, moveIn, moveChecks, frameChecks, taken, accepted, answerOf, answer}
 
 -- ---- a frame
@@ -29,7 +29,7 @@ messageRefusal s (Refused n) = n
 -- what the frame a and the new record x of its train must meet for the granting
 abbrev pub Ready : State → Message → Train → Type 0
 Ready s a x = (moveIn a .train .0 < s .trains) × (s .logged + mostLogged ≤ journalLength)
-    × (valid (taken s a x .state) ≡ true)
+    × (consistent (taken s a x .state) ≡ true)
 
 abbrev pub Acceptable : State → Message → Type 0
 Acceptable s (Fa m) = Ready s (Fa m) (withStatus (trainOf s (m .train .0)) (Asked (s .logged)))

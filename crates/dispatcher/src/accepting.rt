@@ -5,7 +5,7 @@ ghost use Prim.Native.Nat.{_+_, _≤_, _<_};
 ghost use Rattle.journal.specs.Journal.{journalLength, recordOf};
 ghost use Rattle.dispatcher.specs.Types.{Fa, Am, Asked};
 ghost use Rattle.rules.specs.State.{trainOf, withStatus, arrivedNext, withTrain, oneLogged};
-ghost use Rattle.rules.specs.Valid.{valid};
+ghost use Rattle.rules.specs.Valid.{consistent};
 ghost use Rattle.rules.specs.Granting.{Work, begun, settled};
 ghost use Rattle.rules.specs.Answer.{mostLogged, accepted, declined, untouched};
 ghost use Rattle.authority.specs.Progress.{progressOf};
@@ -63,7 +63,7 @@ fn arrival(state: State, table: &[u8], m: Move) -> Progress
 // The frame is logged with the new record of train `t`, and then the granting goes on.
 fn take(state: State, table: &[u8], message: Message, t: TrainNo, train: Train) -> Progress
     requires { ⌜ (t .0 < 6) × (state .logged + mostLogged ≤ journalLength) ⌝ }
-    requires { ⌜ valid (oneLogged (withTrain state (t .0) train)) ≡ true ⌝ }
+    requires { ⌜ consistent (oneLogged (withTrain state (t .0) train)) ≡ true ⌝ }
     ensures { λ r. ⌜ r ≡ progressOf (settled (now (table .entry))
         (begun (withTrain state (t .0) train) (recordOf message))) ⌝ }
 {

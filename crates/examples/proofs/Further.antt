@@ -7,7 +7,7 @@ use Rattle.line.specs.Line.{wellFormed}
 use Rattle.line.specs.Route.{between, nextPost}
 use Rattle.frame.specs.Frame.{readFrame, bytesOf}
 use Rattle.journal.specs.Journal.{recordOf}
-use Rattle.rules.specs.Valid.{valid}
+use Rattle.rules.specs.Valid.{consistent, valid}
 use Rattle.rules.specs.Answer.{answer}
 use Rattle.examples.specs.Reading.{opened, ranWith, answersIn, seenIn}
 use Rattle.examples.specs.Further.{OlderThen, Stores, FullPost, Parked, SixTrains, BothHome, Precedence}
@@ -37,7 +37,7 @@ unfolding bytesOf opened ranWith seenIn
 both-home = (refl, refl)
 
 pub precedence : Precedence
-unfolding bytesOf opened ranWith answer valid wellFormed between nextPost countBelow allBelow valuesFrom
+unfolding bytesOf opened ranWith answer valid consistent wellFormed between nextPost countBelow allBelow valuesFrom
     refusal unlessRefused readFrame
 precedence = record {
   fresh = refl;

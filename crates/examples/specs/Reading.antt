@@ -17,7 +17,7 @@ use Rattle.frame.specs.Frame.{moveOf, messageOf, readFrame, bytesOf}
 use Rattle.journal.specs.Journal.{journalLength, blank, recordOf}
 use Rattle.completion.specs.Configuration.{codeBelow, within, fits, arrived, feasible}
 use Rattle.completion.specs.Table.{tableLength, movesOn, completableBy, completableIn, tableOf}
-use Rattle.rules.specs.Valid.{valid}
+use Rattle.rules.specs.Valid.{consistent, valid}
 use Rattle.rules.specs.Granting.{grantable, oldest, grants}
 use Rattle.rules.specs.Answer.{outLength, accepted, framesOf, answer}
 use Rattle.rules.specs.Opening.{Opening, openingWith, opening}
@@ -56,7 +56,7 @@ refusalOf book = opened book .number
 -- inputs put to a box in the state s, with a table and a journal
 unfoldable pub ranWith : State → List ℕ → List Record → List Input → Ran
 unfolding run answer refusal unlessRefused replaced accepted framesOf recordOf readFrame messageOf bytesOf valid
-    wellFormed between nextPost countBelow allBelow grantable oldest grants update codeBelow
+    consistent wellFormed between nextPost countBelow allBelow grantable oldest grants update codeBelow
 ranWith s table journal inputs = run table s journal inputs
 
 -- a frame with a blank out buffer of 42 bytes

@@ -21,15 +21,16 @@ use Rattle.completion.specs.Table.{tableLength}
 use Rattle.rules.specs.Types.{Line, Move, Message, Fa, Fe, Afe, Am, Refused, Record, Asked, Train, State}
 use Rattle.rules.specs.Types.{RefusedBy}
 use Rattle.rules.specs.State.{isAsked, isRunning, nextOf, trainOf, lineOf, withStatus, arrivedNext, oneLogged}
+use Rattle.rules.specs.Valid.{valid}
 use Rattle.rules.specs.Granting.{grantable, Work, sends, settled}
 use Rattle.rules.specs.Answer.{outLength, mostLogged, isFa, isAm, moveIn, frameChecks, taken, declined, accepted}
 use Rattle.rules.specs.Answer.{verdictNumber, verdictFrames, Answer, answered, refused, answer}
 use Rattle.rules.proofs.Trains.{changed-line}
-use Rattle.rules.proofs.Validity.{Valid, valid-facts}
+use Rattle.rules.proofs.Validity.{Valid, valid-facts, is-valid}
 use Rattle.rules.proofs.Changes.{valid-logged, valid-request, valid-arrival}
 use Rattle.rules.proofs.Oldest.{Nobody}
 use Rattle.rules.proofs.Grants.{askedCount, settled-end}
-use Rattle.rules.proofs.Settling.{Settles, Roomy, settled-settles, settled-roomy}
+use Rattle.rules.proofs.Settling.{Settles, settled-settles, settled-valid}
 
 -- ---- the checks
 
@@ -46,6 +47,11 @@ pub data Taken (s : State) : Message → Type 0 where
   request : (m : Move) → NextMove s m → isAsked (trainOf s (m .train .0) .status) ≡ false
       → isRunning (trainOf s (m .train .0) .status) ≡ false → Taken s (Fa m)
   arrival : (m : Move) → NextMove s m → isRunning (trainOf s (m .train .0) .status) ≡ true → Taken s (Am m)
+
+-- a frame is taken only where the journal has room
+pub taken-space : (s : State) (a : Message) → Taken s a → s .logged + mostLogged ≤ journalLength
+taken-space s a (request m n free idle) = n .space
+taken-space s a (arrival m n runs) = n .space
 
 pub record Passed (s : State) (table : List ℕ) (journal : List Record) (frame out : List ℕ) : Type 0 where
   pub valid-state : Valid s
@@ -146,14 +152,10 @@ paired {a = a} {w = w} k = ap length (k .written) ∙ omega (arith, length-map (
 
 module _ (table : List ℕ) (s : State) (d : Valid s) (a : Message) where
   -- the granting, after the frame's own change of its train's record
-  module _ (x : Train) (same : x .route ≡ trainOf s (moveIn a .train .0) .route) (v : Valid (taken s a x .state))
-      (space : s .logged + mostLogged ≤ journalLength) where
+  module _ (x : Train) (same : x .route ≡ trainOf s (moveIn a .train .0) .route) (v : Valid (taken s a x .state)) where
     few-asked : askedCount (taken s a x .state) ≤ 6
     few-asked =
         omega (arith, count-le (s .trains) (λ t. isAsked (trainOf (taken s a x .state) t .status)), d .line .few-trains)
-
-    roomy : Roomy (settled table (taken s a x))
-    roomy = settled-roomy table (taken s a x) (record { valid-state = v; room = omega (arith, few-asked) })
 
     settles : Settles (taken s a x) (settled table (taken s a x))
     settles = settled-settles table (taken s a x)
@@ -163,7 +165,7 @@ module _ (table : List ℕ) (s : State) (d : Valid s) (a : Message) where
 
     settled-accepted : Accepted table s a (settled table (taken s a x))
     settled-accepted = record {
-      valid-state = roomy .valid-state;
+      valid-state = settled-valid table (taken s a x) v;
       line = settles .line ∙ changed-line s (moveIn a .train .0) x (s .logged + 1) same;
       size = settles .size ∙ length-set (s .fleet) (moveIn a .train .0) x;
       nobody = settled-end table (taken s a x);
@@ -185,9 +187,9 @@ unfolding IsMessage
 declining m = tt
 
 -- "If the asker was not granted, its AFE comes last."
-declined-accepted : (table : List ℕ) (s : State) (a : Message) (m : Move) (w : Work) → m .train .0 < s .trains → Roomy w
+declined-accepted : (table : List ℕ) (s : State) (a : Message) (m : Move) (w : Work) → m .train .0 < s .trains
     → length (w .logged) + askedCount (w .state) ≤ mostLogged → Accepted table s a w → Accepted table s a (declined m w)
-declined-accepted table s a m w known r paid k =
+declined-accepted table s a m w known paid k =
     by-cases (isAsked (trainOf (w .state) (m .train .0) .status)) (λ e. rw e (more e)) (λ e. rw e k)
   where
     more : isAsked (trainOf (w .state) (m .train .0) .status) ≡ true
@@ -197,7 +199,7 @@ declined-accepted table s a m w known r paid k =
         let one = count-some (w .state .trains) (λ t. isAsked (trainOf (w .state) t .status)) (m .train .0) here e in
         let long = length-append (w .logged) (recordOf (Afe m) ∷ []) in
         record {
-          valid-state = valid-logged (w .state) (k .valid-state) (omega (arith, r .room));
+          valid-state = valid-logged (w .state) (k .valid-state);
           line = k .line;
           size = k .size;
           nobody = record { barred = λ u ku. logged-grantable table (w .state) u ∙ k .nobody .barred u ku };
@@ -216,11 +218,16 @@ pub accepted-facts : (table : List ℕ) (s : State) → Valid s → (a : Message
 unfolding accepted
 accepted-facts table s d a (request m n free idle) =
     let x = withStatus (trainOf s (m .train .0)) (Asked (s .logged)) in
-    let v = valid-request s d (m .train .0) (n .known) (omega (arith, n .space)) (n .short) idle in
-    declined-accepted table s (Fa m) m _ (n .known) (roomy table s d (Fa m) x refl v (n .space))
-    (paid table s d (Fa m) x refl v (n .space))
-    (settled-accepted table s d (Fa m) x refl v (n .space))
+    let v = valid-request s d (m .train .0) (n .known) (n .short) idle in
+    declined-accepted table s (Fa m) m _ (n .known) (paid table s d (Fa m) x refl v)
+    (settled-accepted table s d (Fa m) x refl v)
 accepted-facts table s d a (arrival m n runs) =
     let x = arrivedNext (trainOf s (m .train .0)) in
-    settled-accepted table s d (Am m) x refl
-    (valid-arrival s d (m .train .0) (n .known) (omega (arith, n .space)) (n .short) runs) (n .space)
+    settled-accepted table s d (Am m) x refl (valid-arrival s d (m .train .0) (n .known) (n .short) runs)
+
+-- the state is valid, its count included
+pub accepted-valid : (table : List ℕ) (s : State) → Valid s → (a : Message) → Taken s a
+    → valid (accepted table s a .state) ≡ true
+accepted-valid table s d a t =
+    let k = accepted-facts table s d a t in
+    is-valid _ (k .valid-state) (omega (arith, k .counted, k .few, taken-space s a t))

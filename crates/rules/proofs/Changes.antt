@@ -18,7 +18,6 @@ use Rattle.line.specs.Line.{tracksAt}
 use Rattle.line.specs.Holding.{holdsPost, holdsSection, postHolders, sectionHolders}
 use Rattle.line.proofs.Travel.{next-between}
 use Rattle.line.proofs.WellFormed.{WellFormed}
-use Rattle.journal.specs.Journal.{journalLength}
 use Rattle.completion.specs.Configuration.{moved, codeBelow}
 use Rattle.completion.specs.Table.{bitOf}
 use Rattle.rules.specs.Types.{Asked, Running, Train, State}
@@ -36,7 +35,6 @@ pub record Change (s : State) (t : ℕ) (x : Train) (n : ℕ) : Type 0 where
   pub place : t < length (s .fleet)
   pub route : x .route ≡ trainOf s t .route
   pub more : s .logged ≤ n
-  pub few : n ≤ journalLength
   pub train : TrainValid x n
   pub section : (i : ℕ) → i < s .posts
       → sectionHolders (s .trains) (located s) i + ofBool (holdsSection (locatedAt x) i)
@@ -75,7 +73,6 @@ module _ (s : State) (d : Valid s) (t : ℕ) (known : t < s .trains) (x : Train)
     posts = λ p k.
         let e = changed-count s t x n (λ y. holdsPost (locatedAt y) p) (s .trains) known (c .place) in
         omega (arith, c .post p k);
-    few-logged = c .few;
     distinct = distinct-change s t x n (c .place) (c .number) (d .distinct);
   }
 
@@ -104,8 +101,8 @@ module _ (table : List ℕ) (s : State) (t : ℕ) where
 -- ---- its uses
 
 -- one record more, and no train changed
-pub valid-logged : (s : State) → Valid s → s .logged < journalLength → Valid (oneLogged s)
-valid-logged s d room = record {
+pub valid-logged : (s : State) → Valid s → Valid (oneLogged s)
+valid-logged s d = record {
   line = d .line;
   each = λ u k.
       let v = d .each u k in record {
@@ -115,7 +112,6 @@ valid-logged s d room = record {
       };
   sections = d .sections;
   posts = d .posts;
-  few-logged = omega arith;
   distinct = d .distinct;
 }
 
@@ -129,7 +125,7 @@ pub short-place : (s : State) (t : ℕ) → trainOf s t .at .0 ≢ trainOf s t .
 short-place s t short =
     in-fleet s t (λ x. not (atEnd x)) refl (rw (ne-eqb (trainOf s t .at .0) (trainOf s t .route .end .0) short))
 
-module _ (s : State) (d : Valid s) (t : ℕ) (known : t < s .trains) (room : s .logged < journalLength) where
+module _ (s : State) (d : Valid s) (t : ℕ) (known : t < s .trains) where
   -- "the train becomes Asked"
   pub valid-request : trainOf s t .at .0 ≢ trainOf s t .route .end .0 → isRunning (trainOf s t .status) ≡ false
       → Valid (oneLogged (withTrain s t (withStatus (trainOf s t) (Asked (s .logged)))))
@@ -138,7 +134,6 @@ module _ (s : State) (d : Valid s) (t : ℕ) (known : t < s .trains) (room : s .
         place = short-place s t short;
         route = refl;
         more = omega arith;
-        few = omega arith;
         train = record { inside = d .each t known .inside; busy = λ q. short; numbered = λ q. omega arith };
         section = λ i k. omega (arith, d .sections i k);
         post = λ p k. rw idle (omega (arith, d .posts p k));
@@ -152,7 +147,6 @@ module _ (s : State) (d : Valid s) (t : ℕ) (known : t < s .trains) (room : s .
     place = short-place s t short;
     route = refl;
     more = omega arith;
-    few = omega arith;
     train = record {
       inside = next-between _ _ _ (d .each t known .inside) short;
       busy = λ q. absurd (true≢false q);
@@ -172,7 +166,6 @@ module _ (s : State) (d : Valid s) (t : ℕ) (known : t < s .trains) (room : s .
     place = in-fleet s t (λ x. isAsked (x .status)) refl (g .asks);
     route = refl;
     more = omega arith;
-    few = omega arith;
     train = record {
       inside = d .each t known .inside;
       busy = λ q. asked-short s d t known (g .asks);

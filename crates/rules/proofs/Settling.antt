@@ -86,19 +86,22 @@ settled-settles table w = grants-keep table (Settles w) (settles-next table w) (
 
 -- ---- validity
 
+pub granted-valid : (table : List ℕ) (w : Work) (t : ℕ) → Valid (w .state) → Turn table w t → Valid (granted w t .state)
+granted-valid table w t d f = valid-grant (w .state) d t (f .known) table (f .can)
+
+pub settled-valid : (table : List ℕ) (w : Work) → Valid (w .state) → Valid (settled table w .state)
+settled-valid table w = grants-keep table (λ v. Valid (v .state)) (granted-valid table) (w .state .trains) w
+
 -- a valid state, and room for a record of each Asked train
 pub record Roomy (w : Work) : Type 0 where
   pub valid-state : Valid (w .state)
   pub room : w .state .logged + askedCount (w .state) ≤ journalLength
 
 pub roomy-next : (table : List ℕ) (w : Work) (t : ℕ) → Roomy w → Turn table w t → Roomy (granted w t)
-roomy-next table w t k f =
-    let less = granted-fewer table w t f in
-    let room = k .room in
-    record {
-      valid-state = valid-grant (w .state) (k .valid-state) t (f .known) (omega arith) table (f .can);
-      room = omega arith;
-    }
+roomy-next table w t k f = record {
+  valid-state = granted-valid table w t (k .valid-state) f;
+  room = omega (arith, k .room, granted-fewer table w t f);
+}
 
 pub settled-roomy : (table : List ℕ) (w : Work) → Roomy w → Roomy (settled table w)
 settled-roomy table w = grants-keep table Roomy (roomy-next table) (w .state .trains) w

@@ -14,13 +14,13 @@ use Rattle.frame.proofs.RoundTrip.{round-trip}
 use Rattle.journal.specs.Journal.{journalLength}
 use Rattle.completion.specs.Table.{tableLength}
 use Rattle.rules.specs.Types.{Message, Fa, Am, Record, State}
+use Rattle.rules.specs.Valid.{valid}
 use Rattle.rules.specs.Answer.{outLength, isFa, isAm, moveIn, frameChecks}
 use Rattle.rules.specs.Refusals.{Handed, NamesNext}
-use Rattle.rules.proofs.Validity.{Valid, is-valid}
 use Rattle.rules.proofs.Acceptance.{NextMove, Taken, request, arrival}
 use Rattle.rules.proofs.Refusals.{is-message, checks, after-posts}
 
-module _ (s : State) (table : List ℕ) (journal : List Record) (out : List ℕ) (d : Valid s)
+module _ (s : State) (table : List ℕ) (journal : List Record) (out : List ℕ) (d : valid s ≡ true)
     (table-long : tableLength ≤ length table) (journal-long : journalLength ≤ length journal)
     (out-long : outLength ≤ length out) where
   abbrev handed : Message → Handed
@@ -30,7 +30,7 @@ module _ (s : State) (table : List ℕ) (journal : List Record) (out : List ℕ)
   onward a k q = record {
     reads = record {
       prepared = record {
-        valid-state = is-valid s d;
+        valid-state = d;
         long-table = table-long;
         long-journal = journal-long;
         long-out = out-long;

@@ -1,23 +1,25 @@
--- Valid states as facts, both ways: `Valid s` holds exactly where the test `valid s` passes.
+-- Valid states as facts, both ways: `Valid s` holds exactly where the test `consistent s` passes. It says all that
+-- `valid s` asks but the range of the count, which no change of a record can break.
 use mathlib.Core.Path.{_≡_, refl, sym}
 use mathlib.Core.Logic.{_≢_, ⊎-elim}
 use mathlib.Core.Bool.{Bool, true, false, not, cond, _||_, false≢true, true≢false}
 use Prim.Native.Nat.{ℕ, _≤_, _<_}
 use native.Mathlib.Omega.{arith}
 use lib.Dec.{leb, eqb, ltb}
+use lib.ListN.{getD}
 use borrow.Author.Tests.{ltb-true, ltb-false, leb-true, eqb-true, eqb-false, lt-ltb, le-leb, ne-eqb, not-true}
 use Rattle.common.specs.Below.{allBelow}
 use Rattle.common.proofs.Tests.{by-cases, by-equality, and-left, and-right, and-both, or-left, or-right}
 use Rattle.common.proofs.Below.{all-below, below-all, one-counted}
 use Rattle.line.specs.Route.{between, sectionOf}
-use Rattle.line.specs.Line.{wellFormed, tracksAt}
+use Rattle.line.specs.Line.{tracksAt}
 use Rattle.line.specs.Holding.{at, moving, holdsSection, postHolders, sectionHolders}
 use Rattle.line.proofs.Travel.{Between, between-of, of-between, next-below}
 use Rattle.line.proofs.WellFormed.{WellFormed, well-formed, is-well-formed}
-use Rattle.journal.specs.Journal.{journalLength}
 use Rattle.rules.specs.Types.{Status, Free, Asked, Running, Train, State}
 use Rattle.rules.specs.State.{isFree, isAsked, isRunning, askedAs, atEnd, nextOf, trainOf, lineOf, located}
-use Rattle.rules.specs.Valid.{trainValid, sectionsValid, postsValid, numberBelow, sameNumber, numberValid, valid}
+use Rattle.rules.specs.Valid.{trainValid, sectionsValid, postsValid, numberBelow, sameNumber, numberValid}
+use Rattle.rules.specs.Valid.{consistent, mostCounted, valid}
 use Rattle.rules.proofs.Trains.{asked-busy, route-of}
 
 -- a train's record x, where n records are logged
@@ -37,7 +39,6 @@ pub record Valid (s : State) : Type 0 where
   pub each : (t : ℕ) → t < s .trains → TrainValid (trainOf s t) (s .logged)
   pub sections : (i : ℕ) → i < s .posts → sectionHolders (s .trains) (located s) i ≤ 1
   pub posts : (p : ℕ) → p < s .posts → postHolders (s .trains) (located s) p ≤ tracksAt (lineOf s) p
-  pub few-logged : s .logged ≤ journalLength
   pub distinct : Distinct s
 
 -- ---- the tests of one train
@@ -105,40 +106,56 @@ distinct-numbers s h t u kt ku p q e = by-equality t u (λ z. z) (λ z. absurd (
 -- ---- the state
 
 module _ (s : State) where
-  pub valid-facts : valid s ≡ true → Valid s
-  unfolding valid
-  valid-facts e =
-      let r₁ = and-right (wellFormed (lineOf s)) _ e in
-      let trains = all-below (s .trains) _ (and-left (allBelow (s .trains) (λ t. trainValid (trainOf s t))) _ r₁) in
-      let r₂ = and-right (allBelow (s .trains) (λ t. trainValid (trainOf s t))) _ r₁ in
-      let r₃ = and-right (sectionsValid s) _ r₂ in
-      let r₄ = and-right (postsValid s) _ r₃ in
-      let numbers = all-below (s .trains) _ (and-right (leb (s .logged) journalLength) _ r₄) in
+  pub consistent-facts : consistent s ≡ true → Valid s
+  unfolding consistent
+  consistent-facts e =
+      let trains : allBelow (s .trains) (λ t. trainValid (trainOf s t)) ≡ true = search (and-left, and-right) in
+      let sections : sectionsValid s ≡ true = search (and-left, and-right) in
+      let posts : postsValid s ≡ true = search (and-left, and-right) in
+      let numbers = all-below (s .trains) (numberValid s) (search (and-left, and-right)) in
       record {
-        line = well-formed (lineOf s) (and-left (wellFormed (lineOf s)) _ e);
+        line = well-formed (lineOf s) (search (and-left, and-right));
         each = λ t k.
-            tested-train (trainOf s t) (s .logged) (trains t k)
+            tested-train (trainOf s t) (s .logged) (all-below (s .trains) _ trains t k)
             (and-left (numberBelow (trainOf s t .status) (s .logged)) _ (numbers t k));
-        sections = λ i k. leb-true _ _ (all-below (s .posts) _ (and-left (sectionsValid s) _ r₂) i k);
-        posts = λ p k. leb-true _ _ (all-below (s .posts) _ (and-left (postsValid s) _ r₃) p k);
-        few-logged = leb-true _ _ (and-left (leb (s .logged) journalLength) _ r₄);
+        sections = λ i k. leb-true _ _ (all-below (s .posts) _ sections i k);
+        posts = λ p k. leb-true _ _ (all-below (s .posts) _ posts p k);
         distinct = distinct-numbers s numbers;
       }
 
-  pub is-valid : Valid s → valid s ≡ true
-  unfolding valid
-  is-valid d =
+  pub is-consistent : Valid s → consistent s ≡ true
+  unfolding consistent
+  is-consistent d =
       let each : (t : ℕ) → t < s .trains
       → (trainValid (trainOf s t) ≡ true) × (numberBelow (trainOf s t .status) (s .logged) ≡ true) =
       λ t k. train-tested (trainOf s t) (s .logged) (d .each t k) in
-      and-both _ _ (is-well-formed (lineOf s) (d .line))
-      (and-both _ _ (below-all (s .trains) _ (λ t k. each t k .0))
-      (and-both _ _ (below-all (s .posts) _ (λ i k. le-leb _ _ (d .sections i k)))
-      (and-both _ _ (below-all (s .posts) _ (λ p k. le-leb _ _ (d .posts p k)))
-      (and-both _ _ (le-leb _ _ (d .few-logged))
-      (below-all (s .trains) _ (λ t k. and-both _ _ (each t k .1) (below-all t _ (λ u l.
+      let numbers : (t : ℕ) → t < s .trains → numberValid s t ≡ true =
+      λ t k. and-both _ _ (each t k .1) (below-all t _ (λ u l.
       different (trainOf s t .status) (trainOf s u .status)
-      (λ p q z. let y = d .distinct t u k (omega arith) p q z in omega arith)))))))))
+      (λ p q z. let y = d .distinct t u k (omega arith) p q z in omega arith))) in
+      rw (
+        is-well-formed (lineOf s) (d .line),
+        below-all (s .trains) (λ t. trainValid (trainOf s t)) (λ t k. each t k .0),
+        below-all (s .posts) (λ i. leb (sectionHolders (s .trains) (located s) i) 1)
+            (λ i k. le-leb _ _ (d .sections i k)),
+        below-all (s .posts) (λ p. leb (postHolders (s .trains) (located s) p) (getD (s .tracks) p 0))
+            (λ p k. le-leb _ _ (d .posts p k)),
+        below-all (s .trains) (numberValid s) numbers,
+      )
+
+  -- a valid state is a consistent one whose count is in its range
+
+  pub valid-facts : valid s ≡ true → Valid s
+  unfolding valid
+  valid-facts e = consistent-facts (and-left (consistent s) _ e)
+
+  pub few-logged : valid s ≡ true → s .logged ≤ mostCounted
+  unfolding valid
+  few-logged e = leb-true _ _ (and-right (consistent s) _ e)
+
+  pub is-valid : Valid s → s .logged ≤ mostCounted → valid s ≡ true
+  unfolding valid
+  is-valid d few = and-both _ _ (is-consistent d) (le-leb _ _ few)
 
 -- ---- what a valid state says of its trains
 

@@ -42,12 +42,18 @@ numberValid s t =
     && allBelow t (λ u. not (sameNumber (trainOf s t .status) (trainOf s u .status)))
 
 -- "A state is sound if P, T, the track counts and any other number kept are in their ranges and, for trains below T,
--- starts and ends are below P", then as above, and "the journal count is at most 176"
-unfoldable pub valid : State → Bool
-valid s =
+-- starts and ends are below P", then as above: all that is asked of a state but the range of its count
+unfoldable pub consistent : State → Bool
+consistent s =
     wellFormed (lineOf s)
-    && (allBelow (s .trains) (λ t. trainValid (trainOf s t))
-    && (sectionsValid s
-    && (postsValid s
-    && (leb (s .logged) journalLength
-    && allBelow (s .trains) (numberValid s)))))
+    && allBelow (s .trains) (λ t. trainValid (trainOf s t))
+    && sectionsValid s
+    && postsValid s
+    && allBelow (s .trains) (numberValid s)
+
+-- "the journal count is at most 176"
+abbrev pub mostCounted : ℕ
+mostCounted = journalLength
+
+unfoldable pub valid : State → Bool
+valid s = consistent s && leb (s .logged) mostCounted

@@ -3,24 +3,23 @@
 use mathlib.Core.Path.{_≡_, refl, sym, ap, subst, _∙_}
 use mathlib.Core.Bool.{true}
 use mathlib.Core.List.{List}
-use Prim.Native.Nat.{ℕ, _-_, _<_}
+use Prim.Native.Nat.{ℕ, _-_, _≤_, _<_}
 use native.Mathlib.Omega.{arith}
 use denote.Ref.{now}
 use borrow.Author.Needs.{needs}
-use Rattle.journal.specs.Journal.{recordOf}
+use Rattle.journal.specs.Journal.{journalLength, recordOf}
 use Rattle.authority.specs.Types.{TrainNo, Asker, Batch, State, Progress}
-use Rattle.rules.specs.Valid.{valid}
+use Rattle.rules.specs.Valid.{consistent}
 use Rattle.rules.specs.Granting.{Work, begun}
 use Rattle.authority.specs.Asking.{NextAsked}
 use Rattle.authority.specs.Progress.{progressWith}
-use Rattle.rules.proofs.Validity.{valid-facts}
 use Rattle.rules.proofs.Oldest.{Oldest}
 use Rattle.rules.proofs.Grants.{askedCount}
 use Rattle.authority.proofs.GrantTest.{few-trains}
 use Rattle.authority.proofs.Askers.{Next, Tried, next-found, next-small, tried-none, tried-all, first-oldest}
 use Rattle.authority.proofs.Askers.{tried-more}
-use Rattle.authority.proofs.Working.{Working, working-start, working-valid, working-end, working-next}
-use Rattle.authority.proofs.Working.{working-less}
+use Rattle.authority.proofs.Working.{Working, working-start, working-valid, working-room, working-end}
+use Rattle.authority.proofs.Working.{working-next, working-less}
 use Rattle.authority.proofs.granting.settle.Statement.{statement}
 use Rattle.authority.proofs.granting.settle.Tie as tie
 
@@ -77,8 +76,11 @@ module _ (c : tie.At-loop Inv-loop μ-loop Inv-again μ-again) where
   on : Working table first (c .loop .work)
   on = kept first starts
 
-  valid-state : valid state ≡ true
+  valid-state : consistent state ≡ true
   valid-state = working-valid table first _ on
+
+  room-left : state .logged ≤ journalLength
+  room-left = working-room table first _ on
 
 next-asked-requires : tie.Need-next-asked-requires Inv-loop μ-loop Inv-again μ-again
 next-asked-requires c κs = few-trains _ (valid-state (c .before))
@@ -128,8 +130,7 @@ module _ (c : tie.Then1 Inv-loop μ-loop Inv-again μ-again) where
 granted-requires : tie.Need-granted-requires Inv-loop μ-loop Inv-again μ-again
 granted-requires c κs =
     let n = asker c in
-    let d = valid-facts _ (valid-state (at n)) in
-    (omega (arith, next n .known, d .line .few-trains), d .few-logged)
+    (omega (arith, next n .known, few-trains _ (valid-state (at n))), room-left (at n))
 
 again-less : tie.Need-again-less Inv-loop μ-loop Inv-again μ-again
 again-less c =
@@ -142,15 +143,20 @@ again-again c =
     let n = asker (c .before) in
     λ w g. working-next (table (at n)) w _ (kept (at n) w g) _ (oldest (c .before)) _ (c .granted .ensures)
 
+-- it is not
+module _ (c : tie.Else1 Inv-loop μ-loop Inv-again μ-again) where
+  abbrev refused : tie.After-known-told Inv-loop μ-loop Inv-again μ-again
+  refused = c .before .before
+
+  small : number refused < journalLength
+  small =
+      let a = at refused in next-small (state a) _ _ _ (valid-state a) (room-left a) (next refused)
+
 add-from : tie.Need-add-from Inv-loop μ-loop Inv-again μ-again
-add-from c = let n = c .before .before in omega (arith, next-small (state (at n)) _ _ _ (valid-state (at n)) (next n))
+add-from c = omega (arith, small c)
 
 loop-less : tie.Need-loop-less Inv-loop μ-loop Inv-again μ-again
-loop-less c = let n = c .before .before in omega (
-  arith,
-  next-small (state (at n)) _ _ _ (valid-state (at n)) (next n),
-  next n .low,
-)
+loop-less c = omega (arith, small c, next (refused c) .low)
 
 loop-again : tie.Need-loop-again Inv-loop μ-loop Inv-again μ-again
 loop-again c =

@@ -7,7 +7,7 @@ use borrow.Author.Needs.{needs}
 use Rattle.journal.specs.Journal.{journalLength, recordOf}
 use Rattle.dispatcher.specs.Types.{State}
 use Rattle.rules.specs.State.{oneLogged}
-use Rattle.rules.specs.Valid.{valid}
+use Rattle.rules.specs.Valid.{consistent}
 use Rattle.rules.specs.Granting.{begun, settled}
 use Rattle.rules.specs.Answer.{mostLogged}
 use Rattle.authority.specs.Progress.{progressOf}
@@ -19,7 +19,7 @@ with-train-requires c κs = search needs
 
 settle-requires : tie.Need-settle-requires
 settle-requires c κs =
-    subst⁻¹ (λ (s : State). (valid (oneLogged s) ≡ true) × (s .logged + mostLogged ≤ journalLength))
+    subst⁻¹ (λ (s : State). (consistent (oneLogged s) ≡ true) × (s .logged + mostLogged ≤ journalLength))
     (c .with-train .ensures) (c .before .before .pre .1, c .before .before .pre .0 .1)
 
 returns : tie.Need-returns

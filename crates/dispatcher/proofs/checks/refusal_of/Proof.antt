@@ -5,7 +5,7 @@ use borrow.Author.Needs.{needs}
 use borrow.Author.Tests.{not-true, not-false}
 use Rattle.dispatcher.specs.Types.{Message}
 use Rattle.dispatcher.specs.Step.{messageRefusal}
-use Rattle.authority.proofs.GrantTest.{few-trains}
+use Rattle.rules.proofs.Validity.{valid-facts}
 use Rattle.dispatcher.proofs.Refusals.{strange, short-stores, message-decides}
 use Rattle.dispatcher.proofs.checks.refusal_of.Statement.{statement}
 use Rattle.dispatcher.proofs.checks.refusal_of.Tie as tie
@@ -36,7 +36,7 @@ read-requires c κs = search needs
 message-refusal-requires : tie.Need-message-refusal-requires
 message-refusal-requires c κs =
     let e = c .before .before .before in
-    few-trains _ (sym (e .before .valid .ensures) ∙ not-false _ (e .if1 .left))
+    valid-facts _ (sym (e .before .valid .ensures) ∙ not-false _ (e .if1 .left)) .line .few-trains
 
 returns-3 : tie.Need-returns-3
 returns-3 c =
