@@ -5,14 +5,8 @@ use Rattle.line.proofs.Travel.{next-up, next-down, next-end}
 use Rattle.line.proofs.route.next_post.Statement.{statement}
 use Rattle.line.proofs.route.next_post.Tie as tie
 
-add-t4 : tie.Need-add-t4
-add-t4 c = search needs
-
 returns : tie.Need-returns
 returns c = next-up _ _ (c .before .if1 .taken)
-
-sub-t5 : tie.Need-sub-t5
-sub-t5 c = search needs
 
 returns-2 : tie.Need-returns-2
 returns-2 c = next-down _ _ (c .before .if2 .taken)
@@ -21,4 +15,4 @@ returns-3 : tie.Need-returns-3
 returns-3 c = next-end _ _ (omega arith)
 
 pub next-post-spec : {M : Type 1} → statement M
-next-post-spec = tie.close (tie.spec add-t4 returns sub-t5 returns-2 returns-3)
+next-post-spec = tie.close (tie.spec (λ c. search needs) returns (λ c. search needs) returns-2 returns-3)
