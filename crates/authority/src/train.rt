@@ -72,21 +72,12 @@ pub fn reached(train: Train) -> u8
     ensures { λ r. ⌜ r ≡ reachedBy train ⌝ }
 {
     let status = train.status;
-    let travelled = distance(train.route.start, train.at);
+    let travelled = line::distance(train.route.start, train.at);
     match status {
         Status::Free => travelled,
         Status::Asked(_) => travelled,
         Status::Running => travelled + 1,
     }
-}
-
-fn distance(a: PostNo, b: PostNo) -> u8
-    ensures { λ r. ⌜ r ≡ distance (a .0) (b .0) ⌝ }
-{
-    if a.0 < b.0 {
-        return b.0 - a.0;
-    }
-    a.0 - b.0
 }
 
 // The same train with another status.

@@ -2,17 +2,19 @@
 -- book's refusal, and one that passes leaves the checks after its own.
 use mathlib.Core.Path.{_≡_, refl, sym, ap, _∙_}
 use mathlib.Core.List.{List, [], _++_}
-use Prim.Native.Nat.{ℕ, zero, suc, _+_, _*_, _≤_, _<_}
+use Prim.Native.Nat.{ℕ, zero, suc, _≤_, _<_}
 use native.Mathlib.Omega.{arith}
-use lib.ListN.{length, take, drop}
-use borrow.Author.Tests.{leb-true, eqb-true}
+use lib.ListN.{length}
+use borrow.Author.Tests.{ltb-true, eqb-true}
 use Rattle.common.specs.Check.{Check, refusal, unlessRefused}
 use Rattle.common.specs.Tabulate.{padded}
-use Rattle.common.proofs.Check.{passed-at, second-part, first-part, accepts, refuses}
+use Rattle.common.proofs.Check.{passed-by, second-part, first-part, accepts, refuses}
+use Rattle.line.specs.Refusal as number
 use Rattle.line.specs.declared.line.Line.{Line}
 use Rattle.line.specs.Line.{noRoute}
-use Rattle.line.specs.Book.{byteAt, countAt, trainsAt, postsOf, trainsOf, routeIn, total, lineOf, bookChecks}
-use Rattle.line.specs.Book.{accepted, refusedBy, readBook}
+use Rattle.line.specs.Book.{countAt, trainsAt, total, byteAt, postsOf, trainsIn, trainsOf, routeIn, lineOf}
+use Rattle.line.specs.Book.{postsChecks, tracksChecks, trainsChecks, routesChecks, bookChecks, accepted, refusedBy}
+use Rattle.line.specs.Book.{readBook}
 use Rattle.line.proofs.WellFormed.{high, line-is}
 use Rattle.book.specs.Stages.{Stage, Passed, Stopped, stageOf, numberOf, postsStage, tracksStage, trainsStage}
 use Rattle.book.specs.Stages.{routesStage}
@@ -44,28 +46,26 @@ module _ {s : Stage} (cs : List Check) (v : ℕ) (e : s ≡ stageOf cs v) where
 abbrev pub Left : List ℕ → List Check → Type 0
 Left b cs = refusal (bookChecks b) ≡ refusal cs
 
-abbrev pub afterPosts : List ℕ → List Check
-afterPosts b = drop 4 (bookChecks b)
-
 abbrev pub afterTracks : List ℕ → List Check
-afterTracks b = drop 5 (bookChecks b)
+afterTracks b = trainsChecks b ++ routesChecks (lineOf b)
 
-abbrev pub afterTrains : List ℕ → List Check
-afterTrains b = drop 7 (bookChecks b)
+abbrev pub afterPosts : List ℕ → List Check
+afterPosts b = tracksChecks (lineOf b) ++ afterTracks b
 
 -- n posts were read
 pub record PostsRead (b : List ℕ) (n : ℕ) : Type 0 where
   pub is : n ≡ postsOf b
   pub few : n ≤ 8
-  pub room : 5 + n ≤ length b
+  pub room : trainsAt n < length b
   pub left : Left b (afterPosts b)
 
--- after them, t trains
-pub record TrainsRead (b : List ℕ) (n t : ℕ) : Type 0 where
-  pub is : t ≡ byteAt b (trainsAt n)
+-- t trains were read, their number at place a
+pub record TrainsRead (b : List ℕ) (a t : ℕ) : Type 0 where
+  pub place : a ≡ trainsIn b
+  pub is : t ≡ trainsOf b
   pub few : t ≤ 6
-  pub whole : length b ≡ 5 + n + 2 * t
-  pub left : Left b (afterTrains b)
+  pub whole : length b ≡ total a t
+  pub left : Left b (routesChecks (lineOf b))
 
 module _ (b : List ℕ) where
   -- a stage whose checks are the next of the book
@@ -80,21 +80,21 @@ module _ (b : List ℕ) where
 
   pub posts-refused : {s : Stage} {m : ℕ} → s ≡ postsStage b → s ≡ Stopped m → refusedBy (numberOf s) ≡ readBook b
   unfolding postsStage
-  posts-refused e p = stop-at (take 4 (bookChecks b)) (afterPosts b) _ refl e p
+  posts-refused e p = stop-at (postsChecks b) (afterPosts b) _ refl e p
 
   pub posts-read : {s : Stage} {n : ℕ} → s ≡ postsStage b → s ≡ Passed n → PostsRead b n
   unfolding postsStage
   posts-read {n = n} e p =
-      let k = passed-of (take 4 (bookChecks b)) _ e p in
-      let passed = passed-at (take 4 (bookChecks b)) refl (k .0) in
-      let few = high 2 8 (postsOf b) (passed 2) in
-      let room = leb-true (5 + postsOf b) (length b) (passed 3) in
+      let k = passed-of (postsChecks b) _ e p in
+      let passed = passed-by (postsChecks b) refl (k .0) in
+      let few = high 2 8 (postsOf b) (passed number.posts) in
+      let room = ltb-true (trainsIn b) (length b) (passed number.tornBook .1) in
       let is = k .1 in
       record {
         is = k .1;
         few = omega arith;
         room = omega arith;
-        left = second-part (take 4 (bookChecks b)) (afterPosts b) refl (k .0);
+        left = second-part (postsChecks b) (afterPosts b) refl (k .0);
       }
 
   module _ {n : ℕ} (posts : PostsRead b n) where
@@ -106,52 +106,54 @@ module _ (b : List ℕ) where
 
       pub tracks-refused : {s : Stage} {m : ℕ} → s ≡ tracksStage l → s ≡ Stopped m → refusedBy (numberOf s) ≡ readBook b
       unfolding tracksStage
-      tracks-refused e p = stop-at (take 1 (afterPosts b)) (afterTracks b) _ (posts .left) (e ∙ tracks-same) p
+      tracks-refused e p =
+          stop-at (tracksChecks (lineOf b)) (afterTracks b) _ (posts .left) (e ∙ tracks-same) p
 
       pub tracks-read : {s : Stage} {m : ℕ} → s ≡ tracksStage l → s ≡ Passed m → Left b (afterTracks b)
       unfolding tracksStage
       tracks-read e p =
-          let k = passed-of (take 1 (afterPosts b)) _ (e ∙ tracks-same) p in
-          posts .left ∙ second-part (take 1 (afterPosts b)) (afterTracks b) refl (k .0)
+          let k = passed-of (tracksChecks (lineOf b)) _ (e ∙ tracks-same) p in
+          posts .left ∙ second-part (tracksChecks (lineOf b)) (afterTracks b) refl (k .0)
 
     module _ (left : Left b (afterTracks b)) where
       pub trains-refused : {s : Stage} {m : ℕ} → s ≡ trainsStage b → s ≡ Stopped m → refusedBy (numberOf s) ≡ readBook b
       unfolding trainsStage
-      trains-refused e p = stop-at (take 2 (afterTracks b)) (afterTrains b) _ left e p
+      trains-refused e p = stop-at (trainsChecks b) (routesChecks (lineOf b)) _ left e p
 
-      pub trains-read : {s : Stage} {t : ℕ} → s ≡ trainsStage b → s ≡ Passed t → TrainsRead b n t
+      pub trains-read : {s : Stage} {t : ℕ} → s ≡ trainsStage b → s ≡ Passed t → (a : ℕ) → a ≡ trainsIn b
+          → TrainsRead b a t
       unfolding trainsStage
-      trains-read {t = t} e p =
-          let k = passed-of (take 2 (afterTracks b)) _ e p in
-          let passed = passed-at (take 2 (afterTracks b)) refl (k .0) in
-          let few = high 1 6 (trainsOf b) (passed 0) in
-          let whole = eqb-true (length b) (total (postsOf b) (trainsOf b)) (passed 1) in
+      trains-read {t = t} e p a place =
+          let k = passed-of (trainsChecks b) _ e p in
+          let passed = passed-by (trainsChecks b) refl (k .0) in
+          let few = high 1 6 (trainsOf b) (passed number.trains) in
+          let whole = eqb-true (length b) (total (trainsIn b) (trainsOf b)) (passed number.tornBook) in
           let is = k .1 in
-          let same = posts .is in
           record {
-            is = rw (posts .is) (k .1);
+            place = place;
+            is = k .1;
             few = omega arith;
             whole = omega arith;
-            left = left ∙ second-part (take 2 (afterTracks b)) (afterTrains b) refl (k .0);
+            left = left ∙ second-part (trainsChecks b) (routesChecks (lineOf b)) refl (k .0);
           }
 
     -- a line that has all that the book says
-    module _ {t : ℕ} (trains : TrainsRead b n t) (l : Line) (same : l .posts ≡ n)
+    module _ {a t : ℕ} (trains : TrainsRead b a t) (l : Line) (same : l .posts ≡ n)
         (counts : l .tracks ≡ padded 8 n (λ p. byteAt b (countAt p)) 0)
-        (number : l .trains ≡ t) (ends : l .routes ≡ padded 6 t (routeIn b n) noRoute) where
+        (amount : l .trains ≡ t) (ends : l .routes ≡ padded 6 t (routeIn b a) noRoute) where
       line-same : l ≡ lineOf b
       line-same = line-is l (lineOf b)
           (rw (same, posts .is))
           (rw (counts, posts .is))
-          (rw (number, trains .is, posts .is))
-          (rw (ends, trains .is, posts .is))
+          (rw (amount, trains .is))
+          (rw (ends, trains .is, trains .place))
 
       pub routes-refused : {s : Stage} {m : ℕ} → s ≡ routesStage l → s ≡ Stopped m → refusedBy (numberOf s) ≡ readBook b
       unfolding routesStage
-      routes-refused e p = stop-at (afterTrains b) [] _ (trains .left) (e ∙ ap routesStage line-same) p
+      routes-refused e p = stop-at (routesChecks (lineOf b)) [] _ (trains .left) (e ∙ ap routesStage line-same) p
 
       pub routes-read : {s : Stage} {m : ℕ} → s ≡ routesStage l → s ≡ Passed m → accepted l ≡ readBook b
       unfolding routesStage readBook
       routes-read e p =
-          let k = passed-of (afterTrains b) _ (e ∙ ap routesStage line-same) p in
+          let k = passed-of (routesChecks (lineOf b)) _ (e ∙ ap routesStage line-same) p in
           rw line-same (sym (accepts (accepted (lineOf b)) refusedBy (trains .left ∙ k .0)))

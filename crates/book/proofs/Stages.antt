@@ -3,17 +3,17 @@ use mathlib.Core.Path.{_≡_}
 use mathlib.Core.Logic.{_≢_}
 use mathlib.Core.Bool.{true, false, _&&_, and-false}
 use mathlib.Core.List.{List}
-use Prim.Native.Nat.{ℕ, suc, _+_, _≤_, _<_}
+use Prim.Native.Nat.{ℕ, suc, _≤_, _<_}
 use lib.Dec.{leb, eqb}
 use lib.ListN.{length}
-use borrow.Author.Tests.{le-leb, lt-leb, eq-eqb, ne-eqb}
+use borrow.Author.Tests.{le-leb, lt-leb, lt-ltb, le-ltb, eq-eqb, ne-eqb}
 use Rattle.common.specs.Check.{Check, unlessRefused}
 use Rattle.common.proofs.Tests.{and-both}
 use Rattle.common.proofs.Check.{Refuses, none, stop, pass, refusal-is}
 use Rattle.line.specs.Refusal as number
 use Rattle.line.specs.declared.line.Line.{Line}
 use Rattle.line.specs.Line.{inRange, tracksInRange, routesOnLine}
-use Rattle.line.specs.Book.{byteAt, versionAt, trainsAt, named, postsOf, total}
+use Rattle.line.specs.Book.{versionAt, total, byteAt, named, postsOf, trainsIn}
 use Rattle.book.specs.Stages.{Passed, Stopped, stageOf, postsStage, tracksStage, trainsStage, routesStage}
 
 passes : {cs : List Check} (v : ℕ) → Refuses cs 0 → Passed v ≡ stageOf cs v
@@ -52,14 +52,14 @@ module _ (b : List ℕ) where
       posts-range h = stops _ (pass whole (pass edition (stop h)))
 
       module _ (range : inRange 2 8 (postsOf b) ≡ true) where
-        pub posts-room : length b < 5 + postsOf b → Stopped number.tornBook ≡ postsStage b
+        pub posts-room : length b ≤ trainsIn b → Stopped number.tornBook ≡ postsStage b
         unfolding postsStage
-        posts-room h = stops _ (pass whole (pass edition (pass range (stop (lt-leb (5 + postsOf b) (length b) h)))))
+        posts-room h = stops _ (pass whole (pass edition (pass range (stop (le-ltb (trainsIn b) (length b) h)))))
 
-        pub posts-passed : 5 + postsOf b ≤ length b → Passed (postsOf b) ≡ postsStage b
+        pub posts-passed : trainsIn b < length b → Passed (postsOf b) ≡ postsStage b
         unfolding postsStage
         posts-passed h =
-            let room = le-leb (5 + postsOf b) (length b) h in
+            let room = lt-ltb (trainsIn b) (length b) h in
             passes _ (pass whole (pass edition (pass range (pass room none))))
 
 -- ---- 16
@@ -75,22 +75,22 @@ module _ (l : Line) where
 
 -- ---- 17, 14
 
-module _ (b : List ℕ) {n : ℕ} (e : n ≡ postsOf b) where
-  pub trains-range : inRange 1 6 (byteAt b (trainsAt n)) ≡ false → Stopped number.trains ≡ trainsStage b
+module _ (b : List ℕ) {a : ℕ} (e : a ≡ trainsIn b) where
+  pub trains-range : inRange 1 6 (byteAt b a) ≡ false → Stopped number.trains ≡ trainsStage b
   unfolding trainsStage
   trains-range h = stops _ (stop (rw e at h))
 
-  module _ (range : inRange 1 6 (byteAt b (trainsAt n)) ≡ true) where
-    pub trains-total : length b ≢ total n (byteAt b (trainsAt n)) → Stopped number.tornBook ≡ trainsStage b
+  module _ (range : inRange 1 6 (byteAt b a) ≡ true) where
+    pub trains-total : length b ≢ total a (byteAt b a) → Stopped number.tornBook ≡ trainsStage b
     unfolding trainsStage
     trains-total h =
-        let off = ne-eqb (length b) (total n (byteAt b (trainsAt n))) h in
+        let off = ne-eqb (length b) (total a (byteAt b a)) h in
         stops _ (pass (rw e at range) (stop (rw e at off)))
 
-    pub trains-passed : length b ≡ total n (byteAt b (trainsAt n)) → Passed (byteAt b (trainsAt n)) ≡ trainsStage b
+    pub trains-passed : length b ≡ total a (byteAt b a) → Passed (byteAt b a) ≡ trainsStage b
     unfolding trainsStage
     trains-passed h =
-        let same = eq-eqb (length b) (total n (byteAt b (trainsAt n))) h in
+        let same = eq-eqb (length b) (total a (byteAt b a)) h in
         rw e (passes _ (pass (rw e at range) (pass (rw e at same) none)))
 
 -- ---- 18

@@ -1,12 +1,9 @@
--- The stages in which a book is read, each with its part of the book's checks. Nothing above the reading cites them.
-use mathlib.Core.List.{List, [], _∷_}
+-- The stages in which a book is read, one for each part of its checks. Nothing above the reading cites them.
+use mathlib.Core.List.{List}
 use Prim.Native.Nat.{ℕ}
-use lib.ListN.{take, drop}
-use Rattle.common.specs.Check.{Check, check, refusal, unlessRefused}
-use Rattle.line.specs.Refusal as number
+use Rattle.common.specs.Check.{Check, refusal, unlessRefused}
 use Rattle.line.specs.declared.line.Line.{Line}
-use Rattle.line.specs.Line.{tracksInRange, routesOnLine}
-use Rattle.line.specs.Book.{postsOf, trainsOf, bookChecks}
+use Rattle.line.specs.Book.{postsOf, trainsOf, postsChecks, tracksChecks, trainsChecks, routesChecks}
 pub use Rattle.book.specs.declared.reading.Stage.{Stage}
 pub use Rattle.book.specs.declared.reading.Stage.the-variants.{Passed, Stopped}
 
@@ -19,18 +16,14 @@ abbrev pub numberOf : Stage → ℕ
 numberOf (Passed n) = 0
 numberOf (Stopped n) = n
 
--- the book's first four checks
 unfoldable pub postsStage : List ℕ → Stage
-postsStage b = stageOf (take 4 (bookChecks b)) (postsOf b)
+postsStage b = stageOf (postsChecks b) (postsOf b)
 
--- the fifth
 unfoldable pub tracksStage : Line → Stage
-tracksStage l = stageOf (check number.tracks (tracksInRange l) ∷ []) (l .posts)
+tracksStage l = stageOf (tracksChecks l) (l .posts)
 
--- the sixth and the seventh
 unfoldable pub trainsStage : List ℕ → Stage
-trainsStage b = stageOf (take 2 (drop 5 (bookChecks b))) (trainsOf b)
+trainsStage b = stageOf (trainsChecks b) (trainsOf b)
 
--- the eighth
 unfoldable pub routesStage : Line → Stage
-routesStage l = stageOf (check number.offTheLine (routesOnLine l) ∷ []) (l .trains)
+routesStage l = stageOf (routesChecks l) (l .trains)

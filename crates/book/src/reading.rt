@@ -1,15 +1,17 @@
 // Reading a line book. 01: "Book: a two-byte big-endian length (the bytes after it), version byte 1,
 // P, P track counts, T, then start and end of each train, one byte each."
 ghost use mathlib.Core.Path.{_≡_};
-ghost use Prim.Native.Nat.{_+_, _*_, _≤_};
+ghost use Prim.Native.Nat.{_≤_, _<_};
 ghost use lib.ListN.{length};
 ghost use Rattle.common.specs.Tabulate.{padded};
 ghost use Rattle.line.specs.Line.{noRoute, inRange};
-ghost use Rattle.line.specs.Book.{byteAt, postsOf, countAt, routeIn, emptyLine, refusedBy, readBook, outcomeNumber};
+ghost use Rattle.line.specs.Book.{countAt, trainsAt, total, byteAt, trainsIn, routeIn, emptyLine, refusedBy};
+ghost use Rattle.line.specs.Book.{readBook, outcomeNumber};
 ghost use Rattle.book.specs.Stages.{numberOf, postsStage, tracksStage, trainsStage, routesStage};
 use crate::form::routes_on_line;
 use crate::form::tracks_in_range;
 use line::Line;
+use line::NO_ROUTE;
 use line::Outcome;
 use line::PostNo;
 use line::Reading;
@@ -34,12 +36,6 @@ enum Stage {
     Stopped(u8),
 }
 
-// The place of a train that a line does not have.
-const NO_ROUTE: Route = Route {
-    start: PostNo(0),
-    end: PostNo(0),
-};
-
 // The version of a book.
 const EDITION: u8 = 1;
 
@@ -49,9 +45,6 @@ const VERSION_AT: usize = 2;
 const POSTS_AT: usize = 3;
 
 const COUNTS_AT: usize = 4;
-
-// The bytes of a book besides its track counts and routes.
-const FIXED: usize = 5;
 
 // Reads a book. "A book that is not read in full is refused before any train is placed."
 pub fn read(book: &[u8]) -> Reading
@@ -69,11 +62,12 @@ pub fn read(book: &[u8]) -> Reading
     let Stage::Passed(_) = counts else {
         return refused(counts);
     };
-    let number = read_trains(book, posts);
+    let at = trains_at(posts);
+    let number = read_trains(book, at);
     let Stage::Passed(trains) = number else {
         return refused(number);
     };
-    let routes = read_routes(book, posts, trains);
+    let routes = read_routes(book, at, trains);
     line.trains = trains;
     line.routes = routes;
     let ends = check_routes(line);
@@ -142,15 +136,22 @@ fn read_posts(book: &[u8]) -> Stage
     if !in_range(2, 8, posts) {
         return Stage::Stopped(refusal::POSTS);
     }
-    if book.len() < FIXED + posts as usize {
+    if book.len() <= trains_at(posts) {
         return Stage::Stopped(refusal::TORN_BOOK);
     }
     Stage::Passed(posts)
 }
 
+// Where the number of trains stands.
+fn trains_at(posts: u8) -> usize
+    ensures { λ r. ⌜ r ≡ trainsAt posts ⌝ }
+{
+    COUNTS_AT + posts as usize
+}
+
 // The track counts of the posts; 0 at the other places.
 fn read_tracks(book: &[u8], posts: u8) -> [u8; 8]
-    requires { ⌜ (posts ≤ 8) × (5 + posts ≤ length (now book)) ⌝ }
+    requires { ⌜ (posts ≤ 8) × (trainsAt posts ≤ length (now book)) ⌝ }
     ensures { λ r. ⌜ r ≡ padded 8 posts (λ p. byteAt (now (book .entry)) (countAt p)) 0 ⌝ }
 {
     let mut tracks = [0u8; 8];
@@ -173,33 +174,33 @@ fn check_tracks(line: Line) -> Stage
     Stage::Passed(line.posts)
 }
 
-// Checks 17 and 14, and reads the number of trains.
-fn read_trains(book: &[u8], posts: u8) -> Stage
-    requires { ⌜ (posts ≡ postsOf (now book)) × (5 + posts ≤ length (now book)) ⌝ }
+// Checks 17 and 14, and reads the number of trains, which stands at `at`.
+fn read_trains(book: &[u8], at: usize) -> Stage
+    requires { ⌜ (at ≡ trainsIn (now book)) × (at < length (now book)) ⌝ }
     ensures { λ r. ⌜ r ≡ trainsStage (now (book .entry)) ⌝ }
 {
-    let trains = book[COUNTS_AT + posts as usize];
+    let trains = book[at];
     if !in_range(1, 6, trains) {
         return Stage::Stopped(refusal::TRAINS);
     }
-    if book.len() != FIXED + posts as usize + 2 * (trains as usize) {
+    if book.len() != at + 1 + 2 * (trains as usize) {
         return Stage::Stopped(refusal::TORN_BOOK);
     }
     Stage::Passed(trains)
 }
 
-// The routes of the trains; 0 at the other places.
-fn read_routes(book: &[u8], posts: u8, trains: u8) -> [Route; 6]
-    requires { ⌜ (trains ≤ 6) × (5 + posts + 2 * trains ≤ length (now book)) ⌝ }
-    ensures { λ r. ⌜ r ≡ padded 6 trains (routeIn (now (book .entry)) posts) noRoute ⌝ }
+// The routes of the trains, whose number stands at `at`; 0 at the other places.
+fn read_routes(book: &[u8], at: usize, trains: u8) -> [Route; 6]
+    requires { ⌜ (trains ≤ 6) × (total at trains ≤ length (now book)) ⌝ }
+    ensures { λ r. ⌜ r ≡ padded 6 trains (routeIn (now (book .entry)) at) noRoute ⌝ }
 {
     let mut routes = [NO_ROUTE; 6];
     let mut t: usize = 0;
     while t < trains as usize {
-        let at = FIXED + posts as usize + 2 * t;
+        let start = at + 1 + 2 * t;
         routes[t] = Route {
-            start: PostNo(book[at]),
-            end: PostNo(book[at + 1]),
+            start: PostNo(book[start]),
+            end: PostNo(book[start + 1]),
         };
         t += 1;
     }

@@ -7,6 +7,5 @@ mod run;
 
 pub use console::Console;
 pub use console::Phase;
-pub use piece::LONGEST_BOOK;
 pub use piece::Piece;
 pub use run::Run;

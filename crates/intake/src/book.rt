@@ -9,10 +9,10 @@ use crate::piece::held;
 use crate::piece::nothing;
 use crate::run::begun;
 use console::Console;
-use console::LONGEST_BOOK;
 use console::Phase;
 use console::Run;
 use journal::Log;
+use line::LONGEST_BOOK;
 use rules::Opened;
 
 // The console once the book is opened, as far as it has come.

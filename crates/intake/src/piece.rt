@@ -6,8 +6,8 @@ ghost use lib.ListN.{take};
 ghost use Rattle.common.specs.Word.{word};
 ghost use Rattle.line.specs.Claims.{longest};
 ghost use Rattle.console.specs.Piece.{pieceOf, bytesOf, withByte, isBook};
-use console::LONGEST_BOOK;
 use console::Piece;
+use line::LONGEST_BOOK;
 
 pub fn nothing() -> Piece
     ensures { λ r. ⌜ r ≡ pieceOf [] ⌝ }

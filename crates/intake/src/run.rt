@@ -4,10 +4,10 @@ ghost use Prim.Native.Nat.{_≤_};
 ghost use lib.ListN.{take};
 ghost use Rattle.line.specs.Claims.{longest};
 ghost use Rattle.console.specs.Run.{begun, countAfter, afterFrame};
-use console::LONGEST_BOOK;
 use console::Run;
 use dispatcher::OUT_LENGTH;
 use journal::Log;
+use line::LONGEST_BOOK;
 use rules::State;
 use rules::Verdict;
 

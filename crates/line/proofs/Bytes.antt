@@ -24,18 +24,18 @@ module _ (b : List ℕ) where
       let r = places k (suc j) n (omega arith) in
       rw (e, r, s) (sym (drop-cons b (k + j) 0 l))
 
-  -- n routes at the end of a book of p posts
-  pub routes-end : (p j n : ℕ) → length b ≡ startAt p j + 2 * n
-      → routeBytes (valuesFrom j n (routeIn b p)) ≡ drop (startAt p j) b
+  -- n routes at the end of a book, from train j on
+  pub routes-end : (a j n : ℕ) → length b ≡ startAt a j + 2 * n
+      → routeBytes (valuesFrom j n (routeIn b a)) ≡ drop (startAt a j) b
   unfolding valuesFrom routeBytes
-  routes-end p j zero h = sym (drop-of-length-le b {i = startAt p j} (omega arith))
-  routes-end p j (suc n) h =
-      let l : startAt p j < length b = omega arith in
-      let m : startAt p j + 1 < length b = omega arith in
-      let a : suc (startAt p j) ≡ startAt p j + 1 = omega arith in
-      let s : suc (startAt p j + 1) ≡ startAt p (suc j) = omega arith in
-      let r = routes-end p (suc j) n (omega arith) in
-      rw (r, ← s, ← drop-cons b (startAt p j + 1) 0 m, ← a, ← drop-cons b (startAt p j) 0 l)
+  routes-end a j zero h = sym (drop-of-length-le b {i = startAt a j} (omega arith))
+  routes-end a j (suc n) h =
+      let l : startAt a j < length b = omega arith in
+      let m : startAt a j + 1 < length b = omega arith in
+      let e : suc (startAt a j) ≡ startAt a j + 1 = omega arith in
+      let s : suc (startAt a j + 1) ≡ startAt a (suc j) = omega arith in
+      let r = routes-end a (suc j) n (omega arith) in
+      rw (r, ← s, ← drop-cons b (startAt a j + 1) 0 m, ← e, ← drop-cons b (startAt a j) 0 l)
 
 pub length-routes : (rs : List Route) → length (routeBytes rs) ≡ 2 * length rs
 unfolding routeBytes

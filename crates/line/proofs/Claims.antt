@@ -4,23 +4,24 @@ use mathlib.Core.Path.{_≡_, refl, sym, ap, _∙_}
 use mathlib.Core.Logic.{_≢_}
 use mathlib.Core.Bool.{true}
 use mathlib.Core.List.{List, _∷_, _++_}
-use Prim.Native.Nat.{ℕ, zero, suc, _+_, _*_, _-_, _/_, _%_, _≤_, _<_}
+use Prim.Native.Nat.{ℕ, zero, suc, _+_, _*_, _/_, _%_, _≤_, _<_}
 use native.Mathlib.Omega.{arith}
 use lib.Dec.{leb, ltb}
-use lib.ListN.{length, getD, drop, length-append, List·getD-append}
+use lib.ListN.{length, getD, drop, length-append, length-drop, List·getD-append}
 use lib.Seq.{drop-cons, getD-drop, getD-at, getD-append-add}
-use borrow.Author.Tests.{leb-true, ltb-true, eqb-true, le-leb, eq-eqb}
-use Rattle.common.specs.Check.{check, refusal, unlessRefused}
+use borrow.Author.Tests.{leb-true, ltb-true, eqb-true, le-leb, lt-ltb, eq-eqb}
+use Rattle.common.specs.Check.{refusal, unlessRefused}
 use Rattle.common.specs.Tabulate.{tabulate}
 use Rattle.common.proofs.Tests.{and-left, and-right, and-both}
-use Rattle.common.proofs.Check.{none, pass, refusal-is, passed-at, clear, not-given, accepts}
+use Rattle.common.proofs.Check.{none, pass, refusal-is, testsOf, Pass, passed-by, clear, not-given, accepts}
 use Rattle.common.proofs.Tabulate.{length-tabulate, at-tabulate, tabulate-cong, length-padded, at-padded, past-padded}
 use Rattle.common.proofs.Tabulate.{padded-is}
+use Rattle.line.specs.Refusal as number
 use Rattle.line.specs.Sorts.{Line, Reading}
 use Rattle.line.specs.Line.{noRoute, routeOf, tracksAt, wellFormed}
-use Rattle.line.specs.Book.{byteAt, versionAt, countAt, trainsAt, startAt, endAt, total, named, postsOf, trainsOf}
-use Rattle.line.specs.Book.{routeIn, lineOf, bookChecks, accepted, refusedBy, readBook, outcomeNumber, routeBytes}
-use Rattle.line.specs.Book.{bytesOf}
+use Rattle.line.specs.Book.{versionAt, countAt, trainsAt, startAt, endAt, total, byteAt, named, postsOf, trainsIn}
+use Rattle.line.specs.Book.{trainsOf, routeIn, lineOf, bookChecks, accepted, refusedBy, readBook, outcomeNumber}
+use Rattle.line.specs.Book.{routeBytes, bodyOf, bytesOf}
 use Rattle.line.specs.Claims.{Padded, ReadAs, LineBook}
 use Rattle.line.proofs.WellFormed.{WellFormed, line-is, well-formed, well-formed-parts, formed-parts}
 use Rattle.line.proofs.Bytes.{places, routes-end, length-routes, start-byte, end-byte}
@@ -54,46 +55,47 @@ not-met n b h k = rw read-number (not-given n (bookChecks b) (ltb-true 0 n h) k)
 -- ---- a book whose parts are right is read
 
 module _ (b : List ℕ) (right : named b ≡ length b) (edition : byteAt b versionAt ≡ 1)
-    (formed : wellFormed (lineOf b) ≡ true) (whole : length b ≡ total (postsOf b) (trainsOf b)) where
+    (formed : wellFormed (lineOf b) ≡ true) (whole : length b ≡ total (trainsIn b) (trainsOf b)) where
   all-pass : refusal (bookChecks b) ≡ 0
   all-pass =
       let parts = formed-parts (lineOf b) formed in
       let some = well-formed (lineOf b) formed .some-posts in
       let four : 4 ≤ length b = omega arith in
-      let room : 5 + postsOf b ≤ length b = omega arith in
+      let room : trainsIn b < length b = omega arith in
       let lengths = and-both _ _ (le-leb 4 (length b) four) (eq-eqb (named b) (length b) right) in
       refusal-is (pass lengths
       (pass (eq-eqb (byteAt b versionAt) 1 edition)
       (pass (parts .0)
-      (pass (le-leb (5 + postsOf b) (length b) room)
+      (pass (lt-ltb (trainsIn b) (length b) room)
       (pass (parts .1)
       (pass (parts .2)
-      (pass (eq-eqb (length b) (total (postsOf b) (trainsOf b)) whole)
+      (pass (eq-eqb (length b) (total (trainsIn b) (trainsOf b)) whole)
       (pass (parts .3) none))))))))
 
 -- ---- a book that is read, part by part
 
 module _ (b : List ℕ) (unrefused : refusal (bookChecks b) ≡ 0) where
-  passed : (i : ℕ) → getD (bookChecks b) i (check 0 true) .passes ≡ true
-  passed = passed-at (bookChecks b) refl unrefused
+  passed : (n : ℕ) → Pass (testsOf n (bookChecks b))
+  passed = passed-by (bookChecks b) refl unrefused
 
-  formed : wellFormed (lineOf b) ≡ true
-  formed = well-formed-parts (lineOf b) (passed 2) (passed 4) (passed 5) (passed 7)
+  pub formed : wellFormed (lineOf b) ≡ true
+  formed = well-formed-parts (lineOf b)
+      (passed number.posts) (passed number.tracks) (passed number.trains) (passed number.offTheLine)
 
   facts : WellFormed (lineOf b)
   facts = well-formed (lineOf b) formed
 
   four : 4 ≤ length b
-  four = leb-true 4 (length b) (and-left (leb 4 (length b)) _ (passed 0))
+  four = leb-true 4 (length b) (and-left (leb 4 (length b)) _ (passed number.tornBook .0))
 
   right : named b ≡ length b
-  right = eqb-true (named b) (length b) (and-right (leb 4 (length b)) _ (passed 0))
+  right = eqb-true (named b) (length b) (and-right (leb 4 (length b)) _ (passed number.tornBook .0))
 
   edition : byteAt b versionAt ≡ 1
-  edition = eqb-true (byteAt b versionAt) 1 (passed 1)
+  edition = eqb-true (byteAt b versionAt) 1 (passed number.otherEdition)
 
-  whole : length b ≡ total (postsOf b) (trainsOf b)
-  whole = eqb-true (length b) (total (postsOf b) (trainsOf b)) (passed 6)
+  whole : length b ≡ total (trainsIn b) (trainsOf b)
+  whole = eqb-true (length b) (total (trainsIn b) (trainsOf b)) (passed number.tornBook .1 .1)
 
   -- the places after the posts and the trains
   rest-0 : Padded (lineOf b)
@@ -107,48 +109,56 @@ module _ (b : List ℕ) (unrefused : refusal (bookChecks b) ≡ 0) where
   counts-same : tabulate (postsOf b) (tracksAt (lineOf b)) ≡ tabulate (postsOf b) (λ p. byteAt b (countAt p))
   counts-same = tabulate-cong (postsOf b) _ _ (λ p h. at-padded 8 (postsOf b) _ 0 p (omega (arith, facts .few-posts)) h)
 
-  routes-same : tabulate (trainsOf b) (routeOf (lineOf b)) ≡ tabulate (trainsOf b) (routeIn b (postsOf b))
+  routes-same : tabulate (trainsOf b) (routeOf (lineOf b)) ≡ tabulate (trainsOf b) (routeIn b (trainsIn b))
   routes-same =
       tabulate-cong (trainsOf b) _ _ (λ t h. at-padded 6 (trainsOf b) _ noRoute t (omega (arith, facts .few-trains)) h)
 
   -- the number of trains and their routes are the end of the book
-  trains-end : trainsOf b ∷ routeBytes (tabulate (trainsOf b) (routeOf (lineOf b))) ≡ drop (trainsAt (postsOf b)) b
+  trains-end : trainsOf b ∷ routeBytes (tabulate (trainsOf b) (routeOf (lineOf b))) ≡ drop (trainsIn b) b
   trains-end =
-      let l : trainsAt (postsOf b) < length b = omega (arith, whole) in
-      let next : startAt (postsOf b) 0 ≡ suc (trainsAt (postsOf b)) = omega arith in
-      let ends = routes-end b (postsOf b) 0 (trainsOf b) (omega (arith, whole)) in
-      rw (routes-same, ends, next) (sym (drop-cons b (trainsAt (postsOf b)) 0 l))
+      let l : trainsIn b < length b = omega (arith, whole) in
+      let next : startAt (trainsIn b) 0 ≡ suc (trainsIn b) = omega arith in
+      let ends = routes-end b (trainsIn b) 0 (trainsOf b) (omega (arith, whole)) in
+      rw (routes-same, ends, next) (sym (drop-cons b (trainsIn b) 0 l))
 
   -- with the track counts before them
-  counts-end : tabulate (postsOf b) (tracksAt (lineOf b)) ++ drop (trainsAt (postsOf b)) b ≡ drop 4 b
+  counts-end : tabulate (postsOf b) (tracksAt (lineOf b)) ++ drop (trainsIn b) b ≡ drop 4 b
   counts-end = rw counts-same (places b 4 0 (postsOf b) (omega (arith, whole)))
 
-  -- with the length, the version and the number of posts before them
+  -- with the version and the number of posts before them
+  body-end : bodyOf (lineOf b) ≡ drop 2 b
+  unfolding bodyOf
+  body-end =
+      let long = four in
+      let d2 = drop-cons b 2 0 (omega arith) in
+      let d3 = drop-cons b 3 0 (omega arith) in
+      cc (edition, trains-end, counts-end)
+
+  -- with the length before them
   spelled : bytesOf (lineOf b) ≡ b
   unfolding bytesOf
   spelled =
-      let n = total (postsOf b) (trainsOf b) - 2 in
+      let n = length (drop 2 b) in
+      let size = length-drop 2 b in
       let high : n / 256 ≡ byteAt b 0 = omega (arith, right, whole, facts .few-posts, facts .few-trains) in
       let low : n % 256 ≡ byteAt b 1 = omega (arith, right, whole, facts .few-posts, facts .few-trains) in
       let long = four in
       let d0 = drop-cons b 0 0 (omega arith) in
       let d1 = drop-cons b 1 0 (omega arith) in
-      let d2 = drop-cons b 2 0 (omega arith) in
-      let d3 = drop-cons b 3 0 (omega arith) in
-      cc (high, low, edition, trains-end, counts-end)
+      rw body-end (cc (high, low))
 
 -- ---- the bytes of a line
 
 module _ (l : Line) where
   count-byte : (p : ℕ) → p < l .posts → byteAt (bytesOf l) (countAt p) ≡ tracksAt l p
-  unfolding bytesOf
+  unfolding bytesOf bodyOf
   count-byte p h =
       sym (getD-drop 4 (bytesOf l) p 0)
       ∙ List·getD-append (tabulate (l .posts) (tracksAt l)) _ 0 p (rw length-tabulate h)
       ∙ at-tabulate (l .posts) (tracksAt l) p 0 h
 
   trains-byte : byteAt (bytesOf l) (trainsAt (l .posts)) ≡ l .trains
-  unfolding bytesOf
+  unfolding bytesOf bodyOf
   trains-byte =
       let counts = tabulate (l .posts) (tracksAt l) in
       sym (getD-drop 4 (bytesOf l) (l .posts) 0)
@@ -156,36 +166,36 @@ module _ (l : Line) where
 
   -- a place in the run of routes
   route-byte : (k : ℕ)
-      → byteAt (bytesOf l) (5 + l .posts + k) ≡ byteAt (routeBytes (tabulate (l .trains) (routeOf l))) k
-  unfolding bytesOf
+      → byteAt (bytesOf l) (trainsAt (l .posts) + 1 + k) ≡ byteAt (routeBytes (tabulate (l .trains) (routeOf l))) k
+  unfolding bytesOf bodyOf
   route-byte k =
       let counts = tabulate (l .posts) (tracksAt l) in
       let rest = l .trains ∷ routeBytes (tabulate (l .trains) (routeOf l)) in
-      let e : 5 + l .posts + k ≡ 4 + (length counts + suc k) = rw length-tabulate (omega arith) in
+      let e : trainsAt (l .posts) + 1 + k ≡ 4 + (length counts + suc k) = rw length-tabulate (omega arith) in
       rw e (sym (getD-drop 4 (bytesOf l) (length counts + suc k) 0) ∙ getD-append-add counts rest (suc k) 0)
 
-  route-is : (t : ℕ) → t < l .trains → routeIn (bytesOf l) (l .posts) t ≡ routeOf l t
+  route-is : (t : ℕ) → t < l .trains → routeIn (bytesOf l) (trainsAt (l .posts)) t ≡ routeOf l t
   route-is t h =
       let rs = tabulate (l .trains) (routeOf l) in
-      let e : endAt (l .posts) t ≡ 5 + l .posts + suc (2 * t) = omega arith in
+      let e : endAt (trainsAt (l .posts)) t ≡ trainsAt (l .posts) + 1 + suc (2 * t) = omega arith in
       let a : getD rs t noRoute ≡ routeOf l t = at-tabulate (l .trains) (routeOf l) t noRoute h in
       rw (e, route-byte (2 * t), route-byte (suc (2 * t)), start-byte rs t, end-byte rs t, a)
 
-  length-bytes : length (bytesOf l) ≡ total (l .posts) (l .trains)
-  unfolding bytesOf
+  length-bytes : length (bytesOf l) ≡ total (trainsAt (l .posts)) (l .trains)
+  unfolding bytesOf bodyOf
   length-bytes = simp (length-append, length-tabulate, length-routes) (omega arith)
 
   length-field : named (bytesOf l) ≡ length (bytesOf l)
   unfolding bytesOf
-  length-field = let n = length-bytes in omega arith
+  length-field = omega arith
 
   version-byte : byteAt (bytesOf l) versionAt ≡ 1
-  unfolding bytesOf
+  unfolding bytesOf bodyOf
   version-byte = refl
 
   module _ (well : wellFormed l ≡ true) (pad : Padded l) where
     line-back : lineOf (bytesOf l) ≡ l
-    unfolding bytesOf
+    unfolding bytesOf bodyOf
     line-back = sym (line-is l (lineOf (bytesOf l)) refl
         (padded-is 8 (l .posts) _ 0 (l .tracks) (pad .eight) (λ p k h. sym (count-byte p h)) (pad .no-tracks))
         (sym trains-byte)
@@ -195,7 +205,7 @@ module _ (l : Line) where
     read-back : readBook (bytesOf l) ≡ accepted l
     unfolding readBook
     read-back =
-        let whole = length-bytes ∙ ap (λ (m : Line). total (m .posts) (m .trains)) (sym line-back) in
+        let whole = length-bytes ∙ ap (λ (m : Line). total (trainsAt (m .posts)) (m .trains)) (sym line-back) in
         let unrefused = all-pass (bytesOf l) length-field version-byte (rw line-back well) whole in
         accepts (accepted (lineOf (bytesOf l))) refusedBy unrefused ∙ ap accepted line-back
 

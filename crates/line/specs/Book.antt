@@ -1,8 +1,8 @@
 -- 01, "The line and its book": what the bytes of a book say, when a book is refused, and which bytes a line has.
 use mathlib.Core.Bool.{_&&_}
 use mathlib.Core.List.{List, [], _∷_, _++_}
-use Prim.Native.Nat.{ℕ, _+_, _*_, _-_, _/_, _%_}
-use lib.Dec.{leb, eqb}
+use Prim.Native.Nat.{ℕ, _+_, _*_, _/_, _%_}
+use lib.Dec.{leb, ltb, eqb}
 use lib.ListN.{length, getD, replicate}
 use Rattle.common.specs.Check.{Check, check, refusal, unlessRefused}
 use Rattle.common.specs.Tabulate.{tabulate, padded}
@@ -25,19 +25,20 @@ postsAt = 3
 abbrev pub countAt : ℕ → ℕ
 countAt p = 4 + p
 
--- after the track counts of n posts: the number of trains, and the start and the end of train t
+-- the number of trains, after the track counts of n posts
 abbrev pub trainsAt : ℕ → ℕ
 trainsAt n = 4 + n
 
+-- the start and the end of train t, after the number of trains at place a
 abbrev pub startAt : ℕ → ℕ → ℕ
-startAt n t = 5 + n + 2 * t
+startAt a t = a + 1 + 2 * t
 
 abbrev pub endAt : ℕ → ℕ → ℕ
-endAt n t = startAt n t + 1
+endAt a t = startAt a t + 1
 
--- "Total 5 + P + 2T bytes."
+-- "Total 5 + P + 2T bytes.": the routes of all T trains come last
 abbrev pub total : ℕ → ℕ → ℕ
-total n t = 5 + n + 2 * t
+total a t = startAt a t
 
 -- ---- what a book says
 
@@ -51,15 +52,19 @@ named b = word (byteAt b 0) (byteAt b 1) + 2
 abbrev pub postsOf : List ℕ → ℕ
 postsOf b = byteAt b postsAt
 
+-- where its number of trains stands
+abbrev pub trainsIn : List ℕ → ℕ
+trainsIn b = trainsAt (postsOf b)
+
 abbrev pub trainsOf : List ℕ → ℕ
-trainsOf b = byteAt b (trainsAt (postsOf b))
+trainsOf b = byteAt b (trainsIn b)
 
 abbrev pub route : ℕ → ℕ → Route
 route s e = record { start = record { 0 = s }; end = record { 0 = e } }
 
--- the route of train t, after the track counts of n posts
+-- the route of train t, after the number of trains at place a
 abbrev pub routeIn : List ℕ → ℕ → ℕ → Route
-routeIn b n t = route (byteAt b (startAt n t)) (byteAt b (endAt n t))
+routeIn b a t = route (byteAt b (startAt a t)) (byteAt b (endAt a t))
 
 -- the line; its places for posts from P on and trains from T on are 0
 abbrev pub lineOf : List ℕ → Line
@@ -67,24 +72,38 @@ lineOf b = record {
   posts = postsOf b;
   tracks = padded 8 (postsOf b) (λ p. byteAt b (countAt p)) 0;
   trains = trainsOf b;
-  routes = padded 6 (trainsOf b) (routeIn b (postsOf b)) noRoute;
+  routes = padded 6 (trainsOf b) (routeIn b (trainsIn b)) noRoute;
 }
 
 -- ---- when a book is refused
 
--- "Checks in order: .. 14 if under 4 bytes or the length is wrong; 4; 15; 14 if under 5 + P bytes; 16; 17; 14 if the
--- total differs; 18". What needs a table or a placing is the opening's: 2 before these, 19 and 20 after them.
-abbrev pub bookChecks : List ℕ → List Check
-bookChecks b =
+-- "Checks in order: .. 14 if under 4 bytes or the length is wrong; 4; 15; 14 if under 5 + P bytes;"
+abbrev pub postsChecks : List ℕ → List Check
+postsChecks b =
     check number.tornBook (leb 4 (length b) && eqb (named b) (length b))
     ∷ check number.otherEdition (eqb (byteAt b versionAt) 1)
     ∷ check number.posts (postsInRange (lineOf b))
-    ∷ check number.tornBook (leb (5 + postsOf b) (length b))
-    ∷ check number.tracks (tracksInRange (lineOf b))
-    ∷ check number.trains (trainsInRange (lineOf b))
-    ∷ check number.tornBook (eqb (length b) (total (postsOf b) (trainsOf b)))
-    ∷ check number.offTheLine (routesOnLine (lineOf b))
+    ∷ check number.tornBook (ltb (trainsIn b) (length b))
     ∷ []
+
+-- "16;"
+abbrev pub tracksChecks : Line → List Check
+tracksChecks l = check number.tracks (tracksInRange l) ∷ []
+
+-- "17; 14 if the total differs;"
+abbrev pub trainsChecks : List ℕ → List Check
+trainsChecks b =
+    check number.trains (trainsInRange (lineOf b))
+    ∷ check number.tornBook (eqb (length b) (total (trainsIn b) (trainsOf b)))
+    ∷ []
+
+-- "18;"
+abbrev pub routesChecks : Line → List Check
+routesChecks l = check number.offTheLine (routesOnLine l) ∷ []
+
+-- all of these, in this order. What needs a table or a placing is the opening's: 2 before them, 19 and 20 after them.
+abbrev pub bookChecks : List ℕ → List Check
+bookChecks b = postsChecks b ++ tracksChecks (lineOf b) ++ trainsChecks b ++ routesChecks (lineOf b)
 
 -- ---- reading a book
 
@@ -112,8 +131,10 @@ unfoldable pub routeBytes : List Route → List ℕ
 routeBytes [] = []
 routeBytes (r ∷ rs) = r .start .0 ∷ r .end .0 ∷ routeBytes rs
 
+-- what stands after the length
+unfoldable pub bodyOf : Line → List ℕ
+bodyOf l =
+    1 ∷ l .posts ∷ tabulate (l .posts) (tracksAt l) ++ (l .trains ∷ routeBytes (tabulate (l .trains) (routeOf l)))
+
 unfoldable pub bytesOf : Line → List ℕ
-bytesOf l =
-    let n = total (l .posts) (l .trains) - 2 in
-    n / 256 ∷ n % 256 ∷ 1 ∷ l .posts
-    ∷ tabulate (l .posts) (tracksAt l) ++ (l .trains ∷ routeBytes (tabulate (l .trains) (routeOf l)))
+bytesOf l = let n = length (bodyOf l) in n / 256 ∷ n % 256 ∷ bodyOf l

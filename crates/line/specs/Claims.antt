@@ -8,7 +8,7 @@ use lib.ListN.{length}
 use Rattle.line.specs.Refusal as number
 use Rattle.line.specs.Sorts.{Line}
 use Rattle.line.specs.Line.{noRoute, routeOf, tracksAt, wellFormed}
-use Rattle.line.specs.Book.{accepted, readBook, outcomeNumber, bytesOf}
+use Rattle.line.specs.Book.{trainsAt, total, accepted, readBook, outcomeNumber, bytesOf}
 
 -- a line whose places for posts from P on and trains from T on are 0
 pub record Padded (l : Line) : Type 0 where
@@ -19,7 +19,7 @@ pub record Padded (l : Line) : Type 0 where
 
 -- the longest book, of eight posts and six trains
 abbrev pub longest : ℕ
-longest = 25
+longest = total (trainsAt 8) 6
 
 -- what is true of a line l that the bytes b are read as
 pub record ReadAs (b : List ℕ) (l : Line) : Type 0 where

@@ -6,11 +6,14 @@ mod route;
 mod sorts;
 pub mod word;
 
+pub use line::LONGEST_BOOK;
 pub use line::Line;
 pub use line::Outcome;
 pub use line::Reading;
+pub use route::NO_ROUTE;
 pub use route::Route;
 pub use route::between;
+pub use route::distance;
 pub use route::next_post;
 pub use route::section;
 pub use sorts::PostNo;

@@ -10,6 +10,9 @@ pub struct Line {
     pub routes: [Route; 6],
 }
 
+// The bytes of the longest book, of eight posts and six trains.
+pub const LONGEST_BOOK: usize = 5 + 8 + 2 * 6;
+
 // Whether a book is read, or the number of its refusal.
 pub enum Outcome {
     Read,

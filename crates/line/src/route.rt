@@ -2,7 +2,7 @@
 ghost use mathlib.Core.Path.{_≡_};
 ghost use mathlib.Core.Bool.{_&&_};
 ghost use lib.Dec.{leb};
-ghost use Rattle.line.specs.Route.{nextPost, sectionOf, between};
+ghost use Rattle.line.specs.Route.{nextPost, sectionOf, distance, between};
 use crate::sorts::PostNo;
 use crate::sorts::SectionNo;
 
@@ -10,6 +10,12 @@ pub struct Route {
     pub start: PostNo,
     pub end: PostNo,
 }
+
+// The route of a train that a line does not have.
+pub const NO_ROUTE: Route = Route {
+    start: PostNo(0),
+    end: PostNo(0),
+};
 
 // The post after `at` on the way to `end`; `end` itself at the end.
 pub fn next_post(at: PostNo, end: PostNo) -> PostNo
@@ -33,6 +39,16 @@ pub fn section(p: PostNo, q: PostNo) -> SectionNo
     } else {
         SectionNo(q.0)
     }
+}
+
+// How many posts lie from `a` to `b`, `a` not counted.
+pub fn distance(a: PostNo, b: PostNo) -> u8
+    ensures { λ r. ⌜ r ≡ distance (a .0) (b .0) ⌝ }
+{
+    if a.0 < b.0 {
+        return b.0 - a.0;
+    }
+    a.0 - b.0
 }
 
 // Whether `at` lies between two posts, both counted.

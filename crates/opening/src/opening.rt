@@ -7,8 +7,8 @@ use journal::Log;
 use journal::Record;
 use journal::log_length;
 use line::Line;
+use line::NO_ROUTE;
 use line::Outcome;
-use line::PostNo;
 use line::Route;
 use line::refusal::NO_WAY_THROUGH;
 use line::refusal::OVERFULL;
@@ -128,8 +128,5 @@ fn fresh(route: Route) -> Train
 fn no_train() -> Train
     ensures { λ r. ⌜ r ≡ noTrain ⌝ }
 {
-    fresh(Route {
-        start: PostNo(0),
-        end: PostNo(0),
-    })
+    fresh(NO_ROUTE)
 }

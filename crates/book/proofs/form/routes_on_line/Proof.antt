@@ -21,27 +21,12 @@ abbrev μ-loop : tie.MeasureT-loop
 loop-holds : tie.Need-loop-holds Inv-loop μ-loop
 loop-holds c = passing-none _ _
 
-cast-loop : tie.Need-cast-loop Inv-loop μ-loop
-cast-loop c = omega arith
-
-mul-route : tie.Need-mul-route Inv-loop μ-loop
-mul-route c = omega arith
-
-element-copy-out-route : tie.Need-element-copy-out-route Inv-loop μ-loop
-element-copy-out-route c = omega arith
-
 returns : tie.Need-returns Inv-loop μ-loop
 returns c = passing-fails (c .before .before .before .before .loop .inv) (omega arith) (off-start _ _ _ (c .if1 .taken))
 
 returns-2 : tie.Need-returns-2 Inv-loop μ-loop
 returns-2 c = passing-fails (c .before .before .before .before .before .before .loop .inv) (omega arith)
     (off-end _ _ _ (c .if2 .taken))
-
-add-t : tie.Need-add-t Inv-loop μ-loop
-add-t c = omega arith
-
-loop-less : tie.Need-loop-less Inv-loop μ-loop
-loop-less c = omega arith
 
 loop-again : tie.Need-loop-again Inv-loop μ-loop
 loop-again c =
@@ -58,12 +43,12 @@ routes-on-line-spec =
     Inv-loop
     μ-loop
     loop-holds
-    cast-loop
-    mul-route
-    element-copy-out-route
+    (λ c. omega arith)
+    (λ c. omega arith)
+    (λ c. omega arith)
     returns
     returns-2
-    add-t
-    loop-less
+    (λ c. omega arith)
+    (λ c. omega arith)
     loop-again
     returns-3)

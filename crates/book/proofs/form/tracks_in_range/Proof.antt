@@ -16,24 +16,12 @@ abbrev μ-loop : tie.MeasureT-loop
 loop-holds : tie.Need-loop-holds Inv-loop μ-loop
 loop-holds c = passing-none _ _
 
-cast-loop : tie.Need-cast-loop Inv-loop μ-loop
-cast-loop c = omega arith
-
-element-copy-out-tracks : tie.Need-element-copy-out-tracks Inv-loop μ-loop
-element-copy-out-tracks c = omega arith
-
 returns : tie.Need-returns Inv-loop μ-loop
 returns c = passing-fails (c .before .before .before .loop .inv) (omega arith) (below-range 1 4 _ (c .if1 .taken))
 
 returns-2 : tie.Need-returns-2 Inv-loop μ-loop
 returns-2 c = passing-fails (c .before .before .before .before .loop .inv) (omega arith)
     (above-range 1 4 _ (c .if2 .taken))
-
-add-p : tie.Need-add-p Inv-loop μ-loop
-add-p c = omega arith
-
-loop-less : tie.Need-loop-less Inv-loop μ-loop
-loop-less c = omega arith
 
 loop-again : tie.Need-loop-again Inv-loop μ-loop
 loop-again c = passing-more (c .before .before .before .before .loop .inv) (omega arith)
@@ -49,11 +37,11 @@ tracks-in-range-spec =
     Inv-loop
     μ-loop
     loop-holds
-    cast-loop
-    element-copy-out-tracks
+    (λ c. omega arith)
+    (λ c. omega arith)
     returns
     returns-2
-    add-p
-    loop-less
+    (λ c. omega arith)
+    (λ c. omega arith)
     loop-again
     returns-3)

@@ -17,9 +17,6 @@ returns c = posts-fail _ (below-range 2 8 _ (c .if1 .taken))
 returns-2 : tie.Need-returns-2
 returns-2 c = posts-fail _ (above-range 2 8 _ (c .if2 .taken))
 
-tracks-in-range-requires : tie.Need-tracks-in-range-requires
-tracks-in-range-requires c κs = search needs
-
 returns-3 : tie.Need-returns-3
 returns-3 c =
     let line = c .before .before .before .before .before .before .args .line in
@@ -44,9 +41,6 @@ returns-5 : tie.Need-returns-5
 returns-5 c = let p = c .before .before .before .before in trains-fail (line p) (posts p) (tracks p)
     (above-range 1 6 _ (c .if5 .taken))
 
-routes-on-line-requires : tie.Need-routes-on-line-requires
-routes-on-line-requires c κs = search needs
-
 returns-6 : tie.Need-returns-6
 returns-6 c =
     let p = c .before .before .before .before .before in
@@ -59,9 +53,9 @@ well-formed-spec =
     (tie.spec
     returns
     returns-2
-    tracks-in-range-requires
+    (λ c κs. search needs)
     returns-3
     returns-4
     returns-5
-    routes-on-line-requires
+    (λ c κs. search needs)
     returns-6)

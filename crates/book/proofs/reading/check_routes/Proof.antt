@@ -6,9 +6,6 @@ use Rattle.book.proofs.Stages.{routes-off, routes-passed}
 use Rattle.book.proofs.reading.check_routes.Statement.{statement}
 use Rattle.book.proofs.reading.check_routes.Tie as tie
 
-routes-on-line-requires : tie.Need-routes-on-line-requires
-routes-on-line-requires c κs = search needs
-
 returns : tie.Need-returns
 returns c = routes-off _ (sym (c .before .routes-on-line .ensures) ∙ not-true _ (c .if1 .taken))
 
@@ -16,4 +13,4 @@ returns-2 : tie.Need-returns-2
 returns-2 c = routes-passed _ (sym (c .before .routes-on-line .ensures) ∙ not-false _ (c .if1 .left))
 
 pub check-routes-spec : {M : Type 1} → statement M
-check-routes-spec = tie.close (tie.spec routes-on-line-requires returns returns-2)
+check-routes-spec = tie.close (tie.spec (λ c κs. search needs) returns returns-2)

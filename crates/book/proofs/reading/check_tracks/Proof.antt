@@ -6,9 +6,6 @@ use Rattle.book.proofs.Stages.{tracks-range, tracks-passed}
 use Rattle.book.proofs.reading.check_tracks.Statement.{statement}
 use Rattle.book.proofs.reading.check_tracks.Tie as tie
 
-tracks-in-range-requires : tie.Need-tracks-in-range-requires
-tracks-in-range-requires c κs = search needs
-
 returns : tie.Need-returns
 returns c = tracks-range _ (sym (c .before .tracks-in-range .ensures) ∙ not-true _ (c .if1 .taken))
 
@@ -16,4 +13,4 @@ returns-2 : tie.Need-returns-2
 returns-2 c = tracks-passed _ (sym (c .before .tracks-in-range .ensures) ∙ not-false _ (c .if1 .left))
 
 pub check-tracks-spec : {M : Type 1} → statement M
-check-tracks-spec = tie.close (tie.spec tracks-in-range-requires returns returns-2)
+check-tracks-spec = tie.close (tie.spec (λ c κs. search needs) returns returns-2)

@@ -26,7 +26,7 @@ abbrev from-tracks : tie.After-enum-told2 → tie.After-known-told
 from-tracks c = c .before .before .before .before .before
 
 abbrev from-trains : tie.After-known-told2 → tie.After-enum-told2
-from-trains c = c .before .before .before .before
+from-trains c = c .before .before .before .before .before
 
 counts : (c : tie.After-enum-told2) → let b = bookAt (from-tracks c) in Left b (afterTracks b)
 counts c =
@@ -34,47 +34,28 @@ counts c =
     let filled = a .before .read-tracks .ensures in
     tracks-read _ (posts (from-tracks c)) _ refl filled (a .check-tracks .ensures) (c .enum-told2 .given .1)
 
+-- where the number of trains stands
+abbrev placeOf : tie.After-known-told2 → ℕ
+placeOf c = c .before .before .before .before .trains-at .result
+
 trains : (c : tie.After-known-told2)
-    → let a = from-tracks (from-trains c) in TrainsRead (bookAt a) (postsAt a) (c .before .number .given .0 .0)
+    → let a = from-tracks (from-trains c) in TrainsRead (bookAt a) (placeOf c) (c .before .number .given .0 .0)
 trains c =
     let a = from-trains c in
+    let p = posts (from-tracks a) in
     let number = c .before .before .before .read-trains .ensures in
-    trains-read _ (posts (from-tracks a)) (counts a) number (c .before .number .given .1)
-
-read-posts-requires : tie.Need-read-posts-requires
-read-posts-requires c κs = search needs
-
-enum-known-header : tie.Need-enum-known-header
-enum-known-header c = search needs
-
-enum-told : tie.Need-enum-told
-enum-told c = search needs
-
-refused-requires : tie.Need-refused-requires
-refused-requires c κs = search needs
+    trains-read _ p (counts a) number (c .before .number .given .1) (placeOf c) (omega arith)
 
 returns : tie.Need-returns
 returns c =
     let a = c .before in
     c .refused .ensures ∙ posts-refused _ (a .before .before .read-posts .ensures) (a .enum-told .given .1)
 
-empty-line-requires : tie.Need-empty-line-requires
-empty-line-requires c κs = search needs
-
 read-tracks-requires : tie.Need-read-tracks-requires
-read-tracks-requires c κs = (posts (c .before) .few, posts (c .before) .room)
+read-tracks-requires c κs = let p = posts (c .before) in (p .few, omega arith)
 
 check-tracks-requires : tie.Need-check-tracks-requires
 check-tracks-requires c κs = posts (c .before .before) .few
-
-enum-told-2 : tie.Need-enum-told-2
-enum-told-2 c = search needs
-
-enum-told-3 : tie.Need-enum-told-3
-enum-told-3 c = search needs
-
-refused-requires-2 : tie.Need-refused-requires-2
-refused-requires-2 c κs = search needs
 
 returns-2 : tie.Need-returns-2
 returns-2 c =
@@ -84,22 +65,13 @@ returns-2 c =
     c .refused2 .ensures ∙ tracks-refused _ p _ refl filled (a .check-tracks .ensures) (c .before .enum-told3 .given .1)
 
 read-trains-requires : tie.Need-read-trains-requires
-read-trains-requires c κs = (posts (from-tracks c) .is, posts (from-tracks c) .room)
-
-enum-known-number : tie.Need-enum-known-number
-enum-known-number c = search needs
-
-enum-told-4 : tie.Need-enum-told-4
-enum-told-4 c = search needs
-
-refused-requires-3 : tie.Need-refused-requires-3
-refused-requires-3 c κs = search needs
+read-trains-requires c κs = let p = posts (from-tracks (c .before)) in (omega arith, omega arith)
 
 returns-3 : tie.Need-returns-3
 returns-3 c =
     let a = c .before .before .before in
-    let p = posts (from-tracks (a .before)) in
-    let k = counts (a .before) in
+    let p = posts (from-tracks (a .before .before)) in
+    let k = counts (a .before .before) in
     c .refused3 .ensures ∙ trains-refused _ p k (a .read-trains .ensures) (c .before .enum-told4 .given .1)
 
 read-routes-requires : tie.Need-read-routes-requires
@@ -107,15 +79,6 @@ read-routes-requires c κs = let r = trains c in (r .few, omega arith)
 
 check-routes-requires : tie.Need-check-routes-requires
 check-routes-requires c κs = trains (c .before) .few
-
-enum-told-5 : tie.Need-enum-told-5
-enum-told-5 c = search needs
-
-enum-told-6 : tie.Need-enum-told-6
-enum-told-6 c = search needs
-
-refused-requires-4 : tie.Need-refused-requires-4
-refused-requires-4 c κs = search needs
 
 returns-4 : tie.Need-returns-4
 returns-4 c =
@@ -142,27 +105,28 @@ pub read-spec : {M : Type 1} → statement M
 read-spec =
     tie.close
     (tie.spec
-    read-posts-requires
-    enum-known-header
-    enum-told
-    refused-requires
+    (λ c κs. search needs)
+    (λ c. search needs)
+    (λ c. search needs)
+    (λ c κs. search needs)
     returns
-    empty-line-requires
+    (λ c κs. search needs)
     read-tracks-requires
     check-tracks-requires
-    enum-told-2
-    enum-told-3
-    refused-requires-2
+    (λ c. search needs)
+    (λ c. search needs)
+    (λ c κs. search needs)
     returns-2
+    (λ c κs. search needs)
     read-trains-requires
-    enum-known-number
-    enum-told-4
-    refused-requires-3
+    (λ c. search needs)
+    (λ c. search needs)
+    (λ c κs. search needs)
     returns-3
     read-routes-requires
     check-routes-requires
-    enum-told-5
-    enum-told-6
-    refused-requires-4
+    (λ c. search needs)
+    (λ c. search needs)
+    (λ c κs. search needs)
     returns-4
     returns-5)

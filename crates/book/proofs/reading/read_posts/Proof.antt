@@ -9,7 +9,7 @@ use denote.Ref.{now}
 use borrow.Author.Needs.{needs}
 use borrow.Author.Tests.{not-true, not-false}
 use Rattle.line.specs.Line.{inRange}
-use Rattle.line.specs.Book.{postsAt, named, postsOf}
+use Rattle.line.specs.Book.{named, postsOf}
 use Rattle.book.proofs.Stages.{posts-short, posts-torn, posts-edition, posts-range, posts-room, posts-passed}
 use Rattle.book.proofs.reading.read_posts.Statement.{statement}
 use Rattle.book.proofs.reading.read_posts.Tie as tie
@@ -34,35 +34,11 @@ range c = sym (c .before .in-range .ensures) ∙ not-false _ (c .if4 .left)
 returns : tie.Need-returns
 returns c = posts-short _ (c .if1 .taken)
 
-shared-slice-read-word : tie.Need-shared-slice-read-word
-shared-slice-read-word c = search needs
-
-shared-slice-read-word-2 : tie.Need-shared-slice-read-word-2
-shared-slice-read-word-2 c = search needs
-
-word-requires : tie.Need-word-requires
-word-requires c κs = search needs
-
-cast-if2 : tie.Need-cast-if2
-cast-if2 c = search needs
-
-add-if2 : tie.Need-add-if2
-add-if2 c = search needs
-
 returns-2 : tie.Need-returns-2
 returns-2 c = posts-torn _ (λ e. c .if2 .taken (rw (c .before .word .ensures) e))
 
-shared-slice-read-if3 : tie.Need-shared-slice-read-if3
-shared-slice-read-if3 c = search needs
-
 returns-3 : tie.Need-returns-3
 returns-3 c = posts-edition _ (long (c .before .before)) (right (c .before .before)) (c .if3 .taken)
-
-shared-slice-read-posts : tie.Need-shared-slice-read-posts
-shared-slice-read-posts c = search needs
-
-in-range-requires : tie.Need-in-range-requires
-in-range-requires c κs = search needs
 
 returns-4 : tie.Need-returns-4
 returns-4 c =
@@ -70,41 +46,34 @@ returns-4 c =
     let off = sym (c .before .in-range .ensures) ∙ not-true _ (c .if4 .taken) in
     posts-range _ (long a) (right a) (c .before .before .before .if3 .left) off
 
-cast-if5 : tie.Need-cast-if5
-cast-if5 c = omega (arith, c .before .before .shared-slice-known5 .given postsAt)
-
-add-if5 : tie.Need-add-if5
-add-if5 c = omega (arith, c .before .before .shared-slice-known5 .given postsAt)
-
 returns-5 : tie.Need-returns-5
 returns-5 c =
-    let e = c .before in
+    let e = c .before .before in
     let a = from-range e in
-    posts-room _ (long a) (right a) (e .before .before .before .if3 .left) (range e) (c .if5 .taken)
+    posts-room _ (long a) (right a) (e .before .before .before .if3 .left) (range e) (omega arith)
 
 returns-6 : tie.Need-returns-6
 returns-6 c =
-    let e = c .before in
+    let e = c .before .before in
     let a = from-range e in
-    posts-passed _ (long a) (right a) (e .before .before .before .if3 .left) (range e) (c .if5 .left)
+    posts-passed _ (long a) (right a) (e .before .before .before .if3 .left) (range e) (omega arith)
 
 pub read-posts-spec : {M : Type 1} → statement M
 read-posts-spec =
     tie.close
     (tie.spec
     returns
-    shared-slice-read-word
-    shared-slice-read-word-2
-    word-requires
-    cast-if2
-    add-if2
+    (λ c. search needs)
+    (λ c. search needs)
+    (λ c κs. search needs)
+    (λ c. search needs)
+    (λ c. search needs)
     returns-2
-    shared-slice-read-if3
+    (λ c. search needs)
     returns-3
-    shared-slice-read-posts
-    in-range-requires
+    (λ c. search needs)
+    (λ c κs. search needs)
     returns-4
-    cast-if5
-    add-if5
+    (λ c κs. search needs)
     returns-5
     returns-6)

@@ -11,43 +11,13 @@ use Rattle.book.proofs.reading.read_routes.Statement.{statement}
 use Rattle.book.proofs.reading.read_routes.Tie as tie
 
 abbrev Inv-loop : tie.InvT-loop
-Inv-loop book posts trains routes₀ t₀ routes t = (t ≤ trains) × (routes ≡ padded 6 t (routeIn book posts) noRoute)
+Inv-loop book at trains routes₀ t₀ routes t = (t ≤ trains) × (routes ≡ padded 6 t (routeIn book at) noRoute)
 
 abbrev μ-loop : tie.MeasureT-loop
-μ-loop book posts trains routes₀ t₀ routes t = trains - t
+μ-loop book at trains routes₀ t₀ routes t = trains - t
 
 loop-holds : tie.Need-loop-holds Inv-loop μ-loop
 loop-holds c = (omega arith, padded-none 6 _ noRoute)
-
-add-at : tie.Need-add-at Inv-loop μ-loop
-add-at c = omega arith
-
-mul-at : tie.Need-mul-at Inv-loop μ-loop
-mul-at c = omega arith
-
-add-at-2 : tie.Need-add-at-2 Inv-loop μ-loop
-add-at-2 c = omega arith
-
-shared-slice-read-t15 : tie.Need-shared-slice-read-t15 Inv-loop μ-loop
-shared-slice-read-t15 c = omega arith
-
-add-t10 : tie.Need-add-t10 Inv-loop μ-loop
-add-t10 c = omega arith
-
-shared-slice-read-t18 : tie.Need-shared-slice-read-t18 Inv-loop μ-loop
-shared-slice-read-t18 c = omega arith
-
-mul-routes : tie.Need-mul-routes Inv-loop μ-loop
-mul-routes c = omega arith
-
-array-set-from-routes : tie.Need-array-set-from-routes Inv-loop μ-loop
-array-set-from-routes c = omega arith
-
-add-t : tie.Need-add-t Inv-loop μ-loop
-add-t c = omega arith
-
-loop-less : tie.Need-loop-less Inv-loop μ-loop
-loop-less c = omega arith
 
 loop-again : tie.Need-loop-again Inv-loop μ-loop
 loop-again c =
@@ -66,15 +36,15 @@ read-routes-spec =
     Inv-loop
     μ-loop
     loop-holds
-    add-at
-    mul-at
-    add-at-2
-    shared-slice-read-t15
-    add-t10
-    shared-slice-read-t18
-    mul-routes
-    array-set-from-routes
-    add-t
-    loop-less
+    (λ c. omega arith)
+    (λ c. omega arith)
+    (λ c. omega arith)
+    (λ c. omega arith)
+    (λ c. omega arith)
+    (λ c. omega arith)
+    (λ c. omega arith)
+    (λ c. omega arith)
+    (λ c. omega arith)
+    (λ c. omega arith)
     loop-again
     returns)

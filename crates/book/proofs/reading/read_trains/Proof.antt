@@ -7,39 +7,25 @@ use denote.Ref.{now}
 use borrow.Author.Needs.{needs}
 use borrow.Author.Tests.{not-true, not-false}
 use Rattle.line.specs.Line.{inRange}
-use Rattle.line.specs.Book.{byteAt, trainsAt}
+use Rattle.line.specs.Book.{postsAt, byteAt}
 use Rattle.book.proofs.Stages.{trains-range, trains-total, trains-passed}
 use Rattle.book.proofs.reading.read_trains.Statement.{statement}
 use Rattle.book.proofs.reading.read_trains.Tie as tie
 
 -- the number of trains, once it is in range
 abbrev number : tie.Else1 → ℕ
-number c = let a = c .before .before .before .before .args in byteAt (now (a .book)) (trainsAt (a .posts))
+number c = let a = c .before .before .before .before .args in byteAt (now (a .book)) (a .at)
 
 small : (c : tie.Else1) → number c < 256
-small c =
-    let a = c .before .before .before in
-    omega (arith, a .shared-slice-known .given (trainsAt (a .before .args .posts)))
+small c = let a = c .before .before .before in omega (arith, a .shared-slice-known .given (a .before .args .at))
 
 range : (c : tie.Else1) → inRange 1 6 (number c) ≡ true
 range c = sym (c .before .in-range .ensures) ∙ not-false _ (c .if1 .left)
-
-add-trains : tie.Need-add-trains
-add-trains c = search needs
-
-shared-slice-read-trains : tie.Need-shared-slice-read-trains
-shared-slice-read-trains c = search needs
-
-in-range-requires : tie.Need-in-range-requires
-in-range-requires c κs = search needs
 
 returns : tie.Need-returns
 returns c =
     let off = sym (c .before .in-range .ensures) ∙ not-true _ (c .if1 .taken) in
     trains-range _ (c .before .before .before .before .pre .0) off
-
-add-if2 : tie.Need-add-if2
-add-if2 c = search needs
 
 cast-if2 : tie.Need-cast-if2
 cast-if2 c = omega (arith, small c)
@@ -48,7 +34,7 @@ mul-if2 : tie.Need-mul-if2
 mul-if2 c = omega (arith, small c)
 
 add-if2-2 : tie.Need-add-if2-2
-add-if2-2 c = omega (arith, small c)
+add-if2-2 c = omega (arith, small c, c .before .before .before .shared-slice-known .given postsAt)
 
 returns-2 : tie.Need-returns-2
 returns-2 c =
@@ -64,11 +50,10 @@ pub read-trains-spec : {M : Type 1} → statement M
 read-trains-spec =
     tie.close
     (tie.spec
-    add-trains
-    shared-slice-read-trains
-    in-range-requires
+    (λ c. search needs)
+    (λ c κs. search needs)
     returns
-    add-if2
+    (λ c. search needs)
     cast-if2
     mul-if2
     add-if2-2
