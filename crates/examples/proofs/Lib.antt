@@ -1,3 +1,4 @@
 -- The examples, worked out.
 pub mod Examples
+pub mod Books
 pub mod Further

@@ -2,4 +2,5 @@
 -- runs. Read in this order.
 pub mod Reading
 pub mod Examples
+pub mod Books
 pub mod Further

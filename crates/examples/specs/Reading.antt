@@ -1,6 +1,6 @@
--- How the examples are read: books are opened with blank stores, frames are put to the box with these or with others,
--- and the answers are read from the out buffers. The `unfolding` lines say which definitions are worked out where these
--- are evaluated.
+-- How the examples are read: books are read alone or opened with blank stores, frames are put to the box with these or
+-- with others, and the answers are read from the out buffers. The `unfolding` lines say which definitions are worked
+-- out where these are evaluated.
 use mathlib.Core.List.{List, map}
 use Prim.Native.Nat.{ℕ}
 use lib.ListN.{take, replicate}
@@ -12,7 +12,8 @@ use Rattle.common.specs.Tabulate.{valuesFrom, padded}
 use Rattle.common.specs.Update.{update}
 use Rattle.line.specs.Route.{nextPost, between, postAfter}
 use Rattle.line.specs.Line.{wellFormed}
-use Rattle.line.specs.Book.{lineOf}
+use Rattle.line.specs.declared.line.Reading.{Reading}
+use Rattle.line.specs.Book.{lineOf, readBook, outcomeNumber}
 use Rattle.frame.specs.Frame.{moveOf, messageOf, readFrame, bytesOf}
 use Rattle.journal.specs.Journal.{journalLength, blank, recordOf}
 use Rattle.completion.specs.Configuration.{codeBelow, within, fits, arrived, feasible}
@@ -39,7 +40,16 @@ afe t p q = Afe (moveOf t p q)
 abbrev pub am : ℕ → ℕ → ℕ → Message
 am t p q = Am (moveOf t p q)
 
--- ---- openings
+-- ---- books read alone, and openings
+
+unfoldable pub readAlone : List ℕ → Reading
+unfolding readBook refusal unlessRefused valuesFrom padded allBelow
+readAlone book = readBook book
+
+-- the number by which each is refused; 0 where it is read
+unfoldable pub numbersOf : List (List ℕ) → List ℕ
+unfolding readAlone
+numbersOf books = map (λ b. outcomeNumber (readAlone b .outcome)) books
 
 -- the opening of a book with blank stores
 unfoldable pub opened : List ℕ → Opening

@@ -3,4 +3,3 @@ pub mod Travel
 pub mod WellFormed
 pub mod Bytes
 pub mod Claims
-mod Examples

@@ -1,2 +1,0 @@
--- The examples at the table, evaluated.
-pub mod Examples
