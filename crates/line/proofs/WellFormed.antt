@@ -61,12 +61,12 @@ module _ (l : Line) where
       → (postsInRange l ≡ true) × (tracksInRange l ≡ true) × (trainsInRange l ≡ true) × (routesOnLine l ≡ true)
   unfolding wellFormed
   formed-parts h =
-      let rest = and-right (postsInRange l) (tracksInRange l && (trainsInRange l && routesOnLine l)) h in
-      let last = and-right (tracksInRange l) (trainsInRange l && routesOnLine l) rest in (
-        and-left (postsInRange l) (tracksInRange l && (trainsInRange l && routesOnLine l)) h,
-        and-left (tracksInRange l) (trainsInRange l && routesOnLine l) rest,
-        and-left (trainsInRange l) (routesOnLine l) last,
-        and-right (trainsInRange l) (routesOnLine l) last,
+      let rest = and-right (postsInRange l) _ h in
+      let last = and-right (tracksInRange l) _ rest in (
+        and-left (postsInRange l) _ h,
+        and-left (tracksInRange l) _ rest,
+        and-left (trainsInRange l) _ last,
+        and-right (trainsInRange l) _ last,
       )
 
   pub well-formed : wellFormed l ≡ true → WellFormed l

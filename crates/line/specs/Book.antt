@@ -36,7 +36,7 @@ startAt a t = a + 1 + 2 * t
 abbrev pub endAt : ℕ → ℕ → ℕ
 endAt a t = startAt a t + 1
 
--- "Total 5 + P + 2T bytes.": the routes of all T trains come last
+-- "Total 5 + P + 2T bytes.": up to where a further train's start would stand
 abbrev pub total : ℕ → ℕ → ℕ
 total a t = startAt a t
 
