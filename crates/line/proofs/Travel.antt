@@ -118,6 +118,12 @@ module _ (r : Route) where
   unfolding postAfter
   post-start = by-cases (leb (r .start .0) (r .end .0)) (λ h. rw h (omega arith)) (λ h. rw h (omega arith))
 
+  pub post-end : postAfter r (routeLength r) ≡ r .end .0
+  unfolding postAfter
+  post-end = by-cases (leb (r .start .0) (r .end .0))
+      (λ up. let z = leb-true (r .start .0) (r .end .0) up in rw up (omega arith))
+      (λ down. let z = leb-false (r .start .0) (r .end .0) down in rw down (omega arith))
+
   -- a post reached within the route lies on it
   pub post-between : (k : ℕ) → k ≤ routeLength r → Between (r .start .0) (postAfter r k) (r .end .0)
   unfolding postAfter
