@@ -15,11 +15,11 @@ use Rattle.common.proofs.Part.{length-replaced}
 use Rattle.common.proofs.Tabulate.{length-tabulate, length-padded}
 use Rattle.frame.specs.Frame.{readFrame}
 use Rattle.journal.specs.Journal.{journalLength}
-use Rattle.unit.specs.Making.{makeUnit}
-use Rattle.unit.specs.Pressing.{carriedOut, pressButton}
-use Rattle.unit.specs.Hearing.{hearFrame}
-use Rattle.unit.proofs.Outcomes as outcomes
-use Rattle.unit.proofs.Validity.{validity}
+use Rattle.driver.specs.Making.{makeUnit}
+use Rattle.driver.specs.Pressing.{carriedOut, pressButton}
+use Rattle.driver.specs.Hearing.{hearFrame}
+use Rattle.driver.proofs.Outcomes as outcomes
+use Rattle.driver.proofs.Validity.{validity}
 use Rattle.rules.specs.Answer.{Answer, answer, mostLogged}
 use Rattle.rules.specs.Opening.{Opening, openingWith}
 use Rattle.rules.proofs.Acceptance.{Taken, request, arrival, by-verdict, refusal-leaves, accepted-facts}

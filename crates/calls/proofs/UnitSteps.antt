@@ -13,10 +13,10 @@ use Rattle.common.specs.Part.{replaced, replacedIfRoom}
 use Rattle.common.proofs.Part.{replaced-if}
 use Rattle.common.proofs.Check.{none, stop, pass, refusal-is, passed-at, accepts, refuses}
 use Rattle.line.specs.Refusal.{strangeState, shortStore, notNow}
-use Rattle.unit.specs.State.{validUnit}
-use Rattle.unit.specs.Making.{makeUnit}
-use Rattle.unit.specs.Pressing.{pressButton}
-use Rattle.unit.specs.Hearing.{hearFrame}
+use Rattle.driver.specs.State.{validUnit}
+use Rattle.driver.specs.Making.{makeUnit}
+use Rattle.driver.specs.Pressing.{pressButton}
+use Rattle.driver.specs.Hearing.{hearFrame}
 use Rattle.calls.specs.Types.{Button, Unit, Made, Heard, Pressed}
 use Rattle.calls.specs.Word.{wordOf}
 use Rattle.encoding.specs.UnitBytes.{unitLength, unitBytes, encodesUnit, unitIn, buttonOf}

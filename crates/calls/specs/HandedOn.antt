@@ -7,9 +7,9 @@ use mathlib.Core.List.{List}
 use Prim.Native.Nat.{ℕ}
 use lib.ListN.{length}
 use Rattle.common.specs.Check.{refusal}
-use Rattle.unit.specs.Making.{makeUnit}
-use Rattle.unit.specs.Pressing.{pressButton}
-use Rattle.unit.specs.Hearing.{hearFrame}
+use Rattle.driver.specs.Making.{makeUnit}
+use Rattle.driver.specs.Pressing.{pressButton}
+use Rattle.driver.specs.Hearing.{hearFrame}
 use Rattle.rules.specs.Answer.{Answer, answer}
 use Rattle.rules.specs.Opening.{openingWith}
 use Rattle.calls.specs.Types.{Unit, State, RefusedBy}

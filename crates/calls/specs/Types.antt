@@ -1,10 +1,10 @@
 -- The declared types that the calls speak of, under one module.
-pub use Rattle.unit.specs.declared.state.Button.{Button}
-pub use Rattle.unit.specs.declared.state.Button.the-variants.{Ask, Depart, Reached, Report}
-pub use Rattle.unit.specs.declared.state.Unit.{Unit}
-pub use Rattle.unit.specs.declared.making.Made.{Made}
-pub use Rattle.unit.specs.declared.hearing.Heard.{Heard}
-pub use Rattle.unit.specs.declared.pressing.Pressed.{Pressed}
+pub use Rattle.driver.specs.declared.state.Button.{Button}
+pub use Rattle.driver.specs.declared.state.Button.the-variants.{Ask, Depart, Reached, Report}
+pub use Rattle.driver.specs.declared.state.Unit.{Unit}
+pub use Rattle.driver.specs.declared.result.Made.{Made}
+pub use Rattle.driver.specs.declared.result.Heard.{Heard}
+pub use Rattle.driver.specs.declared.result.Pressed.{Pressed}
 pub use Rattle.line.specs.declared.line.Line.{Line}
 pub use Rattle.line.specs.declared.line.Reading.{Reading}
 pub use Rattle.frame.specs.declared.message.Message.{Message}

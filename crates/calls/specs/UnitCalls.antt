@@ -9,10 +9,10 @@ use Rattle.common.specs.Check.{Check, check, refusal, unlessRefused}
 use Rattle.common.specs.Part.{replaced}
 use Rattle.line.specs.Refusal.{strangeState, shortStore, notNow}
 use Rattle.calls.specs.Types.{Unit, Pressed}
-use Rattle.unit.specs.State.{validUnit}
-use Rattle.unit.specs.Making.{makeUnit}
-use Rattle.unit.specs.Pressing.{pressButton}
-use Rattle.unit.specs.Hearing.{hearFrame}
+use Rattle.driver.specs.State.{validUnit}
+use Rattle.driver.specs.Making.{makeUnit}
+use Rattle.driver.specs.Pressing.{pressButton}
+use Rattle.driver.specs.Hearing.{hearFrame}
 use Rattle.calls.specs.Word.{wordOf}
 use Rattle.encoding.specs.UnitBytes.{unitLength, unitBytes, encodesUnit, unitIn, buttonOf}
 

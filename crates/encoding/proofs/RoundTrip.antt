@@ -16,7 +16,7 @@ use Rattle.common.proofs.Below.{all-below, below-all}
 use Rattle.common.proofs.Tabulate.{length-tabulate, at-tabulate, tabulate-cong}
 use Rattle.line.specs.Book.{byteAt}
 use Rattle.journal.specs.Journal.{blank}
-use Rattle.unit.specs.State.{phaseNo}
+use Rattle.driver.specs.State.{phaseNo}
 use Rattle.rules.specs.State.{askedAs, noTrain, trainOf}
 use Rattle.encoding.specs.Types.{Phase, Standing, Asked, Declined, Granted, UnderWay, Arrived, Unit}
 use Rattle.encoding.specs.Types.{Status, Free, AskedAs, Running, Train, State, Record}

@@ -1,10 +1,10 @@
 -- The declared types that the layouts speak of, under one module.
-pub use Rattle.unit.specs.declared.state.Phase.{Phase}
-pub use Rattle.unit.specs.declared.state.Phase.the-variants.{Standing, Asked, Declined}
-pub use Rattle.unit.specs.declared.state.Phase.the-variants.{Granted, UnderWay, Arrived}
-pub use Rattle.unit.specs.declared.state.Button.{Button}
-pub use Rattle.unit.specs.declared.state.Button.the-variants.{Ask, Depart, Reached, Report}
-pub use Rattle.unit.specs.declared.state.Unit.{Unit}
+pub use Rattle.driver.specs.declared.state.Phase.{Phase}
+pub use Rattle.driver.specs.declared.state.Phase.the-variants.{Standing, Asked, Declined}
+pub use Rattle.driver.specs.declared.state.Phase.the-variants.{Granted, UnderWay, Arrived}
+pub use Rattle.driver.specs.declared.state.Button.{Button}
+pub use Rattle.driver.specs.declared.state.Button.the-variants.{Ask, Depart, Reached, Report}
+pub use Rattle.driver.specs.declared.state.Unit.{Unit}
 pub use Rattle.line.specs.declared.route.Route.{Route}
 pub use Rattle.line.specs.declared.line.Line.{Line}
 pub use Rattle.journal.specs.declared.record.Record.{Record}

@@ -7,7 +7,7 @@ use lib.ListN.{length}
 use Rattle.line.specs.Book.{byteAt, route}
 use Rattle.encoding.specs.Types.{Phase, Standing, Asked, Declined, Granted, UnderWay, Arrived}
 use Rattle.encoding.specs.Types.{Button, Ask, Depart, Reached, Report, Unit}
-use Rattle.unit.specs.State.{phaseNo}
+use Rattle.driver.specs.State.{phaseNo}
 
 abbrev pub unitLength : ℕ
 unitLength = 5

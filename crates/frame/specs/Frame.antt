@@ -10,6 +10,22 @@ use Rattle.line.specs.Line.{inRange}
 use Rattle.line.specs.Refusal.{tornFrame, otherEdition, unknownKind}
 use Rattle.frame.specs.Types.{Move, Message, Fa, Fe, Afe, Am, Refused}
 
+abbrev pub frameLength : ℕ
+frameLength = 7
+
+-- "Kinds: kind 1 FA, 2 FE, 3 AFE, 4 AM"
+abbrev pub FA : ℕ
+FA = 1
+
+abbrev pub FE : ℕ
+FE = 2
+
+abbrev pub AFE : ℕ
+AFE = 3
+
+abbrev pub AM : ℕ
+AM = 4
+
 abbrev pub moveOf : ℕ → ℕ → ℕ → Move
 moveOf t p q = record { train = record { 0 = t }; from = record { 0 = p }; to = record { 0 = q } }
 
@@ -18,18 +34,18 @@ moveOf t p q = record { train = record { 0 = t }; from = record { 0 = p }; to = 
 -- "Reading checks 3, 4, 5 in that order."
 abbrev pub readChecks : List ℕ → List Check
 readChecks f =
-    check tornFrame (eqb (length f) 7 && eqb (word (getD f 0 0) (getD f 1 0)) 5)
+    check tornFrame (eqb (length f) frameLength && eqb (word (getD f 0 0) (getD f 1 0)) 5)
     ∷ check otherEdition (eqb (getD f 2 0) 1)
-    ∷ check unknownKind (inRange 1 4 (getD f 3 0))
+    ∷ check unknownKind (inRange FA AM (getD f 3 0))
     ∷ []
 
--- "Kinds: kind 1 FA, 2 FE, 3 AFE, 4 AM"
+-- the message of a kind
 unfoldable pub messageOf : ℕ → Move → Message
 messageOf k m =
-    cond (eqb k 1) (Fa m)
-    (cond (eqb k 2) (Fe m)
-    (cond (eqb k 3) (Afe m)
-    (cond (eqb k 4) (Am m) (Refused unknownKind))))
+    cond (eqb k FA) (Fa m)
+    (cond (eqb k FE) (Fe m)
+    (cond (eqb k AFE) (Afe m)
+    (cond (eqb k AM) (Am m) (Refused unknownKind))))
 
 -- "A frame reads as one of four messages or as a refusal."
 unfoldable pub readFrame : List ℕ → Message
@@ -45,8 +61,8 @@ frameBytes k m = 0 ∷ 5 ∷ 1 ∷ k ∷ m .train .0 ∷ m .from .0 ∷ m .to .0
 
 -- the seven bytes of a message; zeros for a refusal, which is none
 unfoldable pub bytesOf : Message → List ℕ
-bytesOf (Fa m) = frameBytes 1 m
-bytesOf (Fe m) = frameBytes 2 m
-bytesOf (Afe m) = frameBytes 3 m
-bytesOf (Am m) = frameBytes 4 m
-bytesOf (Refused n) = replicate 7 0
+bytesOf (Fa m) = frameBytes FA m
+bytesOf (Fe m) = frameBytes FE m
+bytesOf (Afe m) = frameBytes AFE m
+bytesOf (Am m) = frameBytes AM m
+bytesOf (Refused n) = replicate frameLength 0

@@ -1,6 +1,11 @@
 // Reading a frame: refusals 3, 4 and 5, in that order.
 ghost use mathlib.Core.Path.{_≡_};
 ghost use Rattle.frame.specs.Frame.{readFrame};
+use crate::format::AFE;
+use crate::format::AM;
+use crate::format::FA;
+use crate::format::FE;
+use crate::format::FRAME_LENGTH;
 use crate::message::Message;
 use crate::message::Move;
 use line::PostNo;
@@ -13,7 +18,7 @@ use line::refusal::UNKNOWN_KIND;
 pub fn read(frame: &[u8]) -> Message
     ensures { λ r. ⌜ r ≡ readFrame (now (frame .entry)) ⌝ }
 {
-    if frame.len() != 7 {
+    if frame.len() != FRAME_LENGTH {
         return Message::Refused(TORN_FRAME);
     }
     if frame[0] != 0 {
@@ -32,10 +37,10 @@ pub fn read(frame: &[u8]) -> Message
         to: PostNo(frame[6]),
     };
     match kind {
-        1 => Message::Fa(m),
-        2 => Message::Fe(m),
-        3 => Message::Afe(m),
-        4 => Message::Am(m),
+        FA => Message::Fa(m),
+        FE => Message::Fe(m),
+        AFE => Message::Afe(m),
+        AM => Message::Am(m),
         0 | 5..=255 => Message::Refused(UNKNOWN_KIND),
     }
 }

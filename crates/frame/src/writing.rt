@@ -4,24 +4,30 @@ ghost use Prim.Native.Nat.{_+_};
 ghost use lib.Dec.{leb};
 ghost use lib.ListN.{length};
 ghost use Rattle.common.specs.Part.{replacedIfRoom};
-ghost use Rattle.frame.specs.Frame.{frameBytes, bytesOf};
+ghost use Rattle.frame.specs.Frame.{frameLength, frameBytes, bytesOf};
+use crate::format::AFE;
+use crate::format::AM;
+use crate::format::FA;
+use crate::format::FE;
+use crate::format::FRAME_LENGTH;
 use crate::message::Message;
 use crate::message::Move;
 
 // The seven bytes of a message; seven zeros where there is none.
-pub fn write(message: Message) -> [u8; 7]
+pub fn write(message: Message) -> [u8; FRAME_LENGTH]
     ensures { λ r. ⌜ r ≡ bytesOf message ⌝ }
 {
     match message {
-        Message::Fa(m) => bytes(1, m),
-        Message::Fe(m) => bytes(2, m),
-        Message::Afe(m) => bytes(3, m),
-        Message::Am(m) => bytes(4, m),
-        Message::Refused(_) => [0; 7],
+        Message::Fa(m) => bytes(FA, m),
+        Message::Fe(m) => bytes(FE, m),
+        Message::Afe(m) => bytes(AFE, m),
+        Message::Am(m) => bytes(AM, m),
+        Message::Refused(_) => [0; FRAME_LENGTH],
     }
 }
 
-fn bytes(kind: u8, m: Move) -> [u8; 7]
+// The seven bytes of a kind and a move.
+pub fn bytes(kind: u8, m: Move) -> [u8; FRAME_LENGTH]
     ensures { λ r. ⌜ r ≡ frameBytes kind m ⌝ }
 {
     [0, 5, 1, kind, m.train.0, m.from.0, m.to.0]
@@ -29,18 +35,18 @@ fn bytes(kind: u8, m: Move) -> [u8; 7]
 
 // Puts the seven bytes into `out` from `at` on and answers true; where they do not fit, it answers
 // false and leaves `out` alone.
-pub fn place(frame: [u8; 7], out: &mut [u8], at: usize) -> bool
-    ensures { λ r. ⌜ r ≡ leb (at + 7) (length (now (out .entry))) ⌝ }
+pub fn place(frame: [u8; FRAME_LENGTH], out: &mut [u8], at: usize) -> bool
+    ensures { λ r. ⌜ r ≡ leb (at + frameLength) (length (now (out .entry))) ⌝ }
     ensures { λ _. ⌜ now (out .exit) ≡ replacedIfRoom (now (out .entry)) at frame ⌝ }
 {
-    if out.len() < 7 {
+    if out.len() < FRAME_LENGTH {
         return false;
     }
-    if out.len() - 7 < at {
+    if out.len() - FRAME_LENGTH < at {
         return false;
     }
     let mut i: usize = 0;
-    while i < 7 {
+    while i < FRAME_LENGTH {
         out[at + i] = frame[i];
         i += 1;
     }

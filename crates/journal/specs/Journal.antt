@@ -6,7 +6,7 @@ use mathlib.Core.List.{List, _++_}
 use Prim.Native.Nat.{ℕ, _+_, _≤_, _<_}
 use lib.Dec.{leb, ltb}
 use lib.ListN.{length, getD, set, take, drop, replicate}
-use Rattle.frame.specs.Frame.{frameBytes, bytesOf}
+use Rattle.frame.specs.Frame.{FA, FE, AFE, AM, frameBytes, bytesOf}
 use Rattle.frame.specs.RoundTrip.{IsMessage}
 use Rattle.journal.specs.Types.{Move, Message, Fa, Fe, Afe, Am, Refused, Record, Batch}
 
@@ -24,12 +24,12 @@ blank = record { kind = 0; train = record { 0 = 0 }; from = record { 0 = 0 }; to
 abbrev pub recordWith : ℕ → Move → Record
 recordWith k m = record { kind = k; train = m .train; from = m .from; to = m .to }
 
--- the record by which a message is logged: "kind 1 FA, 2 FE, 3 AFE, 4 AM"
+-- the record by which a message is logged, with the kind of its frame
 unfoldable pub recordOf : Message → Record
-recordOf (Fa m) = recordWith 1 m
-recordOf (Fe m) = recordWith 2 m
-recordOf (Afe m) = recordWith 3 m
-recordOf (Am m) = recordWith 4 m
+recordOf (Fa m) = recordWith FA m
+recordOf (Fe m) = recordWith FE m
+recordOf (Afe m) = recordWith AFE m
+recordOf (Am m) = recordWith AM m
 recordOf (Refused n) = blank
 
 -- the seven bytes of the frame that a record was made of

@@ -2,7 +2,6 @@
 // lent run of records. 01: "An accepted frame is logged, then each answer in order of sending."
 mod batch;
 mod log;
-mod reading;
 mod record;
 mod writing;
 
@@ -15,9 +14,9 @@ pub use log::blank_log;
 pub use log::log_at;
 pub use log::log_length;
 pub use log::log_with;
-pub use reading::at;
 pub use record::Record;
 pub use record::blank;
+pub use record::frame_of;
 pub use record::record_of;
 pub use writing::append;
 pub use writing::fitting;

@@ -1,6 +1,11 @@
 // One record of the journal, and the record of a message.
 ghost use mathlib.Core.Path.{_≡_};
-ghost use Rattle.journal.specs.Journal.{blank, recordWith, recordOf};
+ghost use Rattle.journal.specs.Journal.{blank, recordWith, recordOf, frameOf};
+use frame::AFE;
+use frame::AM;
+use frame::FA;
+use frame::FE;
+use frame::FRAME_LENGTH;
 use frame::Message;
 use frame::Move;
 use line::PostNo;
@@ -31,10 +36,10 @@ pub fn record_of(message: Message) -> Record
     ensures { λ r. ⌜ r ≡ recordOf message ⌝ }
 {
     match message {
-        Message::Fa(m) => of_kind(1, m),
-        Message::Fe(m) => of_kind(2, m),
-        Message::Afe(m) => of_kind(3, m),
-        Message::Am(m) => of_kind(4, m),
+        Message::Fa(m) => of_kind(FA, m),
+        Message::Fe(m) => of_kind(FE, m),
+        Message::Afe(m) => of_kind(AFE, m),
+        Message::Am(m) => of_kind(AM, m),
         Message::Refused(_) => blank(),
     }
 }
@@ -42,10 +47,23 @@ pub fn record_of(message: Message) -> Record
 fn of_kind(kind: u8, m: Move) -> Record
     ensures { λ r. ⌜ r ≡ recordWith kind m ⌝ }
 {
+    let train = m.train;
+    let from = m.from;
+    let to = m.to;
     Record {
         kind,
-        train: TrainNo(m.train.0),
-        from: PostNo(m.from.0),
-        to: PostNo(m.to.0),
+        train,
+        from,
+        to,
     }
+}
+
+// The seven bytes of the frame that a record was made of.
+pub fn frame_of(entry: Record) -> [u8; FRAME_LENGTH]
+    ensures { λ r. ⌜ r ≡ frameOf entry ⌝ }
+{
+    let train = entry.train;
+    let from = entry.from;
+    let to = entry.to;
+    frame::bytes(entry.kind, Move { train, from, to })
 }

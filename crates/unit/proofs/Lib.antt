@@ -1,11 +1,3 @@
--- `Numbers` to `Frames` have the laws that the functions' proofs cite. `Outcomes` turns the definitions round;
--- `Validity` and `History` prove the claims of `specs/`, the latter by way of `Events` and `Past`.
-pub mod Phases
-pub mod Numbers
-pub mod Validity
+-- The laws that the functions' proofs cite: which case of a definition holds, by the tests that the code makes.
 pub mod Buttons
 pub mod Frames
-pub mod Outcomes
-pub mod Events
-pub mod Past
-pub mod History

@@ -1,23 +1,18 @@
 // Hearing a frame: refusals 1, 3, 4, 5, 6 and 22, in that order.
 ghost use mathlib.Core.Path.{_≡_};
-ghost use Rattle.unit.specs.Hearing.{forMove, awaiting, answered, hearFrame};
-use crate::state::Phase;
-use crate::state::Unit;
+ghost use Rattle.driver.specs.Hearing.{forMove, awaiting, answered, hearFrame};
 use crate::state::in_phase;
 use crate::state::own_move;
 use crate::state::same;
 use crate::state::valid;
+use driver::Heard;
+use driver::Phase;
+use driver::Unit;
 use frame::Message;
 use frame::Move;
 use line::refusal::NOT_AWAITED;
 use line::refusal::STRANGE_STATE;
 use line::refusal::WRONG_END;
-
-// The unit afterwards, and the number of the refusal, or 0.
-pub struct Heard {
-    pub unit: Unit,
-    pub refusal: u8,
-}
 
 // What a frame of any bytes does.
 pub fn hear(unit: Unit, frame: &[u8]) -> Heard

@@ -1,21 +1,17 @@
 // Making a unit: refusal 18.
 ghost use mathlib.Core.Path.{_≡_};
-ghost use Rattle.unit.specs.Making.{standingUnit, makeUnit};
-use crate::state::Phase;
-use crate::state::Unit;
+ghost use Rattle.driver.specs.Making.{standingUnit, makeUnit};
 use crate::state::numbers_fit;
+use driver::Made;
+use driver::Phase;
+use driver::Unit;
 use line::PostNo;
 use line::Route;
 use line::TrainNo;
 use line::refusal::OFF_THE_LINE;
 
-// The unit that was made, and 0; or the empty unit, which is not valid, and 18.
-pub struct Made {
-    pub unit: Unit,
-    pub refusal: u8,
-}
-
-// A unit for a train and its route, Standing at its start.
+// A unit for a train and its route, Standing at its start, and 0; or the empty unit, which is not
+// valid, and 18.
 pub fn make(train: TrainNo, start: PostNo, end: PostNo) -> Made
     ensures { λ r. ⌜ r ≡ makeUnit (train .0) (start .0) (end .0) ⌝ }
 {

@@ -1,26 +1,18 @@
 // Pressing a button: refusals 1, 21 and 8, in that order.
 ghost use mathlib.Core.Path.{_≡_};
-ghost use Rattle.unit.specs.Pressing.{phaseFor, movedOn, silent, sending, pressButton};
-use crate::state::Button;
-use crate::state::Phase;
-use crate::state::Unit;
+ghost use Rattle.driver.specs.Pressing.{phaseFor, movedOn, silent, sending, pressButton};
 use crate::state::in_phase;
 use crate::state::own_move;
 use crate::state::same;
 use crate::state::valid;
+use driver::Button;
+use driver::Phase;
+use driver::Pressed;
+use driver::Unit;
 use frame::Message;
 use line::refusal::AT_END;
 use line::refusal::NOT_NOW;
 use line::refusal::STRANGE_STATE;
-
-// The unit afterwards; the number of the refusal, or 0; whether a frame is to be sent, and its
-// bytes, which are all 0 where none is.
-pub struct Pressed {
-    pub unit: Unit,
-    pub refusal: u8,
-    pub sent: bool,
-    pub frame: [u8; 7],
-}
 
 // What a press of a button does.
 pub fn press(unit: Unit, button: Button) -> Pressed

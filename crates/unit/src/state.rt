@@ -1,42 +1,11 @@
-// The state of a unit, and whether one that is handed in is valid (01: sound).
+// Whether a state that is handed in is valid (01: sound), the unit's own move, and its phases.
 ghost use mathlib.Core.Path.{_≡_};
-ghost use Rattle.unit.specs.State.{numbersFit, phaseNo, samePhase, ownMove, inPhase, validUnit};
+ghost use Rattle.driver.specs.State.{numbersFit, phaseNo, samePhase, ownMove, inPhase, validUnit};
+use driver::Phase;
+use driver::Unit;
 use frame::Move;
 use line::PostNo;
-use line::Route;
 use line::TrainNo;
-
-// Where the unit is in the course of one move.
-pub enum Phase {
-    // At a post, with nothing asked.
-    Standing,
-    // FA sent.
-    Asked,
-    // AFE heard: the request stays, and its FE may still come.
-    Declined,
-    // FE heard.
-    Granted,
-    // Between the two posts.
-    UnderWay,
-    // At the next post, with the arrival not reported yet.
-    Arrived,
-}
-
-// What the driver can press.
-pub enum Button {
-    Ask,
-    Depart,
-    Reached,
-    Report,
-}
-
-// `at` is the present post: it moves with the report of an arrival, not with the arrival.
-pub struct Unit {
-    pub train: TrainNo,
-    pub route: Route,
-    pub at: PostNo,
-    pub phase: Phase,
-}
 
 // 01: "A unit state is sound if train and posts are in range, the present post lies between start
 // and end, and only Standing may be at the end."

@@ -5,7 +5,7 @@ use mathlib.Core.List.{List}
 use Prim.Native.Nat.{ℕ}
 use denote.Ref.{now}
 use borrow.Author.Tests.{not-true, not-false}
-use Rattle.unit.specs.State.{validUnit}
+use Rattle.driver.specs.State.{validUnit}
 use Rattle.encoding.specs.UnitBytes.{encodesUnit, unitIn}
 use Rattle.encoding.proofs.Units.{encoded-length}
 use Rattle.calls.proofs.UnitSteps.{no-unit, strange, short, no-button, asked}

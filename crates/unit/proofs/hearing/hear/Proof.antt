@@ -8,7 +8,7 @@ use denote.Ref.{now}
 use borrow.Author.Tests.{not-true, not-false}
 use Rattle.frame.specs.Frame.{readFrame}
 use Rattle.unit.specs.Types.{Move, Fe, Afe, Unit}
-use Rattle.unit.specs.State.{validUnit}
+use Rattle.driver.specs.State.{validUnit}
 use Rattle.unit.proofs.Frames as frames
 use borrow.Author.Needs.{needs}
 use Rattle.unit.proofs.hearing.hear.Statement.{statement}

@@ -1,7 +1,7 @@
 -- `make` meets its contract: where the numbers do not fit, the empty unit and 18.
 use mathlib.Core.Path.{sym, _∙_}
 use borrow.Author.Tests.{not-true, not-false}
-use Rattle.unit.proofs.Numbers.{makes, makes-none}
+use Rattle.driver.proofs.Numbers.{makes, makes-none}
 use borrow.Author.Needs.{needs}
 use Rattle.unit.proofs.making.make.Statement.{statement}
 use Rattle.unit.proofs.making.make.Tie as tie

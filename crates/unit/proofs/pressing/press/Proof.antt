@@ -3,8 +3,8 @@ use mathlib.Core.Path.{_≡_, sym, ap, _∙_}
 use mathlib.Core.Bool.{true}
 use borrow.Author.Tests.{not-true, not-false}
 use Rattle.unit.specs.Types.{Unit, Button}
-use Rattle.unit.specs.State.{samePhase, validUnit}
-use Rattle.unit.specs.Pressing.{phaseFor}
+use Rattle.driver.specs.State.{samePhase, validUnit}
+use Rattle.driver.specs.Pressing.{phaseFor}
 use Rattle.unit.proofs.Buttons.{strange, other-phase, no-move, ask, depart, reached, report}
 use borrow.Author.Needs.{needs}
 use Rattle.unit.proofs.pressing.press.Statement.{statement}

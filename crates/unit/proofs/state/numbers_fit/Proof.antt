@@ -2,7 +2,7 @@
 use mathlib.Core.Path.{_∙_}
 use borrow.Author.Tests.{le-leb, lt-leb}
 use Rattle.common.proofs.Tests.{and-passed, and-failed}
-use Rattle.unit.proofs.Numbers.{train-above, train-fits}
+use Rattle.driver.proofs.Numbers.{train-above, train-fits}
 use Rattle.unit.proofs.state.numbers_fit.Statement.{statement}
 use Rattle.unit.proofs.state.numbers_fit.Tie as tie
 

@@ -1,5 +1,5 @@
 -- `same` meets its contract: two phases are the same where their numbers are.
-use Rattle.unit.specs.State.{samePhase}
+use Rattle.driver.specs.State.{samePhase}
 use borrow.Author.Needs.{needs}
 use Rattle.unit.proofs.state.same.Statement.{statement}
 use Rattle.unit.proofs.state.same.Tie as tie

@@ -3,8 +3,8 @@ use mathlib.Core.Path.{_≡_, sym, _∙_}
 use mathlib.Core.Bool.{true}
 use borrow.Author.Tests.{not-true, not-false}
 use Rattle.unit.specs.Types.{Unit}
-use Rattle.unit.specs.State.{inRanges, onRoute}
-use Rattle.unit.proofs.Validity.{numbers-wrong, post-wrong, short-of-end, at-its-end}
+use Rattle.driver.specs.State.{inRanges, onRoute}
+use Rattle.driver.proofs.Validity.{numbers-wrong, post-wrong, short-of-end, at-its-end}
 use borrow.Author.Needs.{needs}
 use Rattle.unit.proofs.state.valid.Statement.{statement}
 use Rattle.unit.proofs.state.valid.Tie as tie

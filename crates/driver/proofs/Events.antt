@@ -6,7 +6,7 @@ use mathlib.Core.List.{List, [], _∷_, _++_}
 use Prim.Native.Nat.{ℕ}
 use native.Mathlib.Omega.{arith}
 use Rattle.common.proofs.Tests.{by-cases}
-use Rattle.unit.specs.History.{Event, some, reported, place}
+use Rattle.driver.specs.History.{Event, some, reported, place}
 
 -- xs with one more at the end
 abbrev pub with : {A : Type 0} → List A → A → List A

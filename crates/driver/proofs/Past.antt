@@ -7,10 +7,10 @@ use Prim.Native.Nat.{ℕ}
 use native.Mathlib.Omega.{arith}
 use borrow.Author.Tests.{ne-eqb}
 use Rattle.common.proofs.Tests.{or-left, or-right}
-use Rattle.unit.specs.Types.{Move, Phase, Standing, Asked, Declined, Granted, UnderWay, Arrived}
-use Rattle.unit.specs.Hearing.{awaiting}
-use Rattle.unit.specs.History.{Event, fa, fe, am, other, isAm, isFe, some, reported, Requested, Authorised}
-use Rattle.unit.proofs.Events.{with, split-last, some-with, still-none}
+use Rattle.driver.specs.Types.{Move, Phase, Standing, Asked, Declined, Granted, UnderWay, Arrived}
+use Rattle.driver.specs.Hearing.{awaiting}
+use Rattle.driver.specs.History.{Event, fa, fe, am, other, isAm, isFe, some, reported, Requested, Authorised}
+use Rattle.driver.proofs.Events.{with, split-last, some-with, still-none}
 
 -- ---- events that settle nothing: none, or the FE for another train
 

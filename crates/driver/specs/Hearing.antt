@@ -6,9 +6,9 @@ use lib.Dec.{eqb}
 use Rattle.common.specs.Check.{Check, check, refusal, unlessRefused}
 use Rattle.line.specs.Refusal.{strangeState, wrongEnd, notAwaited}
 use Rattle.frame.specs.Frame.{readChecks, readFrame}
-use Rattle.unit.specs.Types.{Move, Message, Fa, Fe, Afe, Am, Refused, Unit, Heard, Phase, Standing, Asked}
-use Rattle.unit.specs.Types.{Declined, Granted, UnderWay, Arrived}
-use Rattle.unit.specs.State.{samePhase, ownMove, inPhase, validUnit}
+use Rattle.driver.specs.Types.{Move, Message, Fa, Fe, Afe, Am, Refused, Unit, Heard, Phase, Standing, Asked}
+use Rattle.driver.specs.Types.{Declined, Granted, UnderWay, Arrived}
+use Rattle.driver.specs.State.{samePhase, ownMove, inPhase, validUnit}
 
 -- "for its own train"
 abbrev pub forTrain : Unit → Move → Bool

@@ -8,10 +8,10 @@ use Prim.Native.Nat.{ℕ, zero, suc}
 use lib.Dec.{eqb}
 use Rattle.line.specs.Route.{nextPost}
 use Rattle.frame.specs.Frame.{moveOf, readFrame}
-use Rattle.unit.specs.Types.{Move, Message, Fa, Fe, Afe, Am, Refused, Button, Unit, Pressed, Heard}
-use Rattle.unit.specs.Making.{makeUnit}
-use Rattle.unit.specs.Pressing.{pressButton}
-use Rattle.unit.specs.Hearing.{hearFrame}
+use Rattle.driver.specs.Types.{Move, Message, Fa, Fe, Afe, Am, Refused, Button, Unit, Pressed, Heard}
+use Rattle.driver.specs.Making.{makeUnit}
+use Rattle.driver.specs.Pressing.{pressButton}
+use Rattle.driver.specs.Hearing.{hearFrame}
 
 -- ---- what goes in and what comes out
 

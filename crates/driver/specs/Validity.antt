@@ -4,11 +4,11 @@ use mathlib.Core.Logic.{_≢_}
 use mathlib.Core.Bool.{true, false}
 use mathlib.Core.List.{List}
 use Prim.Native.Nat.{ℕ}
-use Rattle.unit.specs.Types.{Unit, Button}
-use Rattle.unit.specs.State.{validUnit}
-use Rattle.unit.specs.Making.{makeUnit}
-use Rattle.unit.specs.Pressing.{pressButton}
-use Rattle.unit.specs.Hearing.{hearFrame}
+use Rattle.driver.specs.Types.{Unit, Button}
+use Rattle.driver.specs.State.{validUnit}
+use Rattle.driver.specs.Making.{makeUnit}
+use Rattle.driver.specs.Pressing.{pressButton}
+use Rattle.driver.specs.Hearing.{hearFrame}
 
 pub record Validity : Type 0 where
   -- a unit that is made is valid; "a unit that 18 refuses to make, returns an empty state that is not sound"

@@ -4,7 +4,7 @@ use Prim.Native.Nat.{ℕ}
 use lib.Dec.{eqb, leb}
 use Rattle.line.specs.Route.{nextPost, between}
 use Rattle.frame.specs.Frame.{moveOf}
-use Rattle.unit.specs.Types.{Move, Phase, Standing, Asked, Declined, Granted, UnderWay, Arrived, Unit}
+use Rattle.driver.specs.Types.{Move, Phase, Standing, Asked, Declined, Granted, UnderWay, Arrived, Unit}
 
 -- "States: Standing, Asked, Declined, Granted, Under way, Arrived."
 abbrev pub phaseNo : Phase → ℕ

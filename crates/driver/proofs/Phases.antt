@@ -3,9 +3,9 @@ use mathlib.Core.Path.{_≡_, refl, sym, ap, _∙_}
 use mathlib.Core.Bool.{true, false, false≢true}
 use Prim.Native.Nat.{ℕ, zero, suc}
 use borrow.Author.Tests.{eqb-true}
-use Rattle.unit.specs.Types.{Phase, Standing, Asked, Declined, Granted, UnderWay, Arrived}
-use Rattle.unit.specs.State.{phaseNo, samePhase}
-use Rattle.unit.specs.Hearing.{awaiting}
+use Rattle.driver.specs.Types.{Phase, Standing, Asked, Declined, Granted, UnderWay, Arrived}
+use Rattle.driver.specs.State.{phaseNo, samePhase}
+use Rattle.driver.specs.Hearing.{awaiting}
 
 -- the phase of a number
 phaseOf : ℕ → Phase

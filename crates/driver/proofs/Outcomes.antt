@@ -11,13 +11,13 @@ use Rattle.common.specs.Check.{refusal, unlessRefused}
 use Rattle.common.proofs.Tests.{by-cases, not-passed, and-left, and-right}
 use Rattle.common.proofs.Check.{passed-at}
 use Rattle.frame.specs.Frame.{moveOf, readFrame}
-use Rattle.unit.specs.Types.{Move, Message, Fa, Fe, Afe, Am, Refused, Button, Unit, Pressed, Heard, Asked}
-use Rattle.unit.specs.Types.{Declined, Granted}
-use Rattle.unit.specs.State.{samePhase, ownMove, inPhase}
-use Rattle.unit.specs.Pressing.{phaseFor, pressChecks, silent, carriedOut, pressButton}
-use Rattle.unit.specs.Hearing.{forTrain, forMove, awaiting, forUnit, awaited, hearChecks, phaseAfter, answered}
-use Rattle.unit.specs.Hearing.{hearFrame}
-use Rattle.unit.proofs.Phases.{same-phase}
+use Rattle.driver.specs.Types.{Move, Message, Fa, Fe, Afe, Am, Refused, Button, Unit, Pressed, Heard, Asked}
+use Rattle.driver.specs.Types.{Declined, Granted}
+use Rattle.driver.specs.State.{samePhase, ownMove, inPhase}
+use Rattle.driver.specs.Pressing.{phaseFor, pressChecks, silent, carriedOut, pressButton}
+use Rattle.driver.specs.Hearing.{forTrain, forMove, awaiting, forUnit, awaited, hearChecks, phaseAfter, answered}
+use Rattle.driver.specs.Hearing.{hearFrame}
+use Rattle.driver.proofs.Phases.{same-phase}
 
 pub data PressOutcome (u : Unit) (b : Button) : Pressed → Type 0 where
   refused : (n : ℕ) → PressOutcome u b (silent u (suc n))

@@ -10,20 +10,20 @@ use Rattle.common.specs.Check.{refusal, unlessRefused}
 use Rattle.frame.specs.Frame.{readFrame, bytesOf}
 use Rattle.frame.specs.RoundTrip.{IsMessage}
 use Rattle.frame.proofs.RoundTrip.{round-trip}
-use Rattle.unit.specs.Types.{Move, Message, Fa, Fe, Afe, Am, Unit, Pressed, Heard, Phase, Standing, Asked}
-use Rattle.unit.specs.Types.{Declined, Granted, UnderWay, Arrived, Button, Ask, Depart, Reached, Report}
-use Rattle.unit.specs.State.{ownMove, inPhase, validUnit}
-use Rattle.unit.specs.Making.{makeUnit}
-use Rattle.unit.specs.Pressing.{phaseFor, carriedOut, movedOn}
-use Rattle.unit.specs.Hearing.{answered}
-use Rattle.unit.specs.History.{Input, press, frame, exchange, ofPress, ofFrame, after, run, Event, fa, fe, am}
-use Rattle.unit.specs.History.{other, acceptedEvent, heardEvent, eventOf, reported, place, Onward, Requested}
-use Rattle.unit.specs.History.{Authorised, History}
-use Rattle.unit.proofs.Validity.{carried-out-valid, heard-valid, fits-made, made-standing, standing-unit-valid}
-use Rattle.unit.proofs.Outcomes as outcomes
-use Rattle.unit.proofs.Events.{with, place-with}
-use Rattle.unit.proofs.Past.{Quiet, nothing, elsewhere, quiet-place, Free, Told, none-yet, told-requested}
-use Rattle.unit.proofs.Past.{after-fa, after-fe, after-am, requested-kept, authorised-kept, told-kept}
+use Rattle.driver.specs.Types.{Move, Message, Fa, Fe, Afe, Am, Unit, Pressed, Heard, Phase, Standing, Asked}
+use Rattle.driver.specs.Types.{Declined, Granted, UnderWay, Arrived, Button, Ask, Depart, Reached, Report}
+use Rattle.driver.specs.State.{ownMove, inPhase, validUnit}
+use Rattle.driver.specs.Making.{makeUnit}
+use Rattle.driver.specs.Pressing.{phaseFor, carriedOut, movedOn}
+use Rattle.driver.specs.Hearing.{answered}
+use Rattle.driver.specs.History.{Input, press, frame, exchange, ofPress, ofFrame, after, run, Event, fa, fe, am}
+use Rattle.driver.specs.History.{other, acceptedEvent, heardEvent, eventOf, reported, place, Onward, Requested}
+use Rattle.driver.specs.History.{Authorised, History}
+use Rattle.driver.proofs.Validity.{carried-out-valid, heard-valid, fits-made, made-standing, standing-unit-valid}
+use Rattle.driver.proofs.Outcomes as outcomes
+use Rattle.driver.proofs.Events.{with, place-with}
+use Rattle.driver.proofs.Past.{Quiet, nothing, elsewhere, quiet-place, Free, Told, none-yet, told-requested}
+use Rattle.driver.proofs.Past.{after-fa, after-fe, after-am, requested-kept, authorised-kept, told-kept}
 
 -- ---- what an exchange says
 

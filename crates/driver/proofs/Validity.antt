@@ -9,15 +9,15 @@ use native.Mathlib.Omega.{arith}
 use borrow.Author.Tests.{eq-eqb, ne-eqb}
 use Rattle.common.proofs.Tests.{by-cases, by-equality, and-left, and-right}
 use Rattle.line.proofs.Travel.{between-of, of-between, start-between, next-between}
-use Rattle.unit.specs.Types.{Phase, Standing, Asked, Declined, Granted, UnderWay, Arrived, Button, Ask, Depart}
-use Rattle.unit.specs.Types.{Reached, Report, Unit, Made, Pressed, Heard}
-use Rattle.unit.specs.State.{samePhase, numbersFit, inRanges, onRoute, inPhase, validUnit}
-use Rattle.unit.specs.Making.{standingUnit, emptyUnit, made, makeUnit}
-use Rattle.unit.specs.Pressing.{movedOn, carriedOut}
-use Rattle.unit.specs.Validity.{Validity}
-use Rattle.unit.proofs.Numbers.{makes, makes-none}
-use Rattle.unit.proofs.Phases.{awaiting-not-standing}
-use Rattle.unit.proofs.Outcomes as outcomes
+use Rattle.driver.specs.Types.{Phase, Standing, Asked, Declined, Granted, UnderWay, Arrived, Button, Ask, Depart}
+use Rattle.driver.specs.Types.{Reached, Report, Unit, Made, Pressed, Heard}
+use Rattle.driver.specs.State.{samePhase, numbersFit, inRanges, onRoute, inPhase, validUnit}
+use Rattle.driver.specs.Making.{standingUnit, emptyUnit, made, makeUnit}
+use Rattle.driver.specs.Pressing.{movedOn, carriedOut}
+use Rattle.driver.specs.Validity.{Validity}
+use Rattle.driver.proofs.Numbers.{makes, makes-none}
+use Rattle.driver.proofs.Phases.{awaiting-not-standing}
+use Rattle.driver.proofs.Outcomes as outcomes
 
 -- ---- by the tests
 

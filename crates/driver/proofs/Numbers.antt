@@ -7,9 +7,9 @@ use lib.Dec.{leb}
 use borrow.Author.Tests.{le-leb, lt-leb}
 use Rattle.common.proofs.Check.{none, stop, pass, accepted-by, refused-by}
 use Rattle.line.specs.Refusal.{offTheLine}
-use Rattle.unit.specs.Types.{Unit}
-use Rattle.unit.specs.State.{numbersFit}
-use Rattle.unit.specs.Making.{standingUnit, emptyUnit, made, makeUnit}
+use Rattle.driver.specs.Types.{Unit}
+use Rattle.driver.specs.State.{numbersFit}
+use Rattle.driver.specs.Making.{standingUnit, emptyUnit, made, makeUnit}
 
 module _ (t a e : ℕ) where
   pub train-above : 5 < t → false ≡ numbersFit t a e

@@ -7,9 +7,9 @@ use Rattle.common.specs.Check.{Check, check, refusal, unlessRefused}
 use Rattle.line.specs.Refusal.{strangeState, notNow, atEnd}
 use Rattle.line.specs.Route.{nextPost}
 use Rattle.frame.specs.Frame.{bytesOf}
-use Rattle.unit.specs.Types.{Message, Fa, Am, Unit, Pressed, Button, Ask, Depart, Reached, Report, Phase}
-use Rattle.unit.specs.Types.{Standing, Asked, Granted, UnderWay, Arrived}
-use Rattle.unit.specs.State.{samePhase, ended, ownMove, inPhase, validUnit}
+use Rattle.driver.specs.Types.{Message, Fa, Am, Unit, Pressed, Button, Ask, Depart, Reached, Report, Phase}
+use Rattle.driver.specs.Types.{Standing, Asked, Granted, UnderWay, Arrived}
+use Rattle.driver.specs.State.{samePhase, ended, ownMove, inPhase, validUnit}
 
 -- the phase in which a button may be pressed: "Another button press is 21"
 abbrev pub phaseFor : Button → Phase

@@ -3,8 +3,8 @@ use mathlib.Core.List.{List, [], _∷_}
 use Prim.Native.Nat.{ℕ}
 use Rattle.common.specs.Check.{Check, check, refusal, unlessRefused}
 use Rattle.line.specs.Refusal.{offTheLine}
-use Rattle.unit.specs.Types.{Standing, Unit, Made}
-use Rattle.unit.specs.State.{numbersFit}
+use Rattle.driver.specs.Types.{Standing, Unit, Made}
+use Rattle.driver.specs.State.{numbersFit}
 
 -- a unit that stands at its start
 abbrev pub standingUnit : ℕ → ℕ → ℕ → Unit
