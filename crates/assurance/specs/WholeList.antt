@@ -11,7 +11,7 @@ use Rattle.common.specs.Below.{countBelow}
 use Rattle.line.specs.Line.{routeOf, tracksAt}
 use Rattle.line.specs.Holding.{holdsSection, postHolders}
 use Rattle.line.specs.Book.{lineOf}
-use Rattle.frame.specs.Frame.{bytesOf}
+use Rattle.frame.specs.Frame.{FE, bytesOf}
 use Rattle.journal.specs.Journal.{frameOf, recordAt}
 use Rattle.rules.specs.State.{reached}
 use Rattle.rules.specs.Valid.{valid}
@@ -33,7 +33,7 @@ pub record Requested (count : ℕ) (journal : List Record) (m : Move) : Type 0 w
 
 -- train t's FE records below the journal count
 abbrev pub isFeOf : ℕ → Record → Bool
-isFeOf t e = eqb (e .kind) 2 && eqb (e .train .0) t
+isFeOf t e = eqb (e .kind) FE && eqb (e .train .0) t
 
 abbrev pub authorities : Ran → ℕ → ℕ
 authorities r t = countBelow (r .state .logged) (λ i. isFeOf t (recordAt (r .journal) i))

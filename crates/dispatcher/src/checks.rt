@@ -13,17 +13,19 @@ use authority::at_end;
 use authority::next_post;
 use authority::train_of;
 use authority::valid;
+use frame::FRAME_LENGTH;
 use frame::Message;
 use frame::Move;
 use journal::BATCH_LENGTH;
 use journal::JOURNAL_LENGTH;
+use journal::MOST_SENT;
 use line::refusal;
 use rules::State;
 use rules::Status;
 use table::TABLE_LENGTH;
 
-// At most six frames go out.
-pub const OUT_LENGTH: usize = 42;
+// 01: "At most 6 frames go out, 42 bytes".
+pub const OUT_LENGTH: usize = MOST_SENT * FRAME_LENGTH;
 
 // The number by which a frame is refused, and 0 where it is accepted. Of the table, the journal and
 // the out buffer only the lengths are looked at.

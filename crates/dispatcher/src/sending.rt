@@ -4,9 +4,10 @@ ghost use mathlib.Core.Path.{_≡_};
 ghost use Prim.Native.Nat.{_-_, _≤_};
 ghost use lib.ListN.{length};
 ghost use Rattle.common.specs.Part.{replaced};
-ghost use Rattle.journal.specs.Journal.{batchLength, frameOf};
+ghost use Rattle.journal.specs.Journal.{batchLength};
 ghost use Rattle.rules.specs.Answer.{outLength};
 ghost use Rattle.dispatcher.specs.Step.{framesIn, answersIn};
+use frame::FRAME_LENGTH;
 use journal::BATCH_LENGTH;
 use journal::Record;
 
@@ -20,15 +21,8 @@ pub fn send(items: [Record; BATCH_LENGTH], n: usize, out: &mut [u8]) -> u8
     let mut sent: usize = 0;
     while sent < answers {
         let entry = items[sent + 1];
-        frame::place(frame_of(entry), out, 7 * sent);
+        frame::place(journal::frame_of(entry), out, FRAME_LENGTH * sent);
         sent += 1;
     }
     answers as u8
-}
-
-// The seven bytes of the frame that a record tells of.
-fn frame_of(entry: Record) -> [u8; 7]
-    ensures { λ r. ⌜ r ≡ frameOf entry ⌝ }
-{
-    [0, 5, 1, entry.kind, entry.train.0, entry.from.0, entry.to.0]
 }

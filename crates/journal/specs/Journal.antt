@@ -46,9 +46,13 @@ recordAt j i = getD j i blank
 
 -- ---- batches
 
--- the most records that one frame adds: its own and those of six answers
+-- "At most 6 frames go out"
+abbrev pub mostSent : ℕ
+mostSent = 6
+
+-- the most records that one frame adds: its own and those of its answers
 abbrev pub batchLength : ℕ
-batchLength = 7
+batchLength = 1 + mostSent
 
 -- the records of a batch, in order
 abbrev pub records : Batch → List Record

@@ -5,8 +5,11 @@ ghost use Rattle.journal.specs.Journal.{recordAt, batchLength, emptyBatc
 use crate::record::Record;
 use crate::record::blank;
 
-// A frame and at most six answers.
-pub const BATCH_LENGTH: usize = 7;
+// 01: "At most 6 frames go out".
+pub const MOST_SENT: usize = 6;
+
+// A frame and its answers.
+pub const BATCH_LENGTH: usize = 1 + MOST_SENT;
 
 // The first n items are records to be written.
 pub struct Batch {

@@ -7,6 +7,7 @@ mod writing;
 
 pub use batch::BATCH_LENGTH;
 pub use batch::Batch;
+pub use batch::MOST_SENT;
 pub use batch::empty;
 pub use batch::with;
 pub use log::Log;

@@ -3,6 +3,7 @@ use mathlib.Core.Bool.{cond}
 use mathlib.Core.List.{List, [], _∷_, _++_}
 use Prim.Native.Nat.{ℕ, zero, suc, _+_, _/_, _%_}
 use lib.Dec.{eqb, ltb}
+use Rattle.frame.specs.Frame.{FA, FE, AFE, AM}
 use Rattle.journal.specs.Journal.{recordAt}
 use Rattle.printout.specs.Types.{Record}
 
@@ -25,10 +26,10 @@ newline = 10 ∷ []
 -- after a space `FA`, `FE`, `AFE` or `AM`, or `?` for what is no kind
 unfoldable pub kindName : ℕ → List ℕ
 kindName k =
-    cond (eqb k 1) (32 ∷ 70 ∷ 65 ∷ [])
-    (cond (eqb k 2) (32 ∷ 70 ∷ 69 ∷ [])
-    (cond (eqb k 3) (32 ∷ 65 ∷ 70 ∷ 69 ∷ [])
-    (cond (eqb k 4) (32 ∷ 65 ∷ 77 ∷ []) (32 ∷ 63 ∷ []))))
+    cond (eqb k FA) (32 ∷ 70 ∷ 65 ∷ [])
+    (cond (eqb k FE) (32 ∷ 70 ∷ 69 ∷ [])
+    (cond (eqb k AFE) (32 ∷ 65 ∷ 70 ∷ 69 ∷ [])
+    (cond (eqb k AM) (32 ∷ 65 ∷ 77 ∷ []) (32 ∷ 63 ∷ []))))
 
 -- 01: "each journal record (number, kind, train, from, to)"
 abbrev pub recordLine : ℕ → Record → List ℕ

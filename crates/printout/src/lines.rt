@@ -7,6 +7,10 @@ ghost use Rattle.printout.specs.Lines.{spaced, kindName, recordLine, end
 use crate::text::Text;
 use crate::text::with_number;
 use crate::text::with_word;
+use frame::AFE;
+use frame::AM;
+use frame::FA;
+use frame::FE;
 use journal::Record;
 
 // 01: "each journal record (number, kind, train, from, to)".
@@ -47,10 +51,10 @@ fn with_kind(text: Text, kind: u8) -> Text
     ensures { λ r. ⌜ r ≡ followed text (kindName kind) ⌝ }
 {
     match kind {
-        1 => with_word(text, b" FA"),
-        2 => with_word(text, b" FE"),
-        3 => with_word(text, b" AFE"),
-        4 => with_word(text, b" AM"),
+        FA => with_word(text, b" FA"),
+        FE => with_word(text, b" FE"),
+        AFE => with_word(text, b" AFE"),
+        AM => with_word(text, b" AM"),
         _ => with_word(text, b" ?"),
     }
 }

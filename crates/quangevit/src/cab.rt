@@ -14,14 +14,12 @@ use encoding::button_of;
 use encoding::encodes_unit;
 use encoding::put_unit;
 use encoding::unit_in;
+use frame::FRAME_LENGTH;
 use line::PostNo;
 use line::TrainNo;
 use line::refusal::NOT_NOW;
 use line::refusal::SHORT_STORE;
 use line::refusal::STRANGE_STATE;
-
-// The bytes of a frame.
-const FRAME_LENGTH: usize = 7;
 
 // The number of the last button, Report.
 const LAST_BUTTON: u8 = 3;

@@ -2,15 +2,15 @@
 -- buffer.
 use mathlib.Core.Bool.{Bool, true, false, not, cond, _&&_, _||_}
 use mathlib.Core.List.{List, [], _∷_, _++_}
-use Prim.Native.Nat.{ℕ, _+_}
+use Prim.Native.Nat.{ℕ, _+_, _*_}
 use lib.Dec.{leb, ltb, eqb}
 use lib.ListN.{length}
 use Rattle.common.specs.Check.{Check, check, refusal, unlessRefused}
 use Rattle.common.specs.Part.{replaced}
 use Rattle.line.specs.Refusal.{strangeState, shortStore, wrongEnd, unknownTrain, atEnd as trainAtEnd, wrongPost}
 use Rattle.line.specs.Refusal.{alreadyAsked, underAuthority, noAuthority, journalFull}
-use Rattle.frame.specs.Frame.{moveOf, readChecks, readFrame, bytesOf}
-use Rattle.journal.specs.Journal.{journalLength, recordOf}
+use Rattle.frame.specs.Frame.{frameLength, moveOf, readChecks, readFrame, bytesOf}
+use Rattle.journal.specs.Journal.{journalLength, mostSent, batchLength, recordOf}
 use Rattle.completion.specs.Table.{tableLength}
 use Rattle.rules.specs.Types.{Move, Message, Fa, Fe, Afe, Am, Refused, Record, Status, Asked, Train, State}
 use Rattle.rules.specs.Types.{Verdict, Sent, RefusedBy, Reply}
@@ -20,11 +20,11 @@ use Rattle.rules.specs.Granting.{Work, begun, sends, settled}
 
 -- "At most 6 frames go out, 42 bytes"
 abbrev pub outLength : ℕ
-outLength = 42
+outLength = mostSent * frameLength
 
 -- a frame and at most six answers are logged
 abbrev pub mostLogged : ℕ
-mostLogged = 7
+mostLogged = batchLength
 
 abbrev pub isFa : Message → Bool
 isFa (Fa m) = true
