@@ -7,17 +7,17 @@ use mathlib.Core.List.{List, [], _∷_, _++_, map, append-assoc, append-nil}
 use Prim.Native.Nat.{ℕ, suc}
 use native.Mathlib.Omega.{arith}
 use Rattle.common.specs.Check.{refusal, unlessRefused}
-use Rattle.frame.specs.Frame.{readFrame, bytesOf}
+use Rattle.frame.specs.Frame.{readFrame}
 use Rattle.frame.specs.RoundTrip.{IsMessage}
 use Rattle.frame.proofs.RoundTrip.{round-trip}
-use Rattle.driver.specs.Types.{Move, Message, Fa, Fe, Afe, Am, Unit, Pressed, Heard, Phase, Standing, Asked}
+use Rattle.driver.specs.Types.{Message, Fa, Fe, Afe, Am, Unit, Pressed, Heard, Phase, Standing, Asked}
 use Rattle.driver.specs.Types.{Declined, Granted, UnderWay, Arrived, Button, Ask, Depart, Reached, Report}
 use Rattle.driver.specs.State.{ownMove, inPhase, validUnit}
 use Rattle.driver.specs.Making.{makeUnit}
-use Rattle.driver.specs.Pressing.{phaseFor, carriedOut, movedOn}
+use Rattle.driver.specs.Pressing.{phaseFor, silent, sending, carriedOut, movedOn}
 use Rattle.driver.specs.Hearing.{answered}
 use Rattle.driver.specs.History.{Input, press, frame, exchange, ofPress, ofFrame, after, run, Event, fa, fe, am}
-use Rattle.driver.specs.History.{other, acceptedEvent, heardEvent, eventOf, reported, place, Onward, Requested}
+use Rattle.driver.specs.History.{other, sentEvent, acceptedEvent, eventOf, reported, place, Onward, Requested}
 use Rattle.driver.specs.History.{Authorised, History}
 use Rattle.driver.proofs.Validity.{carried-out-valid, heard-valid, fits-made, made-standing, standing-unit-valid}
 use Rattle.driver.proofs.Outcomes as outcomes
@@ -27,21 +27,24 @@ use Rattle.driver.proofs.Past.{after-fa, after-fe, after-am, requested-
 
 -- ---- what an exchange says
 
-says-heard : (i : Input) (n : ℕ) → eventOf (record { input = i; refusal = n; sent = [] }) ≡ heardEvent i n
+-- a press that sends nothing, and one that sends a message
+says-nothing : (b : Button) (v : Unit) (n : ℕ) → eventOf (ofPress b (silent v n)) ≡ other
 unfolding eventOf readFrame refusal unlessRefused
-says-heard i n = refl
+says-nothing b v n = refl
 
-says-fa : (i : Input) (n : ℕ) (m : Move) → eventOf (record { input = i; refusal = n; sent = bytesOf (Fa m) }) ≡ fa m
-unfolding eventOf IsMessage
-says-fa i n m = rw (round-trip .back (Fa m) tt)
+says-sent : (b : Button) (v : Unit) (x : Message) → IsMessage x → eventOf (ofPress b (sending v x)) ≡ sentEvent x
+unfolding eventOf
+says-sent b v x h = ap sentEvent (round-trip .back x h)
 
-says-am : (i : Input) (n : ℕ) (m : Move) → eventOf (record { input = i; refusal = n; sent = bytesOf (Am m) }) ≡ am m
-unfolding eventOf IsMessage
-says-am i n m = rw (round-trip .back (Am m) tt)
+-- a frame that is refused, and one that is accepted
+says-refused : (f : List ℕ) (v : Unit) (n : ℕ) → eventOf (ofFrame f (answered v (suc n))) ≡ other
+unfolding eventOf
+says-refused f v n = refl
 
 says-accepted : (f : List ℕ) (v : Unit) (x : Message) → readFrame f ≡ x
     → eventOf (ofFrame f (answered v 0)) ≡ acceptedEvent x
-says-accepted f v x e = says-heard (frame f) 0 ∙ ap acceptedEvent e
+unfolding eventOf
+says-accepted f v x e = ap acceptedEvent e
 
 -- ---- the invariant, for a unit that was made for this train, start and end
 
@@ -94,21 +97,22 @@ module _ (t a e : ℕ) where
 
     carried-out : (b : Button) → u .phase ≡ phaseFor b → u .at .0 ≢ u .route .end .0
         → Stepped past (carriedOut u b .unit) (eventOf (ofPress b (carriedOut u b)))
-    unfolding carriedOut
+    unfolding carriedOut IsMessage
     carried-out Ask h short =
         let good = carried-out-valid u (k .good) Ask short in
         let asked = after-fa t past (ownMove u) in
-        with-event (inPhase u Asked) (says-fa (press Ask) 0 (ownMove u)) (onward short, told-as Standing h)
+        let says = says-sent Ask (inPhase u Asked) (Fa (ownMove u)) tt in
+        with-event (inPhase u Asked) says (onward short, told-as Standing h)
         (in-phase (fa (ownMove u)) Asked good (λ n. refl) asked)
     carried-out Depart h short =
         let good = carried-out-valid u (k .good) Depart short in
         let granted = authorised-kept t past nothing (told-as Granted h) in
-        with-event (inPhase u UnderWay) (says-heard (press Depart) 0) (record {})
+        with-event (inPhase u UnderWay) (says-nothing Depart (inPhase u UnderWay) 0) (record {})
         (in-phase other UnderWay good (λ n. refl) granted)
     carried-out Reached h short =
         let good = carried-out-valid u (k .good) Reached short in
         let granted = authorised-kept t past nothing (told-as UnderWay h) in
-        with-event (inPhase u Arrived) (says-heard (press Reached) 0) (record {})
+        with-event (inPhase u Arrived) (says-nothing Reached (inPhase u Arrived) 0) (record {})
         (in-phase other Arrived good (λ n. refl) granted)
     carried-out Report h short =
         let standing : Tied (movedOn u) (with past (am (ownMove u))) = record {
@@ -118,14 +122,15 @@ module _ (t a e : ℕ) where
           post = sym (place-with a past (am (ownMove u)));
           told = after-am t past (ownMove u);
         } in
-        with-event (movedOn u) (says-am (press Report) 0 (ownMove u)) (onward short, told-as Arrived h) standing
+        let says = says-sent Report (movedOn u) (Am (ownMove u)) tt in
+        with-event (movedOn u) says (onward short, told-as Arrived h) standing
 
     pressed : {b : Button} {r : Pressed} → outcomes.PressOutcome u b r → Stepped past (r .unit) (eventOf (ofPress b r))
-    pressed {b} (outcomes.refused n) = with-event u (says-heard (press b) (suc n)) (record {}) (unchanged other nothing)
+    pressed {b} (outcomes.refused n) = with-event u (says-nothing b u (suc n)) (record {}) (unchanged other nothing)
     pressed {b} (outcomes.accepted h short) = carried-out b h short
 
     heard : {f : List ℕ} {r : Heard} → outcomes.HearOutcome u f r → Stepped past (r .unit) (eventOf (ofFrame f r))
-    heard {f} (outcomes.refused n) = with-event u (says-heard (frame f) (suc n)) (record {}) (unchanged other nothing)
+    heard {f} (outcomes.refused n) = with-event u (says-refused f u n) (record {}) (unchanged other nothing)
     heard {f} (outcomes.fe-passed-over m r h) =
         let another : m .train .0 ≢ t = λ z. h (z ∙ sym (k .train)) in
         with-event u (says-accepted f u (Fe m) r) (λ z. absurd (another z)) (unchanged (fe m) (elsewhere m another))

@@ -9,7 +9,8 @@ use lib.Dec.{eqb}
 use borrow.Author.Tests.{eqb-true, eqb-false, not-true}
 use Rattle.common.specs.Check.{refusal, unlessRefused}
 use Rattle.common.proofs.Tests.{by-cases, not-passed, and-left, and-right}
-use Rattle.common.proofs.Check.{passed-at}
+use Rattle.common.proofs.Check.{passed-by}
+use Rattle.line.specs.Refusal.{wrongEnd, atEnd, notNow, notAwaited}
 use Rattle.frame.specs.Frame.{moveOf, readFrame}
 use Rattle.driver.specs.Types.{Move, Message, Fa, Fe, Afe, Am, Refused, Button, Unit, Pressed, Heard, Asked}
 use Rattle.driver.specs.Types.{Declined, Granted}
@@ -29,8 +30,8 @@ press-outcome u b = at (refusal (pressChecks u b)) refl
   where
     at : (n : ℕ) → refusal (pressChecks u b) ≡ n → PressOutcome u b (unlessRefused n (carriedOut u b) (silent u))
     at zero e =
-        let passed = passed-at (pressChecks u b) refl e in
-        accepted (same-phase (u .phase) (phaseFor b) (passed 1)) (eqb-false _ _ (not-true _ (passed 2)))
+        let passed = passed-by (pressChecks u b) refl e in
+        accepted (same-phase (u .phase) (phaseFor b) (passed notNow)) (eqb-false _ _ (not-true _ (passed atEnd)))
     at (suc n) e = refused n
 
 -- an FE or AFE that is passed over, or the FE or AFE for the unit's own move when it waits for one
@@ -50,7 +51,7 @@ module _ (u : Unit) (m : Move) where
   unfolding forMove
   own-train h = and-left (forTrain u m) _ h
 
-  own-move : forMove u m ≡ true → m ≡ ownMove u
+  pub own-move : forMove u m ≡ true → m ≡ ownMove u
   unfolding forMove
   own-move h =
       let posts = and-right (forTrain u m) _ h in
@@ -80,6 +81,6 @@ module _ (u : Unit) (f : List ℕ) where
       at : (n : ℕ) → refusal (hearChecks u f) ≡ n
           → HearOutcome u f (unlessRefused n (answered (inPhase u (phaseAfter u (readFrame f))) 0) (answered u))
       at zero e =
-          let passed = passed-at (hearChecks u f) refl e in
-          taken (readFrame f) refl (passed 4) (passed 5)
+          let passed = passed-by (hearChecks u f) refl e in
+          taken (readFrame f) refl (passed wrongEnd) (passed notAwaited)
       at (suc n) e = refused n

@@ -53,13 +53,15 @@ pub data Event : Type 0 where
   am : Move → Event
   other : Event
 
-abbrev pub sentEvent : Message → Event → Event
-sentEvent (Fa m) e = fa m
-sentEvent (Fe m) e = e
-sentEvent (Afe m) e = e
-sentEvent (Am m) e = am m
-sentEvent (Refused n) e = e
+-- a press, by the frame that it sent
+abbrev pub sentEvent : Message → Event
+sentEvent (Fa m) = fa m
+sentEvent (Fe m) = other
+sentEvent (Afe m) = other
+sentEvent (Am m) = am m
+sentEvent (Refused n) = other
 
+-- a frame that was accepted
 abbrev pub acceptedEvent : Message → Event
 acceptedEvent (Fa m) = other
 acceptedEvent (Fe m) = fe m
@@ -67,14 +69,14 @@ acceptedEvent (Afe m) = other
 acceptedEvent (Am m) = other
 acceptedEvent (Refused n) = other
 
-abbrev pub heardEvent : Input → ℕ → Event
-heardEvent (press b) n = other
-heardEvent (frame f) zero = acceptedEvent (readFrame f)
-heardEvent (frame f) (suc n) = other
+-- by the button and what the bytes sent read as, or by the frame that was heard and the number of its refusal or 0
+abbrev pub eventBy : Input → ℕ → Message → Event
+eventBy (press b) n a = sentEvent a
+eventBy (frame f) zero a = acceptedEvent (readFrame f)
+eventBy (frame f) (suc n) a = other
 
--- by reading the bytes sent or, where none were, the bytes of a frame that was accepted
 unfoldable pub eventOf : Exchange → Event
-eventOf x = sentEvent (readFrame (x .sent)) (heardEvent (x .input) (x .refusal))
+eventOf x = eventBy (x .input) (x .refusal) (readFrame (x .sent))
 
 -- ---- what the events so far say
 

@@ -2,7 +2,7 @@
 use mathlib.Core.Path.{_∙_}
 use borrow.Author.Tests.{eq-eqb, ne-eqb}
 use Rattle.common.proofs.Tests.{and-passed, and-failed}
-use Rattle.unit.proofs.Frames.{other-train, own-train}
+use Rattle.driver.proofs.Frames.{other-train, own-train}
 use borrow.Author.Needs.{needs}
 use Rattle.unit.proofs.hearing.for_move.Statement.{statement}
 use Rattle.unit.proofs.hearing.for_move.Tie as tie

@@ -9,7 +9,7 @@ use borrow.Author.Tests.{not-true, not-false}
 use Rattle.frame.specs.Frame.{readFrame}
 use Rattle.unit.specs.Types.{Move, Fe, Afe, Unit}
 use Rattle.driver.specs.State.{validUnit}
-use Rattle.unit.proofs.Frames as frames
+use Rattle.driver.proofs.Frames as frames
 use borrow.Author.Needs.{needs}
 use Rattle.unit.proofs.hearing.hear.Statement.{statement}
 use Rattle.unit.proofs.hearing.hear.Tie as tie

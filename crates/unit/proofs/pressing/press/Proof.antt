@@ -5,7 +5,7 @@ use borrow.Author.Tests.{not-true, not-false}
 use Rattle.unit.specs.Types.{Unit, Button}
 use Rattle.driver.specs.State.{samePhase, validUnit}
 use Rattle.driver.specs.Pressing.{phaseFor}
-use Rattle.unit.proofs.Buttons.{strange, other-phase, no-move, ask, depart, reached, report}
+use Rattle.driver.proofs.Buttons.{strange, other-phase, no-move, ask, depart, reached, report}
 use borrow.Author.Needs.{needs}
 use Rattle.unit.proofs.pressing.press.Statement.{statement}
 use Rattle.unit.proofs.pressing.press.Tie as tie

@@ -13,10 +13,10 @@ use Rattle.line.specs.Refusal.{strangeState, wrongEnd, notAwaited}
 use Rattle.frame.specs.Frame.{readChecks, readFrame}
 use Rattle.frame.specs.RoundTrip.{IsMessage}
 use Rattle.frame.proofs.Outcome.{read-passed, read-refused}
-use Rattle.unit.specs.Types.{Move, Message, Fa, Fe, Afe, Am, Refused, Phase, Asked, Declined, Granted, Unit}
+use Rattle.driver.specs.Types.{Move, Message, Fa, Fe, Afe, Am, Refused, Phase, Asked, Declined, Granted, Unit}
 use Rattle.driver.specs.State.{samePhase, ownMove, inPhase, validUnit}
 use Rattle.driver.specs.Hearing.{forTrain, forMove, awaiting, forUnit, awaited, hearChecks, phaseAfter, answered}
 use Rattle.driver.specs.Hearing.{hearFrame}
 
 -- the tests of a move against the unit's own
 module _ (u : Unit) (m own : Move) (is-own : own ≡ ownMove u) where

@@ -7,9 +7,9 @@ use native.Mathlib.Omega.{arith}
 use borrow.Author.Tests.{eq-eqb, ne-eqb}
 use Rattle.common.proofs.Check.{Refuses, none, stop, pass, accepted-by, refused-by}
 use Rattle.line.specs.Refusal.{strangeState, notNow, atEnd}
-use Rattle.unit.specs.Types.{Move, Fa, Am, Asked, UnderWay, Arrived, Button, Ask, Depart, Reached, Report, Unit}
+use Rattle.driver.specs.Types.{Move, Fa, Am, Asked, UnderWay, Arrived, Button, Ask, Depart, Reached, Report, Unit}
 use Rattle.driver.specs.State.{samePhase, ownMove, inPhase, validUnit}
 use Rattle.driver.specs.Pressing.{phaseFor, pressChecks, silent, sending, movedOn, carriedOut, pressButton}
 
 module _ (u : Unit) (b : Button) where
   refused : {n : ℕ} → 0 < n → Refuses (pressChecks u b) n → silent u n ≡ pressButton u b

@@ -1,0 +1,46 @@
+-- The claims on the numbers of a unit: 01, "Declining by number". Each is given for what the paper says, once the
+-- checks before it pass: 18 for a making; 1, 21, 8 for a button; 1, then 3, 4 or 5, 6, 22 for a frame.
+use mathlib.Core.Path.{_≡_}
+use mathlib.Core.Logic.{_≢_, _⊎_}
+use mathlib.Core.Bool.{true, false}
+use mathlib.Core.List.{List}
+use Prim.Native.Nat.{ℕ, _<_}
+use Rattle.line.specs.Refusal.{strangeState, wrongEnd, atEnd, offTheLine, notNow, notAwaited}
+use Rattle.frame.specs.Frame.{readFrame}
+use Rattle.driver.specs.Types.{Move, Fa, Fe, Am, Refused, Unit, Button, Ask, Standing}
+use Rattle.driver.specs.State.{ownMove, validUnit}
+use Rattle.driver.specs.Making.{makeUnit}
+use Rattle.driver.specs.Pressing.{phaseFor, pressButton}
+use Rattle.driver.specs.Hearing.{awaiting, hearFrame}
+
+abbrev pub PressRefused : ℕ → Unit → Button → Type 0
+PressRefused n u b = pressButton u b .refusal ≡ n
+
+abbrev pub HearingRefused : ℕ → Unit → List ℕ → Type 0
+HearingRefused n u f = hearFrame u f .refusal ≡ n
+
+-- the unit is valid, and the frame an FE for its own train
+pub record HearsFe (u : Unit) (f : List ℕ) (m : Move) : Type 0 where
+  pub good : validUnit u ≡ true
+  pub reads : readFrame f ≡ Fe m
+  pub own : m .train .0 ≡ u .train .0
+
+pub record Refusals : Type 0 where
+  -- 1, strange state: "state not sound"
+  pub strange-press : (u : Unit) (b : Button) → validUnit u ≡ false → PressRefused strangeState u b
+  pub strange-hearing : (u : Unit) (f : List ℕ) → validUnit u ≡ false → HearingRefused strangeState u f
+  -- 3, 4, 5: a frame that is not read, by the number of its reading
+  pub unread : (u : Unit) (f : List ℕ) (n : ℕ) → validUnit u ≡ true → readFrame f ≡ Refused n → HearingRefused n u f
+  -- 6, wrong end: "FA, AM at a unit"
+  pub wrong-end : (u : Unit) (f : List ℕ) (m : Move) → validUnit u ≡ true
+      → (readFrame f ≡ Fa m) ⊎ (readFrame f ≡ Am m) → HearingRefused wrongEnd u f
+  -- 8, at its end: "no next post"
+  pub ended : (u : Unit) → validUnit u ≡ true → u .phase ≡ Standing → u .at .0 ≡ u .route .end .0
+      → PressRefused atEnd u Ask
+  -- 18, off the line: "train above 5, start or end above 7"
+  pub off-line : (t a e : ℕ) → (5 < t) ⊎ ((7 < a) ⊎ (7 < e)) → makeUnit t a e .refusal ≡ offTheLine
+  -- 21, not now: "button in the wrong state"
+  pub not-now : (u : Unit) (b : Button) → validUnit u ≡ true → u .phase ≢ phaseFor b → PressRefused notNow u b
+  -- 22, not awaited: "FE in the wrong state or for another move"
+  pub not-awaited : (u : Unit) (f : List ℕ) (m : Move) → HearsFe u f m
+      → (awaiting (u .phase) ≡ false) ⊎ (m ≢ ownMove u) → HearingRefused notAwaited u f
