@@ -16,7 +16,6 @@ pub use log::log_at;
 pub use log::log_length;
 pub use log::log_with;
 pub use record::Record;
-pub use record::blank;
 pub use record::frame_of;
 pub use record::record_of;
 pub use writing::append;

@@ -3,11 +3,8 @@ use borrow.Author.Needs.{needs}
 use Rattle.journal.proofs.batch.empty.Statement.{statement}
 use Rattle.journal.proofs.batch.empty.Tie as tie
 
-blank-requires : tie.Need-blank-requires
-blank-requires c κs = search needs
-
 returns : tie.Need-returns
 returns c = rw (c .blank .ensures)
 
 pub empty-spec : {M : Type 1} → statement M
-empty-spec = tie.close (tie.spec blank-requires returns)
+empty-spec = tie.close (tie.spec (λ c κs. search needs) returns)

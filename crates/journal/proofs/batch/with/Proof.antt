@@ -5,15 +5,6 @@ use Rattle.journal.proofs.Batches.{with-room, with-full}
 use Rattle.journal.proofs.batch.with.Statement.{statement}
 use Rattle.journal.proofs.batch.with.Tie as tie
 
-mul-items : tie.Need-mul-items
-mul-items c = search needs
-
-array-set-from-items : tie.Need-array-set-from-items
-array-set-from-items c = search needs
-
-add-t6 : tie.Need-add-t6
-add-t6 c = search needs
-
 returns : tie.Need-returns
 returns c = with-room _ _ (omega arith)
 
@@ -21,4 +12,4 @@ returns-2 : tie.Need-returns-2
 returns-2 c = with-full _ _ (omega arith)
 
 pub with-spec : {M : Type 1} → statement M
-with-spec = tie.close (tie.spec mul-items array-set-from-items add-t6 returns returns-2)
+with-spec = tie.close (tie.spec (λ c. search needs) (λ c. search needs) (λ c. search needs) returns returns-2)

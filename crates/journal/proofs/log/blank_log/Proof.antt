@@ -3,11 +3,8 @@ use borrow.Author.Needs.{needs}
 use Rattle.journal.proofs.log.blank_log.Statement.{statement}
 use Rattle.journal.proofs.log.blank_log.Tie as tie
 
-blank-requires : tie.Need-blank-requires
-blank-requires c κs = search needs
-
 returns : tie.Need-returns
 returns c = rw (c .blank .ensures)
 
 pub blank-log-spec : {M : Type 1} → statement M
-blank-log-spec = tie.close (tie.spec blank-requires returns)
+blank-log-spec = tie.close (tie.spec (λ c κs. search needs) returns)

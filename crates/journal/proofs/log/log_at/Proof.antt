@@ -7,18 +7,6 @@ use borrow.Author.Needs.{needs}
 use Rattle.journal.proofs.log.log_at.Statement.{statement}
 use Rattle.journal.proofs.log.log_at.Tie as tie
 
-mul-result : tie.Need-mul-result
-mul-result c = search needs
-
-array-copy-out-result : tie.Need-array-copy-out-result
-array-copy-out-result c = search needs
-
-blank-requires : tie.Need-blank-requires
-blank-requires c κs = search needs
-
-returns : tie.Need-returns
-returns c = search needs
-
 returns-2 : tie.Need-returns-2
 returns-2 c =
     let a = c .before .before .before in
@@ -27,4 +15,4 @@ returns-2 c =
 
 pub log-at-spec : {M : Type 1} → statement M
 log-at-spec =
-    tie.close (tie.spec mul-result array-copy-out-result blank-requires returns returns-2)
+    tie.close (tie.spec (λ c. search needs) (λ c. search needs) (λ c κs. search needs) (λ c. search needs) returns-2)

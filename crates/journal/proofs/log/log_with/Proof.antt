@@ -11,12 +11,6 @@ use mathlib.Core.List.{List}
 use Rattle.journal.proofs.log.log_with.Statement.{statement}
 use Rattle.journal.proofs.log.log_with.Tie as tie
 
-log-length-requires : tie.Need-log-length-requires
-log-length-requires c κs = search needs
-
-fitting-requires : tie.Need-fitting-requires
-fitting-requires c κs = search needs
-
 -- how many are written
 module _ (c : tie.After-fitting) where
   abbrev start : tie.Start
@@ -51,7 +45,7 @@ pub log-with-spec : {M : Type 1} → statement M
 log-with-spec =
     tie.close
     (tie.spec
-    log-length-requires
-    fitting-requires
+    (λ c κs. search needs)
+    (λ c κs. search needs)
     with-items-requires
     returns)

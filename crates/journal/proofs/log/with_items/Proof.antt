@@ -7,7 +7,7 @@ use native.Mathlib.Omega.{arith}
 use lib.ListN.{length}
 use lib.Seq.{paste, paste-zero, paste-suc}
 use borrow.Author.Needs.{needs}
-use Rattle.journal.specs.Journal.{blank}
+use Rattle.journal.specs.Journal.{journalLength, batchLength, blank}
 use Rattle.journal.proofs.log.with_items.Statement.{statement}
 use Rattle.journal.proofs.log.with_items.Tie as tie
 
@@ -34,7 +34,7 @@ module _ (c : tie.In-loop Inv-loop μ-loop) where
   place : start .args .at + c .before .loop .k < length (start .args .records)
   place = start .pre .1 (c .before .loop .k) (c .loop-test .taken)
 
-  all : length (start .args .records) ≡ 176
+  all : length (start .args .records) ≡ journalLength
   all = search needs
 
 add-after : tie.Need-add-after Inv-loop μ-loop
@@ -57,7 +57,7 @@ loop-again c =
     let at = c .before .before in
     let a = at .before .args in
     let pre = at .before .pre in
-    let seven : length (a .t3) ≡ 7 = search needs in (
+    let seven : length (a .t3) ≡ batchLength = search needs in (
       omega arith,
       rw (at .loop .inv .1, add-one)
           (paste-suc (a .records) (a .at) (a .t3) (at .loop .k) blank (place (c .before)) (omega arith)),

@@ -94,6 +94,10 @@ slice = sliceTy (tyRef (named 0) mut (pointee (R.the-row .written)))
 abbrev word : Ty
 word = tyInt w64
 
+-- the bytes of a record in memory
+abbrev recordSize : ℕ
+recordSize = 4
+
 -- the contracts of the two callees
 module _ {M : Type 1} (𝓤 : URA M) (H : Heap 𝓤) (A : Atoms 𝓤) (mem : Memory → SProp 𝓤) (run : Routine → Fun 𝓤) where
   abbrev Fitting : Contract 𝓤
@@ -308,7 +312,7 @@ module _ {M : Type 1} (𝓤 : URA M) (H : Heap 𝓤) (A : Atoms 𝓤) (W : Given
           (init ! 7 refl (tt, record { fits = omega (arith, room .1) })) $
           assigns ! (bin ! (load ! (from ! (fld ! refl (stop !))) (look-in ! 25 (sub ! 0 refl (whole !))))
           (load ! (from ! (stop !)) (look ! 7 refl)) tt) (from ! (stop !)) (init ! 5 refl (tt, tt)) $
-          rewrite ! 5 (λ (p : ℕ). cell tyPtr l₁₁ (vptr b p)) (sym (place-is 4 o (at + k))) refl $
+          rewrite ! 5 (λ (p : ℕ). cell tyPtr l₁₁ (vptr b p)) (sym (place-is recordSize o (at + k))) refl $
           move ! (1 ∷ []) $ elem-out ! R.the-row (Is R.the-row) (shows 𝓤 H A R.the-row) (LL.vals R.the-type R′.the-laws)
           (LL.tells R.the-type R′.the-laws) fullShare (upto k) (at + k) blank b o here (λ _.
           -- *_11 = _8: [journal[at + k]; what it owns; the other records; what r owns; the open borrow; two facts; _11;

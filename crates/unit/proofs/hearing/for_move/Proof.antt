@@ -7,9 +7,6 @@ use borrow.Author.Needs.{needs}
 use Rattle.unit.proofs.hearing.for_move.Statement.{statement}
 use Rattle.unit.proofs.hearing.for_move.Tie as tie
 
-own-move-requires : tie.Need-own-move-requires
-own-move-requires c κs = search needs
-
 returns : tie.Need-returns
 returns c = other-train _ _ _ (c .before .before .before .own-move .ensures) (c .if1 .taken)
 
@@ -33,4 +30,4 @@ returns-3 c =
     and-failed _ _ (ne-eqb _ _ (c .if2 .left)) ∙ own-train _ _ _ (own k .own-move .ensures) (passed k .if1 .left)
 
 pub for-move-spec : {M : Type 1} → statement M
-for-move-spec = tie.close (tie.spec own-move-requires returns returns-2 returns-3)
+for-move-spec = tie.close (tie.spec (λ c κs. search needs) returns returns-2 returns-3)

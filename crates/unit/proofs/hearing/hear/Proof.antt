@@ -14,12 +14,6 @@ use borrow.Author.Needs.{needs}
 use Rattle.unit.proofs.hearing.hear.Statement.{statement}
 use Rattle.unit.proofs.hearing.hear.Tie as tie
 
-valid-requires : tie.Need-valid-requires
-valid-requires c κs = search needs
-
-answered-requires : tie.Need-answered-requires
-answered-requires c κs = search needs
-
 returns : tie.Need-returns
 returns c =
     c .answered .ensures
@@ -51,31 +45,10 @@ module _ (c : tie.After-m2) where
   is-afe : readFrame (bytes (c .before .before)) ≡ Afe afe
   is-afe = sym (c .before .before .read .ensures) ∙ c .m2 .given .1
 
-read-requires : tie.Need-read-requires
-read-requires c κs = search needs
-
-enum-told : tie.Need-enum-told
-enum-told c = search needs
-
-answered-requires-2 : tie.Need-answered-requires-2
-answered-requires-2 c κs = search needs
-
-enum-known-m : tie.Need-enum-known-m
-enum-known-m c = search needs
-
-answered-requires-3 : tie.Need-answered-requires-3
-answered-requires-3 c κs = search needs
-
 returns-2 : tie.Need-returns-2
 returns-2 c =
     let m = c .before .before .before .before .before in
     c .answered3 .ensures ∙ frames.fe-for-another _ _ (good (m .before .before)) _ (is-fe m) (c .before .if2 .taken)
-
-for-move-requires : tie.Need-for-move-requires
-for-move-requires c κs = search needs
-
-answered-requires-4 : tie.Need-answered-requires-4
-answered-requires-4 c κs = search needs
 
 -- and it is for the unit's own train
 module _ (c : tie.After-for-move) where
@@ -99,12 +72,6 @@ returns-3 c =
     ∙ frames.fe-for-another-move _ _ (fe-good a) _ (is-fe (at-fe a)) (a .before .if2 .left)
     (sym (a .for-move .ensures) ∙ not-true _ (c .before .if3 .taken))
 
-awaiting-requires : tie.Need-awaiting-requires
-awaiting-requires c κs = search needs
-
-answered-requires-5 : tie.Need-answered-requires-5
-answered-requires-5 c κs = search needs
-
 returns-4 : tie.Need-returns-4
 returns-4 c =
     let w = c .before .before in
@@ -114,33 +81,12 @@ returns-4 c =
     (sym (a .for-move .ensures) ∙ not-false _ (w .before .if3 .left))
     (sym (w .awaiting .ensures) ∙ not-true _ (c .before .if4 .taken))
 
-in-phase-requires : tie.Need-in-phase-requires
-in-phase-requires c κs = search needs
-
-answered-requires-6 : tie.Need-answered-requires-6
-answered-requires-6 c κs = search needs
-
-enum-known-m-2 : tie.Need-enum-known-m-2
-enum-known-m-2 c = search needs
-
-for-move-requires-2 : tie.Need-for-move-requires-2
-for-move-requires-2 c κs = search needs
-
-answered-requires-7 : tie.Need-answered-requires-7
-answered-requires-7 c κs = search needs
-
 returns-5 : tie.Need-returns-5
 returns-5 c =
     let a = c .before .before in
     c .answered7 .ensures
     ∙ frames.afe-for-another _ _ (afe-good a) _ (is-afe (at-afe a))
     (sym (a .for-move2 .ensures) ∙ not-true _ (c .before .if5 .taken))
-
-same-requires : tie.Need-same-requires
-same-requires c κs = search needs
-
-answered-requires-8 : tie.Need-answered-requires-8
-answered-requires-8 c κs = search needs
 
 returns-6 : tie.Need-returns-6
 returns-6 c =
@@ -150,24 +96,6 @@ returns-6 c =
     ∙ frames.afe-not-now _ _ (afe-good a) _ (is-afe (at-afe a))
     (sym (a .for-move2 .ensures) ∙ not-false _ (w .before .if5 .left))
     (sym (w .same .ensures) ∙ not-true _ (c .before .if6 .taken))
-
-in-phase-requires-2 : tie.Need-in-phase-requires-2
-in-phase-requires-2 c κs = search needs
-
-answered-requires-9 : tie.Need-answered-requires-9
-answered-requires-9 c κs = search needs
-
-enum-told-2 : tie.Need-enum-told-2
-enum-told-2 c = search needs
-
-answered-requires-10 : tie.Need-answered-requires-10
-answered-requires-10 c κs = search needs
-
-enum-known-n : tie.Need-enum-known-n
-enum-known-n c = search needs
-
-answered-requires-11 : tie.Need-answered-requires-11
-answered-requires-11 c κs = search needs
 
 returns-7 : tie.Need-returns-7
 returns-7 c =
@@ -209,36 +137,36 @@ pub hear-spec : {M : Type 1} → statement M
 hear-spec =
     tie.close
     (tie.spec
-    valid-requires
-    answered-requires
+    (λ c κs. search needs)
+    (λ c κs. search needs)
     returns
-    read-requires
-    enum-told
-    answered-requires-2
-    enum-known-m
-    answered-requires-3
+    (λ c κs. search needs)
+    (λ c. search needs)
+    (λ c κs. search needs)
+    (λ c. search needs)
+    (λ c κs. search needs)
     returns-2
-    for-move-requires
-    answered-requires-4
+    (λ c κs. search needs)
+    (λ c κs. search needs)
     returns-3
-    awaiting-requires
-    answered-requires-5
+    (λ c κs. search needs)
+    (λ c κs. search needs)
     returns-4
-    in-phase-requires
-    answered-requires-6
-    enum-known-m-2
-    for-move-requires-2
-    answered-requires-7
+    (λ c κs. search needs)
+    (λ c κs. search needs)
+    (λ c. search needs)
+    (λ c κs. search needs)
+    (λ c κs. search needs)
     returns-5
-    same-requires
-    answered-requires-8
+    (λ c κs. search needs)
+    (λ c κs. search needs)
     returns-6
-    in-phase-requires-2
-    answered-requires-9
-    enum-told-2
-    answered-requires-10
-    enum-known-n
-    answered-requires-11
+    (λ c κs. search needs)
+    (λ c κs. search needs)
+    (λ c. search needs)
+    (λ c κs. search needs)
+    (λ c. search needs)
+    (λ c κs. search needs)
     returns-7
     returns-8
     returns-9

@@ -6,19 +6,10 @@ use borrow.Author.Needs.{needs}
 use Rattle.unit.proofs.making.make.Statement.{statement}
 use Rattle.unit.proofs.making.make.Tie as tie
 
-numbers-fit-requires : tie.Need-numbers-fit-requires
-numbers-fit-requires c κs = search needs
-
-standing-requires : tie.Need-standing-requires
-standing-requires c κs = search needs
-
 returns : tie.Need-returns
 returns c =
     let f = c .before .before .numbers-fit in
     makes-none _ _ _ (sym (f .ensures) ∙ not-true _ (c .before .if1 .taken)) _ (c .standing .ensures)
-
-standing-requires-2 : tie.Need-standing-requires-2
-standing-requires-2 c κs = search needs
 
 returns-2 : tie.Need-returns-2
 returns-2 c =
@@ -28,4 +19,4 @@ returns-2 c =
 pub make-spec : {M : Type 1} → statement M
 make-spec =
     tie.close
-    (tie.spec numbers-fit-requires standing-requires returns standing-requires-2 returns-2)
+    (tie.spec (λ c κs. search needs) (λ c κs. search needs) returns (λ c κs. search needs) returns-2)

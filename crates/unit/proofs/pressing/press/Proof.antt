@@ -10,24 +10,9 @@ use borrow.Author.Needs.{needs}
 use Rattle.unit.proofs.pressing.press.Statement.{statement}
 use Rattle.unit.proofs.pressing.press.Tie as tie
 
-valid-requires : tie.Need-valid-requires
-valid-requires c κs = search needs
-
-silent-requires : tie.Need-silent-requires
-silent-requires c κs = search needs
-
 returns : tie.Need-returns
 returns c =
     c .silent .ensures ∙ strange _ _ (sym (c .before .before .valid .ensures) ∙ not-true _ (c .before .if1 .taken))
-
-phase-for-requires : tie.Need-phase-for-requires
-phase-for-requires c κs = search needs
-
-same-requires : tie.Need-same-requires
-same-requires c κs = search needs
-
-silent-requires-2 : tie.Need-silent-requires-2
-silent-requires-2 c κs = search needs
 
 module _ (c : tie.After-same) where
   abbrev unit : Unit
@@ -51,9 +36,6 @@ module _ (c : tie.Else2) where
   fits : samePhase (unit (c .before) .phase) (phaseFor (button (c .before))) ≡ true
   fits = sym (tested (c .before)) ∙ not-false _ (c .if2 .left)
 
-silent-requires-3 : tie.Need-silent-requires-3
-silent-requires-3 c κs = search needs
-
 returns-3 : tie.Need-returns-3
 returns-3 c =
     let e = c .before .before .before .before in
@@ -63,48 +45,6 @@ returns-3 c =
 module _ (c : tie.Else3) where
   abbrev passed : tie.Else2
   passed = c .before .before .before
-
-enum-told : tie.Need-enum-told
-enum-told c = search needs
-
-in-phase-requires : tie.Need-in-phase-requires
-in-phase-requires c κs = search needs
-
-own-move-requires : tie.Need-own-move-requires
-own-move-requires c κs = search needs
-
-sending-requires : tie.Need-sending-requires
-sending-requires c κs = search needs
-
-enum-told-2 : tie.Need-enum-told-2
-enum-told-2 c = search needs
-
-in-phase-requires-2 : tie.Need-in-phase-requires-2
-in-phase-requires-2 c κs = search needs
-
-silent-requires-4 : tie.Need-silent-requires-4
-silent-requires-4 c κs = search needs
-
-enum-told-3 : tie.Need-enum-told-3
-enum-told-3 c = search needs
-
-in-phase-requires-3 : tie.Need-in-phase-requires-3
-in-phase-requires-3 c κs = search needs
-
-silent-requires-5 : tie.Need-silent-requires-5
-silent-requires-5 c κs = search needs
-
-enum-told-4 : tie.Need-enum-told-4
-enum-told-4 c = search needs
-
-moved-on-requires : tie.Need-moved-on-requires
-moved-on-requires c κs = search needs
-
-own-move-requires-2 : tie.Need-own-move-requires-2
-own-move-requires-2 c κs = search needs
-
-sending-requires-2 : tie.Need-sending-requires-2
-sending-requires-2 c κs = search needs
 
 returns-4 : tie.Need-returns-4
 returns-4 c =
@@ -142,29 +82,29 @@ pub press-spec : {M : Type 1} → statement M
 press-spec =
     tie.close
     (tie.spec
-    valid-requires
-    silent-requires
+    (λ c κs. search needs)
+    (λ c κs. search needs)
     returns
-    phase-for-requires
-    same-requires
-    silent-requires-2
+    (λ c κs. search needs)
+    (λ c κs. search needs)
+    (λ c κs. search needs)
     returns-2
-    silent-requires-3
+    (λ c κs. search needs)
     returns-3
-    enum-told
-    in-phase-requires
-    own-move-requires
-    sending-requires
-    enum-told-2
-    in-phase-requires-2
-    silent-requires-4
-    enum-told-3
-    in-phase-requires-3
-    silent-requires-5
-    enum-told-4
-    moved-on-requires
-    own-move-requires-2
-    sending-requires-2
+    (λ c. search needs)
+    (λ c κs. search needs)
+    (λ c κs. search needs)
+    (λ c κs. search needs)
+    (λ c. search needs)
+    (λ c κs. search needs)
+    (λ c κs. search needs)
+    (λ c. search needs)
+    (λ c κs. search needs)
+    (λ c κs. search needs)
+    (λ c. search needs)
+    (λ c κs. search needs)
+    (λ c κs. search needs)
+    (λ c κs. search needs)
     returns-4
     returns-5
     returns-6

@@ -3,11 +3,8 @@ use borrow.Author.Needs.{needs}
 use Rattle.unit.proofs.pressing.sending.Statement.{statement}
 use Rattle.unit.proofs.pressing.sending.Tie as tie
 
-write-requires : tie.Need-write-requires
-write-requires c κs = search needs
-
 returns : tie.Need-returns
 returns c = rw (c .write .ensures)
 
 pub sending-spec : {M : Type 1} → statement M
-sending-spec = tie.close (tie.spec write-requires returns)
+sending-spec = tie.close (tie.spec (λ c κs. search needs) returns)

@@ -3,11 +3,8 @@ use borrow.Author.Needs.{needs}
 use Rattle.unit.proofs.state.own_move.Statement.{statement}
 use Rattle.unit.proofs.state.own_move.Tie as tie
 
-next-post-requires : tie.Need-next-post-requires
-next-post-requires c κs = search needs
-
 returns : tie.Need-returns
 returns c = rw (c .next-post .ensures)
 
 pub own-move-spec : {M : Type 1} → statement M
-own-move-spec = tie.close (tie.spec next-post-requires returns)
+own-move-spec = tie.close (tie.spec (λ c κs. search needs) returns)

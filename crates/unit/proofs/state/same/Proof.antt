@@ -4,15 +4,9 @@ use borrow.Author.Needs.{needs}
 use Rattle.unit.proofs.state.same.Statement.{statement}
 use Rattle.unit.proofs.state.same.Tie as tie
 
-phase-number-requires : tie.Need-phase-number-requires
-phase-number-requires c κs = search needs
-
-phase-number-requires-2 : tie.Need-phase-number-requires-2
-phase-number-requires-2 c κs = search needs
-
 returns : tie.Need-returns
 unfolding samePhase
 returns c = rw (c .phase-number2 .ensures, c .before .phase-number .ensures)
 
 pub same-spec : {M : Type 1} → statement M
-same-spec = tie.close (tie.spec phase-number-requires phase-number-requires-2 returns)
+same-spec = tie.close (tie.spec (λ c κs. search needs) (λ c κs. search needs) returns)

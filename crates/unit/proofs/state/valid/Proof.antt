@@ -9,14 +9,8 @@ use borrow.Author.Needs.{needs}
 use Rattle.unit.proofs.state.valid.Statement.{statement}
 use Rattle.unit.proofs.state.valid.Tie as tie
 
-numbers-fit-requires : tie.Need-numbers-fit-requires
-numbers-fit-requires c κs = search needs
-
 returns : tie.Need-returns
 returns c = numbers-wrong _ (sym (c .before .numbers-fit .ensures) ∙ not-true _ (c .if1 .taken))
-
-between-requires : tie.Need-between-requires
-between-requires c κs = search needs
 
 module _ (c : tie.After-between) where
   abbrev given : Unit
@@ -35,9 +29,6 @@ module _ (c : tie.Else2) where
 returns-3 : tie.Need-returns-3
 returns-3 c = let e = c .before .before .before in short-of-end _ (fit (e .before)) (on-route e) (c .if3 .taken)
 
-same-requires : tie.Need-same-requires
-same-requires c κs = search needs
-
 returns-4 : tie.Need-returns-4
 returns-4 c =
     let e = c .before .before .before .before in
@@ -47,10 +38,10 @@ pub valid-spec : {M : Type 1} → statement M
 valid-spec =
     tie.close
     (tie.spec
-    numbers-fit-requires
+    (λ c κs. search needs)
     returns
-    between-requires
+    (λ c κs. search needs)
     returns-2
     returns-3
-    same-requires
+    (λ c κs. search needs)
     returns-4)
