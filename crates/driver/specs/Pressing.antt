@@ -6,7 +6,7 @@ use lib.ListN.{replicate}
 use Rattle.common.specs.Check.{Check, check, refusal, unlessRefused}
 use Rattle.line.specs.Refusal.{strangeState, notNow, atEnd}
 use Rattle.line.specs.Route.{nextPost}
-use Rattle.frame.specs.Frame.{bytesOf}
+use Rattle.frame.specs.Frame.{frameLength, bytesOf}
 use Rattle.driver.specs.Types.{Message, Fa, Am, Unit, Pressed, Button, Ask, Depart, Reached, Report, Phase}
 use Rattle.driver.specs.Types.{Standing, Asked, Granted, UnderWay, Arrived}
 use Rattle.driver.specs.State.{samePhase, ended, ownMove, inPhase, validUnit}
@@ -29,7 +29,7 @@ pressChecks u b =
 -- ---- the answers: the unit, the number of the refusal or 0, and a frame or seven bytes of 0
 
 abbrev pub silent : Unit → ℕ → Pressed
-silent u n = record { unit = u; refusal = n; sent = false; frame = replicate 7 0 }
+silent u n = record { unit = u; refusal = n; sent = false; frame = replicate frameLength 0 }
 
 abbrev pub sending : Unit → Message → Pressed
 sending u m = record { unit = u; refusal = 0; sent = true; frame = bytesOf m }

@@ -9,6 +9,7 @@ use driver::Button;
 use driver::Phase;
 use driver::Pressed;
 use driver::Unit;
+use frame::FRAME_LENGTH;
 use frame::Message;
 use line::refusal::AT_END;
 use line::refusal::NOT_NOW;
@@ -71,7 +72,7 @@ fn silent(unit: Unit, refusal: u8) -> Pressed
         unit: unit,
         refusal: refusal,
         sent: false,
-        frame: [0; 7],
+        frame: [0; FRAME_LENGTH],
     }
 }
 
