@@ -1,12 +1,12 @@
 -- Alike states: the same tests pass, the same trains are granted, and a train's new record leaves them alike.
 use mathlib.Core.Path.{_≡_, refl, sym, ap, subst, _∙_}
-use mathlib.Core.Bool.{Bool, true, cond}
+use mathlib.Core.Bool.{true, cond}
 use mathlib.Core.Option.{Option, none, some}
 use mathlib.Core.List.{List, [], _∷_, _++_}
 use Prim.Native.Nat.{ℕ, zero, suc, _+_, _≤_, _<_}
 use native.Mathlib.Omega.{arith}
-use lib.Dec.{ltb, eqb}
-use lib.ListN.{length, drop}
+use lib.Dec.{eqb}
+use lib.ListN.{length}
 use borrow.Author.Tests.{ltb-true}
 use Rattle.common.specs.Update.{update}
 use Rattle.common.specs.Check.{Check, check, refusal}
@@ -20,14 +20,14 @@ use Rattle.line.specs.Holding.{holdsPost, holdsSection, postHolders, sectionHol
 use Rattle.completion.specs.Configuration.{moved, codeBelow}
 use Rattle.completion.specs.Table.{bitOf}
 use Rattle.completion.proofs.Codes.{code-cong}
-use Rattle.frame.specs.Frame.{readChecks, readFrame}
+use Rattle.frame.specs.Frame.{readFrame}
 use Rattle.rules.specs.declared.state.Train.{Train}
 use Rattle.rules.specs.declared.state.Status.the-variants.{Running}
 use Rattle.rules.specs.State.{isAsked, nextOf, locatedAt, reachedBy, trainOf, lineOf, located, reached}
 use Rattle.rules.specs.State.{withStatus, oneLogged}
 use Rattle.rules.specs.Valid.{valid}
 use Rattle.rules.specs.Granting.{grantable, older, oldest, Work, granted, proceed, grants}
-use Rattle.rules.specs.Answer.{isFa, isAm, moveIn, moveChecks, frameChecks}
+use Rattle.rules.specs.Answer.{outerChecks, knows, contentChecks, frameChecks}
 use Rattle.rules.proofs.Trains.{route-of, in-fleet, changed, changed-own, changed-other}
 use Rattle.rules.proofs.Validity.{TrainValid, Valid, valid-facts, few-logged, is-valid, asked-short}
 use Rattle.rules.proofs.Validity.{next-post-below}
@@ -35,7 +35,7 @@ use Rattle.rules.proofs.Changes.{grantable-facts, is-grantable}
 use Rattle.rules.proofs.Oldest.{oldest-some}
 use Rattle.rules.proofs.Grants.{Turn, granted-place}
 use Rattle.rules.proofs.Settling.{granted-valid}
-use Rattle.assurance.specs.Types.{Move, State}
+use Rattle.assurance.specs.Types.{Message, Fa, Fe, Afe, Am, Refused, State}
 use Rattle.assurance.specs.Unread.{Alike}
 
 -- ---- checks that are the same where those before them pass
@@ -129,19 +129,19 @@ module _ (s u : State) (a : Alike s u) where
       (λ e. is-valid u (valid-alike s u a (valid-facts s e)) (rw (a .logged) (few-logged s e)))
 
   -- the checks after 7 are reached with a train below T only
-  move-same : (asks arrives : Bool) (m : Move)
-      → refusal (moveChecks u asks arrives m) ≡ refusal (moveChecks s asks arrives m)
-  move-same asks arrives m =
-      let after : State → List Check = λ v. drop 1 (moveChecks v asks arrives m) in
-      rw (a .trains) (check-same (check unknownTrain (ltb (m .train .0) (s .trains))) (after u) (after s)
+  content-same : (b : Message) → refusal (contentChecks u b) ≡ refusal (contentChecks s b)
+  content-same (Fa m) = rw (a .trains) (check-same (check unknownTrain (knows s m)) _ _
       (λ e. rw (a .logged, a .train (m .train .0) (ltb-true (m .train .0) (s .trains) e))))
+  content-same (Am m) = rw (a .trains) (check-same (check unknownTrain (knows s m)) _ _
+      (λ e. rw (a .logged, a .train (m .train .0) (ltb-true (m .train .0) (s .trains) e))))
+  content-same (Fe m) = refl
+  content-same (Afe m) = refl
+  content-same (Refused n) = refl
 
   pub refusal-same : (table records : ℕ) (frame : List ℕ) (room : ℕ)
       → refusal (frameChecks u table records frame room) ≡ refusal (frameChecks s table records frame room)
   refusal-same table records frame room =
-      let b = readFrame frame in
-      rw valid-same (check-same _ _ _ (λ e₁. check-same _ _ _ (λ e₂. after-same (readChecks frame) _ _
-      (check-same _ _ _ (λ e₆. move-same (isFa b) (isAm b) (moveIn b))))))
+      rw valid-same (after-same (outerChecks s table records frame room) _ _ (content-same (readFrame frame)))
 
   -- ---- who can be granted
 

@@ -20,7 +20,7 @@ use Rattle.rules.specs.Answer.{mostLogged, accepted, framesOf, Answer, answered
 use Rattle.rules.proofs.Validity.{is-valid}
 use Rattle.rules.proofs.Oldest.{Nobody}
 use Rattle.rules.proofs.Frames.{bytes-length}
-use Rattle.rules.proofs.Acceptance.{Passed, by-verdict, accepted-facts}
+use Rattle.rules.proofs.Acceptance.{Passed, by-verdict, accepted-facts, accepted-nobody}
 use Rattle.assurance.specs.Types.{Move, Message, Fe, Record, State}
 use Rattle.assurance.specs.Observer.{Observer, readFrames, answersOf, hearBy}
 use Rattle.assurance.specs.WholeList.{Requested}
@@ -99,7 +99,7 @@ module _ (table : List ℕ) (s : State) (j : List Record) (o : Observer) (k : Se
       record {
         after = rw back (record {
           kept = worked .kept;
-          nobody = facts .nobody;
+          nobody = accepted-nobody table s (readFrame frame) (p .message);
           bounded = omega (arith, count .spare);
         });
         line = facts .line;

@@ -15,7 +15,7 @@ use Rattle.common.specs.Update.{update}
 use Rattle.common.proofs.Tests.{by-equality}
 use Rattle.common.proofs.Below.{count-cong}
 use Rattle.common.proofs.Update.{update-own, update-other}
-use Rattle.frame.specs.Frame.{moveOf}
+use Rattle.frame.specs.Frame.{moveOf, moveIn}
 use Rattle.journal.specs.Journal.{journalLength, blank, recordOf, recordAt}
 use Rattle.completion.specs.Configuration.{Configuration, Within, Completable, code}
 use Rattle.completion.specs.Table.{bitOf}
@@ -24,7 +24,6 @@ use Rattle.rules.specs.declared.state.Status.{Status}
 use Rattle.rules.specs.declared.state.Status.the-variants.{Free, Asked, Running}
 use Rattle.rules.specs.declared.state.Train.{Train}
 use Rattle.rules.specs.State.{isAsked, askedAs, nextOf, reachedBy, trainOf, lineOf, reached}
-use Rattle.rules.specs.Answer.{moveIn}
 use Rattle.rules.proofs.Trains.{changed, changed-own, changed-other, changed-each, changed-line}
 use Rattle.rules.proofs.Validity.{Valid}
 use Rattle.assurance.specs.Types.{Line, Message, Fa, Fe, Afe, Am, Refused, Record, State}

@@ -2,6 +2,7 @@
 -- is room in the journal.
 use mathlib.Core.Path.{_≡_, refl, _∙_}
 use mathlib.Core.Logic.{_≢_, ⊎-elim}
+use mathlib.Core.Bool.{true}
 use mathlib.Core.List.{List, [], _∷_, List·Memᴰ, List·Memᴰ·not-nil, List·Memᴰ·cases-cons}
 use Prim.Native.Nat.{ℕ, _+_}
 use lib.ListN.{length}
@@ -9,13 +10,14 @@ use native.Mathlib.Omega.{arith}
 use borrow.Author.Tests.{le-leb}
 use Rattle.common.specs.Check.{Check, refusal}
 use Rattle.common.proofs.Tests.{and-both}
-use Rattle.common.proofs.Check.{not-given}
+use Rattle.common.proofs.Check.{clear, not-given}
+use Rattle.frame.specs.Frame.{readFrame}
 use Rattle.line.specs.Refusal.{strangeState, journalFull}
 use Rattle.line.specs.Book.{lineOf as lineIn}
 use Rattle.journal.specs.Journal.{journalLength}
-use Rattle.rules.specs.Answer.{mostLogged, frameChecks, answer}
+use Rattle.rules.specs.Answer.{mostLogged, hasRoom, frameChecks, answer}
 use Rattle.rules.specs.Opening.{opening}
-use Rattle.rules.proofs.Acceptance.{by-verdict}
+use Rattle.rules.proofs.Acceptance.{by-content, by-verdict}
 use Rattle.assurance.specs.Types.{Record, State, Verdict, RefusedBy}
 use Rattle.assurance.specs.Run.{Input, Exchange, run}
 use Rattle.assurance.specs.Observer.{Observer}
@@ -35,11 +37,16 @@ module _ (table : List ℕ) where
 
     not-strange : answer s table j frame out .verdict ≢ RefusedBy strangeState
     not-strange =
-        not-by strangeState (not-given strangeState checks (omega arith) (and-both _ _ (valid-settled k) refl))
+        not-by strangeState (not-given strangeState checks (omega arith)
+        (and-both _ _ (valid-settled k)
+        (by-content s (λ cs. clear strangeState cs ≡ true) (λ m. refl) (λ m. refl) refl (readFrame frame))))
 
     not-full : answer s table j frame out .verdict ≢ RefusedBy journalFull
-    not-full = not-by journalFull (not-given journalFull checks (omega arith)
-        (and-both _ _ (le-leb (s .logged + mostLogged) journalLength (room-settled k)) refl))
+    not-full =
+        let room : hasRoom s ≡ true = le-leb (s .logged + mostLogged) journalLength (room-settled k) in
+        not-by journalFull (not-given journalFull checks (omega arith)
+        (by-content s (λ cs. clear journalFull cs ≡ true) (λ m. and-both _ _ room refl) (λ m. and-both _ _ room refl)
+        refl (readFrame frame)))
 
   -- what holds of the answer to each frame that finds a settled state holds of every exchange of a run from one
   each-exchange : (P : Verdict → Type 0)

@@ -23,6 +23,7 @@ use Rattle.rules.proofs.Oldest.{Oldest, oldest-none, oldest-some, earlier}
 use Rattle.rules.proofs.Grants.{askedCount, Turn, granted-fewer, granted-place, none-asked, few-asked, settled-next}
 use Rattle.rules.proofs.Settling.{settled-settles}
 use Rattle.rules.proofs.Acceptance.{by-verdict, refusal-leaves, paired, accepted-facts, accepted-valid}
+use Rattle.rules.proofs.Acceptance.{accepted-nobody}
 use Rattle.assurance.specs.Types.{Fe, Record, State, Sent}
 use Rattle.assurance.specs.OneFrame.{ValidKept, RefusalsChangeNothing, AtMostSix, BitInTable, NoneLeft, First}
 use Rattle.assurance.specs.OneFrame.{Granting, done, next, ExactGrant, OldestFirst, RightGrant}
@@ -52,7 +53,7 @@ none-left : (s : State) (table : List ℕ) (journal : List Record) (frame out : 
 none-left s table journal frame out n =
     by-verdict s table journal frame out (λ a. a .verdict ≡ Sent n → NoneLeft table (a .state))
     (λ k q e. absurd (let z : _≡_ {A = ℕ} 0 1 = cc in omega arith))
-    (λ p e. accepted-facts table s (p .valid-state) (readFrame frame) (p .message) .nobody .barred)
+    (λ p e. accepted-nobody table s (readFrame frame) (p .message) .barred)
 
 -- ---- the chain of grants
 

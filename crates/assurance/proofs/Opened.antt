@@ -14,7 +14,8 @@ use Rattle.common.specs.Tabulate.{valuesFrom, padded}
 use Rattle.common.proofs.Tests.{by-equality, not-passed, and-right}
 use Rattle.common.proofs.Below.{count-none, count-cong}
 use Rattle.common.proofs.Tabulate.{at-tabulate}
-use Rattle.common.proofs.Check.{passed-at, accepts, refuses}
+use Rattle.common.proofs.Check.{passed-by, accepts, refuses}
+use Rattle.line.specs.Refusal.{shortStore, posts, tracks, trains, offTheLine, overfull, noWayThrough}
 use Rattle.line.specs.Line.{routeOf}
 use Rattle.line.specs.Holding.{holdsPost, holdsSection}
 use Rattle.line.specs.Book.{lineOf as lineIn}
@@ -47,12 +48,13 @@ pub record Accepted (l : Line) (table : List ℕ) (journal : List Record) : Type
 module _ (book table : List ℕ) (journal : List Record) where
   book-passed : refusal (openingChecks book table (length journal)) ≡ 0 → Accepted (lineIn book) table journal
   book-passed e =
-      let check = passed-at (openingChecks book table (length journal)) refl e in
+      let passed = passed-by (openingChecks book table (length journal)) refl e in
       record {
-        line = well-formed (lineIn book) (well-formed-parts (lineIn book) (check 3) (check 5) (check 6) (check 8));
-        fits = feasible-of (lineIn book) start (check 9);
-        bit = check 10;
-        room = leb-true _ _ (and-right (leb tableLength (length table)) _ (check 0));
+        line = well-formed (lineIn book) (well-formed-parts (lineIn book)
+            (passed posts) (passed tracks) (passed trains) (passed offTheLine));
+        fits = feasible-of (lineIn book) start (passed overfull);
+        bit = passed noWayThrough;
+        room = leb-true _ _ (and-right (leb tableLength (length table)) _ (passed shortStore));
       }
 
   -- a book that is not refused passed them all

@@ -8,13 +8,13 @@ use lib.ListN.{length, length-set}
 use Rattle.common.specs.Check.{refusal, unlessRefused}
 use Rattle.common.proofs.Tests.{by-cases, by-equality}
 use Rattle.common.proofs.Check.{refuses}
-use Rattle.frame.specs.Frame.{readFrame}
+use Rattle.frame.specs.Frame.{moveIn, readFrame}
 use Rattle.journal.specs.Journal.{recordOf}
 use Rattle.rules.specs.declared.state.Train.{Train}
 use Rattle.rules.specs.declared.state.Status.the-variants.{Asked}
 use Rattle.rules.specs.State.{isAsked, trainOf, withStatus, arrivedNext, oneLogged}
 use Rattle.rules.specs.Granting.{Work, sends, grants, settled}
-use Rattle.rules.specs.Answer.{moveIn, frameChecks, taken, declined, accepted, answered, refused, answer}
+use Rattle.rules.specs.Answer.{frameChecks, taken, declined, accepted, answered, refused, answer}
 use Rattle.rules.proofs.Trains.{changed, changed-other, changed-each}
 use Rattle.rules.proofs.Validity.{Valid}
 use Rattle.rules.proofs.Changes.{short-place, valid-request, valid-arrival}

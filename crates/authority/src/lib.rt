@@ -17,6 +17,7 @@ pub use granting::settle;
 pub use train::arrived;
 pub use train::at_end;
 pub use train::is_asked;
+pub use train::is_running;
 pub use train::next_post;
 pub use train::with_status;
 pub use validity::valid;

@@ -20,6 +20,7 @@ use Rattle.frame.specs.Frame.{readFrame}
 use Rattle.rules.specs.Answer.{frameChecks, accepted, answered, refused, answer}
 use Rattle.rules.specs.Valid.{consistent, valid}
 use Rattle.rules.specs.Opening.{Opening, emptyState, openingWith, opening}
+use Rattle.rules.proofs.Acceptance.{by-content}
 use Rattle.assurance.specs.Run.{Input, Exchange, Ran, exchange, run}
 use Rattle.assurance.specs.Observer.{atOpening, observe}
 use Rattle.assurance.specs.WholeList.{Assured}
@@ -67,8 +68,9 @@ verdict-read s table journal frame out =
     by-equality (refusal cs) 0
     (λ e. rw (accepts a (refused s journal out) e) (sent-word _))
     (λ h.
+    let small = by-content s (λ ds. numbersBelow 256 ds ≡ true) (λ m. refl) (λ m. refl) refl (readFrame frame) in
     rw (refuses {n = refusal cs} a (refused s journal out) (omega arith))
-    (refused-word (refusal cs) h (refusal-below 256 cs (omega arith) refl)))
+    (refused-word (refusal cs) h (refusal-below 256 cs (omega arith) small)))
 
 -- ---- call by call
 

@@ -4,7 +4,7 @@ use mathlib.Core.Path.{_≡_, refl, ap, _∙_}
 use mathlib.Core.Logic.{_≢_}
 use mathlib.Core.Bool.{true}
 use mathlib.Core.List.{List}
-use Prim.Native.Nat.{ℕ, zero, suc, _+_, _≤_}
+use Prim.Native.Nat.{ℕ, zero, suc}
 use native.Mathlib.Omega.{arith}
 use lib.ListN.{length}
 use borrow.Author.Tests.{eq-eqb}
@@ -14,17 +14,16 @@ use Rattle.common.proofs.Tests.{by-cases, by-equality}
 use Rattle.common.proofs.Part.{length-replaced}
 use Rattle.common.proofs.Tabulate.{length-tabulate, length-padded}
 use Rattle.frame.specs.Frame.{readFrame}
-use Rattle.journal.specs.Journal.{journalLength}
 use Rattle.driver.specs.Making.{makeUnit}
 use Rattle.driver.specs.Pressing.{carriedOut, pressButton}
 use Rattle.driver.specs.Hearing.{hearFrame}
 use Rattle.driver.proofs.Outcomes as outcomes
 use Rattle.driver.proofs.Validity.{validity}
-use Rattle.rules.specs.Answer.{Answer, answer, mostLogged}
+use Rattle.rules.specs.Answer.{Answer, answer}
 use Rattle.rules.specs.Opening.{Opening, openingWith}
-use Rattle.rules.proofs.Acceptance.{Taken, request, arrival, by-verdict, refusal-leaves, accepted-facts}
+use Rattle.rules.proofs.Acceptance.{taken-space, by-verdict, refusal-leaves, accepted-facts}
 use Rattle.calls.specs.Types.{Button, Ask, Depart, Reached, Report, Unit, Pressed}
-use Rattle.calls.specs.Types.{Line, Message, Record, State, RefusedBy}
+use Rattle.calls.specs.Types.{Line, Record, State, RefusedBy}
 use Rattle.calls.specs.Word.{wordOf, refusalIn}
 use Rattle.encoding.specs.UnitBytes.{unitLength, unitBytes, encodesUnit, unitIn, buttonOf}
 use Rattle.calls.specs.UnitCalls.{makeUnitCall, hearCall, pressed, pressCallChecks, pressAfter, pressCall}
@@ -69,16 +68,12 @@ module _ (s : State) (table : List ℕ) (journal : List Record) (frame out : Lis
 
   -- ---- the journal
 
-  space : (a : Message) → Taken s a → s .logged + mostLogged ≤ journalLength
-  space a (request m n free idle) = n .space
-  space a (arrival m n runs) = n .space
-
   pub answer-records : length (answer s table journal frame out .journal) ≡ length journal
   answer-records =
       by-verdict s table journal frame out (λ (a : Answer). length (a .journal) ≡ length journal) (λ n e. refl)
       (λ p.
       let k = accepted-facts table s (p .valid-state) (readFrame frame) (p .message) in
-      let room = space (readFrame frame) (p .message) in
+      let room = taken-space s (readFrame frame) (p .message) in
       length-replaced journal (s .logged) _ (omega (arith, k .few, p .long-journal)))
 
 -- ---- the claims

@@ -122,7 +122,7 @@ both-pass cs ds k e = by-equality (refusal cs) 0
     (λ z. absurd (z (sym (first-part cs ds (omega arith)) ∙ e)))
 
 -- the same as the way that the number comes about
-refuses-of : (cs : List Check) {n : ℕ} → refusal cs ≡ n → Refuses cs n
+pub refuses-of : (cs : List Check) {n : ℕ} → refusal cs ≡ n → Refuses cs n
 unfolding refusal
 refuses-of [] e = subst (Refuses []) e none
 refuses-of (c ∷ cs) e = by-cases (c .passes)

@@ -4,11 +4,12 @@ use mathlib.Core.Bool.{Bool, true, false}
 use mathlib.Core.List.{List}
 use Prim.Native.Nat.{ℕ, _≤_, _<_}
 use native.Mathlib.Omega.{arith}
+use Rattle.frame.specs.Frame.{moveIn}
 use Rattle.journal.specs.Journal.{journalLength, recordOf}
 use Rattle.rules.specs.State.{isAsked, trainOf, withTrain, oneLogged}
 use Rattle.rules.specs.Valid.{consistent}
 use Rattle.rules.specs.Granting.{Work, begun, settled}
-use Rattle.rules.specs.Answer.{moveIn, taken, declined}
+use Rattle.rules.specs.Answer.{taken, declined}
 use Rattle.rules.proofs.Validity.{consistent-facts}
 use Rattle.rules.proofs.Settling.{settled-roomy}
 use Rattle.authority.specs.Progress.{batchOf, progressOf, progressWith}

@@ -2,7 +2,7 @@
 use mathlib.Core.Path.{_≡_, refl, sym, ap, subst, _∙_}
 use mathlib.Core.Logic.{_≢_}
 use mathlib.Core.List.{List}
-use Prim.Native.Nat.{ℕ, _+_, _-_, _≤_}
+use Prim.Native.Nat.{ℕ, _-_, _≤_}
 use native.Mathlib.Omega.{arith}
 use lib.ListN.{length, replicate, length-replicate}
 use Rattle.common.specs.Check.{refusal}
@@ -13,7 +13,7 @@ use Rattle.journal.specs.Journal.{blank, journalLength, batchLength, emptyBatch
 use Rattle.journal.proofs.Appended.{appended-none}
 use Rattle.dispatcher.specs.Types.{Message, Record, State, Sent, RefusedBy, Progress, Outcome}
 use Rattle.rules.specs.Granting.{Work}
-use Rattle.rules.specs.Answer.{mostLogged, frameChecks, accepted, framesOf, Answer, answerOf, answered, refused}
+use Rattle.rules.specs.Answer.{frameChecks, accepted, framesOf, Answer, answerOf, answered, refused}
 use Rattle.rules.specs.Answer.{answer}
 use Rattle.authority.specs.Progress.{batchOf, progressOf}
 use Rattle.dispatcher.specs.Step.{Acceptable, framesIn, answersIn, outcomeOf, Stepped}
@@ -75,7 +75,7 @@ module _ (s : State) (table : List ℕ) (count : ℕ) (frame out : List ℕ) (nu
     step-passed = frame-passed s table (replicate count blank) frame out
         (numbered (replicate count blank) (length-replicate count blank) ∙ zero)
 
-    left : Accepted table s (readFrame frame) work
+    left : Accepted s (readFrame frame) work
     left = accepted-facts table s (step-passed .valid-state) (readFrame frame) (step-passed .message)
 
     -- the batch has the frame's record and those of its answers
@@ -102,7 +102,7 @@ module _ (s : State) (table : List ℕ) (count : ℕ) (frame out : List ℕ) (nu
       written : (journal : List Record) → length journal ≡ count
           → replaced journal (s .logged) (work .logged) ≡ appended journal (s .logged) (p .batch)
       written journal long =
-          let space : s .logged + mostLogged ≤ journalLength = taken-space s (readFrame frame) (step-passed .message) in
+          let space = taken-space s (readFrame frame) (step-passed .message) in
           let enough : journalLength ≤ count = rw length-replicate at (step-passed .long-journal) in
           sym (batched-appended (batchOf (work .logged)) (work .logged) kept journal (s .logged)
           (omega (arith, left .few)) (omega (arith, left .few)))

@@ -1,17 +1,16 @@
 -- The checks of a frame in the order in which the code makes them: which number is given where one fails.
-use mathlib.Core.Path.{_≡_, refl, sym, ap, subst, _∙_}
+use mathlib.Core.Path.{_≡_, refl, sym, ap, _∙_}
 use mathlib.Core.Logic.{_≢_}
-use mathlib.Core.Bool.{Bool, true, false, not, _&&_, _||_}
-use mathlib.Core.List.{List, [], _∷_, _++_}
-use Prim.Native.Nat.{ℕ, _+_, _≤_, _<_}
+use mathlib.Core.Bool.{Bool, true, false, not, _&&_}
+use mathlib.Core.List.{List, _∷_, _++_}
+use Prim.Native.Nat.{ℕ, _≤_, _<_}
 use native.Mathlib.Omega.{arith}
-use lib.Dec.{leb, eqb}
-use borrow.Author.Tests.{lt-ltb, le-ltb, le-leb, lt-leb, eq-eqb, ne-eqb}
+use lib.Dec.{leb}
+use borrow.Author.Tests.{lt-ltb, le-ltb, eq-eqb, ne-eqb}
 use Rattle.common.specs.Check.{Check, check, refusal}
 use Rattle.common.proofs.Check.{Refuses, none, stop, pass, refusal-is, check-passes, check-fails, first-part}
 use Rattle.common.proofs.Check.{second-part, stop-within, pass-all}
 use Rattle.line.specs.Refusal.{strangeState, shortStore, wrongEnd, unknownTrain, atEnd as trainAtEnd, wrongPost}
-use Rattle.line.specs.Refusal.{journalFull}
 use Rattle.frame.specs.Frame.{readChecks, readFrame}
 use Rattle.frame.specs.RoundTrip.{IsMessage}
 use Rattle.frame.proofs.Outcome.{read-passed, read-refused}
@@ -20,67 +19,53 @@ use Rattle.completion.specs.Table.{tableLength}
 use Rattle.dispatcher.specs.Types.{Move, Message, Fa, Fe, Afe, Am, Refused, Train, State}
 use Rattle.rules.specs.State.{atEnd, nextOf, trainOf}
 use Rattle.rules.specs.Valid.{valid}
-use Rattle.rules.specs.Answer.{outLength, mostLogged, isFa, isAm, moveIn, statusChecks, moveChecks, frameChecks}
+use Rattle.rules.specs.Answer.{outLength, forBox, knows, moveChecks, contentChecks, frameChecks}
 use Rattle.dispatcher.specs.Step.{messageRefusal}
 
 -- ---- the checks of a move
 
-module _ (s : State) (asks : Bool) (m : Move) where
-  abbrev checks : List Check
-  checks = moveChecks s asks (not asks) m
-
-  pub no-train : s .trains ≤ m .train .0 → unknownTrain ≡ refusal checks
-  no-train h = sym (refusal-is (stop (le-ltb _ _ h)))
-
+module _ (s : State) (m : Move) where
   -- x is the train's record
-  module _ (known : m .train .0 < s .trains) (x : Train) (own : x ≡ trainOf s (m .train .0)) where
-    pub train-ended : atEnd x ≡ true → trainAtEnd ≡ refusal checks
-    train-ended e = sym (refusal-is (pass (lt-ltb _ _ known) (stop (rw (← own, e)))))
+  module _ (x : Train) (own : x ≡ trainOf s (m .train .0)) where
+    pub train-ended : atEnd x ≡ true → trainAtEnd ≡ refusal (moveChecks s m)
+    train-ended e = sym (refusal-is (stop (rw (← own, e))))
 
     module _ (short : atEnd x ≡ false) where
       onward : not (atEnd (trainOf s (m .train .0))) ≡ true
       onward = rw (← own, short)
 
-      pub other-from : m .from .0 ≢ x .at .0 → wrongPost ≡ refusal checks
-      other-from h = sym (refusal-is (pass (lt-ltb _ _ known) (pass onward (stop (rw (← own, ne-eqb _ _ h))))))
+      pub other-from : m .from .0 ≢ x .at .0 → wrongPost ≡ refusal (moveChecks s m)
+      other-from h = sym (refusal-is (pass onward (stop (rw (← own, ne-eqb _ _ h)))))
 
       module _ (from : m .from .0 ≡ x .at .0) (q : ℕ) (next : q ≡ nextOf x) where
-        pub other-to : m .to .0 ≢ q → wrongPost ≡ refusal checks
+        pub other-to : m .to .0 ≢ q → wrongPost ≡ refusal (moveChecks s m)
         other-to h =
             let other = ne-eqb (m .to .0) (nextOf x) (λ z. h (z ∙ sym next)) in
-            sym (refusal-is (pass (lt-ltb _ _ known) (pass onward (stop (rw (← own, eq-eqb _ _ from, other))))))
+            sym (refusal-is (pass onward (stop (rw (← own, eq-eqb _ _ from, other)))))
 
-        module _ (to : m .to .0 ≡ q) where
-          abbrev last : List Check
-          last = check journalFull (leb (s .logged + mostLogged) journalLength) ∷ []
+        pub move-passes : m .to .0 ≡ q → 0 ≡ refusal (moveChecks s m)
+        move-passes to = sym (refusal-is (pass onward
+            (pass (rw (← own, eq-eqb _ _ from, eq-eqb _ _ (to ∙ next))) none)))
 
-          -- 7, 8 and 9 pass
-          after-posts : (n : ℕ) → Refuses (statusChecks asks (not asks) (x .status) ++ last) n → Refuses checks n
-          after-posts n r =
-              let posts : eqb (m .from .0) (trainOf s (m .train .0) .at .0)
-              && eqb (m .to .0) (nextOf (trainOf s (m .train .0))) ≡ true =
-              rw (← own, eq-eqb _ _ from, eq-eqb _ _ (to ∙ next)) in
-              pass (lt-ltb _ _ known) (pass onward (pass posts
-              (subst (λ (y : Train). Refuses (statusChecks asks (not asks) (y .status) ++ last) n) own r)))
+-- ---- the checks of what a message says: 7, those of its move, and then cs
 
-          module _ (n : ℕ) (status : n ≡ refusal (statusChecks asks (not asks) (x .status))) where
-            pub status-refuses : n ≢ 0 → n ≡ refusal checks
-            status-refuses h =
-                let some : 0 < refusal (statusChecks asks (not asks) (x .status)) = omega arith in
-                status ∙ sym (refusal-is (after-posts _
-                (stop-within (statusChecks asks (not asks) (x .status)) last some)))
+module _ (s : State) (m : Move) (cs : List Check) where
+  abbrev said : List Check
+  said = check unknownTrain (knows s m) ∷ moveChecks s m ++ cs
 
-            module _ (zero : n ≡ 0) where
-              -- 10, 11 and 12 pass
-              after-status : {k : ℕ} → Refuses last k → Refuses checks k
-              after-status r = after-posts _
-                  (pass-all (statusChecks asks (not asks) (x .status)) refl (sym status ∙ zero) r)
+  pub no-train : s .trains ≤ m .train .0 → unknownTrain ≡ refusal said
+  no-train h = sym (refusal-is (stop (le-ltb _ _ h)))
 
-              pub journal-full : journalLength < s .logged + mostLogged → journalFull ≡ refusal checks
-              journal-full h = sym (refusal-is (after-status (stop (lt-leb _ _ h))))
+  module _ (known : m .train .0 < s .trains) (n : ℕ) (moves : n ≡ refusal (moveChecks s m)) where
+    pub move-refuses : n ≢ 0 → n ≡ refusal said
+    move-refuses h =
+        let some : 0 < refusal (moveChecks s m) = omega arith in
+        moves ∙ sym (refusal-is (pass (lt-ltb _ _ known) (stop-within (moveChecks s m) cs some)))
 
-              pub move-passes : s .logged + mostLogged ≤ journalLength → 0 ≡ refusal checks
-              move-passes h = sym (refusal-is (after-status (pass (le-leb _ _ h) none)))
+    -- 7, 8 and 9 pass
+    pub after-move : n ≡ 0 → {k : ℕ} → Refuses cs k → k ≡ refusal said
+    after-move zero r =
+        sym (refusal-is (pass (lt-ltb _ _ known) (pass-all (moveChecks s m) refl (sym moves ∙ zero) r)))
 
 -- ---- all checks of a frame
 
@@ -98,7 +83,7 @@ module _ (s : State) (table records : ℕ) (frame : List ℕ) (room : ℕ) where
     module _ (long : stores ≡ true) where
       -- the checks after reading, of a frame that reads as a
       abbrev content : Message → List Check
-      content a = check wrongEnd (isFa a || isAm a) ∷ moveChecks s (isFa a) (isAm a) (moveIn a)
+      content a = check wrongEnd (forBox a) ∷ contentChecks s a
 
       passed : IsMessage (readFrame frame) → refusal (frameChecks s table records frame room) ≡ refusal
           (content (readFrame frame))

@@ -1,16 +1,22 @@
 // Whether a frame is refused, and by which number. 01: "Checks in order: 1, 2, 3, 4, 5, 6, 7, 8 (at
 // its end), 9, then 10 or 11 for FA, 12 for AM, then 13."
 ghost use mathlib.Core.Path.{_≡_};
-ghost use mathlib.Core.Bool.{not, _&&_};
-ghost use Prim.Native.Nat.{_≤_};
+ghost use mathlib.Core.Bool.{_&&_};
+ghost use mathlib.Core.List.{[], _∷_};
+ghost use Prim.Native.Nat.{_≤_, _<_};
 ghost use lib.Dec.{leb};
-ghost use Rattle.common.specs.Check.{refusal};
+ghost use Rattle.common.specs.Check.{check, refusal};
+ghost use Rattle.line.specs.Refusal.{journalFull};
 ghost use Rattle.journal.specs.Journal.{journalLength};
 ghost use Rattle.completion.specs.Table.{tableLength};
-ghost use Rattle.rules.specs.Answer.{outLength, statusChecks, moveChecks, frameChecks};
+ghost use Rattle.rules.specs.Answer.{outLength, moveChecks, hasRoom, contentChecks, frameChecks};
+ghost use Rattle.dispatcher.specs.Types.{Fa, Am};
 ghost use Rattle.dispatcher.specs.Step.{messageRefusal};
 use authority::at_end;
+use authority::is_asked;
+use authority::is_running;
 use authority::next_post;
+use authority::status_of;
 use authority::train_of;
 use authority::valid;
 use frame::FRAME_LENGTH;
@@ -21,7 +27,6 @@ use journal::JOURNAL_LENGTH;
 use journal::MOST_SENT;
 use line::refusal;
 use rules::State;
-use rules::Status;
 use table::TABLE_LENGTH;
 
 // 01: "At most 6 frames go out, 42 bytes".
@@ -55,22 +60,59 @@ fn message_refusal(state: State, message: Message) -> u8
     ensures { λ r. ⌜ r ≡ messageRefusal state message ⌝ }
 {
     match message {
-        Message::Fa(m) => move_refusal(state, true, m),
+        Message::Fa(m) => request_refusal(state, m),
         Message::Fe(_) => refusal::WRONG_END,
         Message::Afe(_) => refusal::WRONG_END,
-        Message::Am(m) => move_refusal(state, false, m),
+        Message::Am(m) => arrival_refusal(state, m),
         Message::Refused(n) => n,
     }
 }
 
-// The checks of the move that an FA asks for, or an AM reports the arrival of.
-fn move_refusal(state: State, asks: bool, m: Move) -> u8
+// The checks of what an FA says.
+fn request_refusal(state: State, m: Move) -> u8
     requires { ⌜ state .trains ≤ 6 ⌝ }
-    ensures { λ r. ⌜ r ≡ refusal (moveChecks state asks (not asks) m) ⌝ }
+    ensures { λ r. ⌜ r ≡ refusal (contentChecks state (Fa m)) ⌝ }
 {
     if state.trains <= m.train.0 {
         return refusal::UNKNOWN_TRAIN;
     }
+    let number = move_refusal(state, m);
+    if number != 0 {
+        return number;
+    }
+    let status = status_of(state, m.train);
+    if is_asked(status) {
+        return refusal::ALREADY_ASKED;
+    }
+    if is_running(status) {
+        return refusal::UNDER_AUTHORITY;
+    }
+    room_refusal(state)
+}
+
+// The checks of what an AM says.
+fn arrival_refusal(state: State, m: Move) -> u8
+    requires { ⌜ state .trains ≤ 6 ⌝ }
+    ensures { λ r. ⌜ r ≡ refusal (contentChecks state (Am m)) ⌝ }
+{
+    if state.trains <= m.train.0 {
+        return refusal::UNKNOWN_TRAIN;
+    }
+    let number = move_refusal(state, m);
+    if number != 0 {
+        return number;
+    }
+    if !is_running(status_of(state, m.train)) {
+        return refusal::NO_AUTHORITY;
+    }
+    room_refusal(state)
+}
+
+// Whether the move is the next one of its train.
+fn move_refusal(state: State, m: Move) -> u8
+    requires { ⌜ m .train .0 < 6 ⌝ }
+    ensures { λ r. ⌜ r ≡ refusal (moveChecks state m) ⌝ }
+{
     let train = train_of(state, m.train);
     if at_end(train) {
         return refusal::AT_END;
@@ -81,38 +123,15 @@ fn move_refusal(state: State, asks: bool, m: Move) -> u8
     if m.to.0 != next_post(train).0 {
         return refusal::WRONG_POST;
     }
-    let status = train.status;
-    let number = status_refusal(asks, status);
-    if number != 0 {
-        return number;
-    }
+    0
+}
+
+// Whether the journal has room for the frame and its answers.
+fn room_refusal(state: State) -> u8
+    ensures { λ r. ⌜ r ≡ refusal (check journalFull (hasRoom state) ∷ []) ⌝ }
+{
     if JOURNAL_LENGTH < state.logged as usize + BATCH_LENGTH {
         return refusal::JOURNAL_FULL;
     }
     0
-}
-
-fn status_refusal(asks: bool, status: Status) -> u8
-    ensures { λ r. ⌜ r ≡ refusal (statusChecks asks (not asks) status) ⌝ }
-{
-    match status {
-        Status::Free => {
-            if asks {
-                return 0;
-            }
-            refusal::NO_AUTHORITY
-        }
-        Status::Asked(_) => {
-            if asks {
-                return refusal::ALREADY_ASKED;
-            }
-            refusal::NO_AUTHORITY
-        }
-        Status::Running => {
-            if asks {
-                return refusal::UNDER_AUTHORITY;
-            }
-            0
-        }
-    }
 }

@@ -29,6 +29,14 @@ AM = 4
 abbrev pub moveOf : ℕ → ℕ → ℕ → Move
 moveOf t p q = record { train = record { 0 = t }; from = record { 0 = p }; to = record { 0 = q } }
 
+-- the move that a message names
+abbrev pub moveIn : Message → Move
+moveIn (Fa m) = m
+moveIn (Fe m) = m
+moveIn (Afe m) = m
+moveIn (Am m) = m
+moveIn (Refused n) = moveOf 0 0 0
+
 -- ---- reading
 
 -- "Reading checks 3, 4, 5 in that order."

@@ -1,8 +1,8 @@
--- What the checks say of an accepted frame, and what an accepted frame leaves: a valid state of the same line, in which
--- nobody can be granted, with at most seven messages logged and counted.
+-- What the checks say of an accepted frame, and what an accepted frame leaves: a valid state of the same line, with at
+-- most seven records logged and counted; and nobody who can be granted.
 use mathlib.Core.Path.{_≡_, refl, sym, ap, subst, _∙_}
 use mathlib.Core.Logic.{_≢_, ⊎-elim}
-use mathlib.Core.Bool.{true, false, not, _&&_, _||_, false≢true}
+use mathlib.Core.Bool.{true, false, not, _&&_, false≢true}
 use mathlib.Core.List.{List, [], _∷_, map, map-append, List·Memᴰ, List·Memᴰ·append-cases}
 use mathlib.Core.List.{List·Memᴰ·eq-of-singleton}
 use Prim.Native.Nat.{ℕ, _+_, _≤_, _<_}
@@ -10,20 +10,24 @@ use native.Mathlib.Omega.{arith}
 use lib.Dec.{leb, eqb}
 use lib.ListN.{length, length-append, length-set, length-map}
 use borrow.Author.Tests.{ltb-true, leb-true, eqb-true, eqb-false, not-true}
-use Rattle.common.specs.Check.{refusal}
+use Rattle.common.specs.Check.{Check, refusal}
 use Rattle.common.proofs.Tests.{by-cases, by-equality, and-left, and-right}
 use Rattle.common.proofs.Below.{count-le, count-some}
-use Rattle.common.proofs.Check.{passed-at, accepts, refuses}
-use Rattle.frame.specs.Frame.{readFrame}
+use Rattle.common.proofs.Check.{passed-by, both-pass, accepts, refuses}
+use Rattle.line.specs.Refusal.{strangeState, shortStore, wrongEnd, unknownTrain, atEnd as trainAtEnd, wrongPost}
+use Rattle.line.specs.Refusal.{alreadyAsked, underAuthority, noAuthority, journalFull}
+use Rattle.frame.specs.Frame.{moveIn, readFrame}
 use Rattle.frame.specs.RoundTrip.{IsMessage}
 use Rattle.journal.specs.Journal.{journalLength, recordOf}
 use Rattle.completion.specs.Table.{tableLength}
 use Rattle.rules.specs.Types.{Line, Move, Message, Fa, Fe, Afe, Am, Refused, Record, Asked, Train, State}
 use Rattle.rules.specs.Types.{RefusedBy}
-use Rattle.rules.specs.State.{isAsked, isRunning, nextOf, trainOf, lineOf, withStatus, arrivedNext, oneLogged}
+use Rattle.rules.specs.State.{isAsked, isRunning, atEnd, nextOf, trainOf, lineOf, withStatus, arrivedNext}
+use Rattle.rules.specs.State.{oneLogged}
 use Rattle.rules.specs.Valid.{valid}
 use Rattle.rules.specs.Granting.{grantable, Work, sends, settled}
-use Rattle.rules.specs.Answer.{outLength, mostLogged, isFa, isAm, moveIn, frameChecks, taken, declined, accepted}
+use Rattle.rules.specs.Answer.{outLength, mostLogged, forBox, outerChecks, knows, hasRoom, contentChecks}
+use Rattle.rules.specs.Answer.{frameChecks, taken, declined, accepted}
 use Rattle.rules.specs.Answer.{verdictNumber, verdictFrames, Answer, answered, refused, answer}
 use Rattle.rules.proofs.Trains.{changed-line}
 use Rattle.rules.proofs.Validity.{Valid, valid-facts, is-valid}
@@ -60,41 +64,57 @@ pub record Passed (s : State) (table : List ℕ) (journal : List Record) (frame 
   pub long-out : outLength ≤ length out
   pub message : Taken s (readFrame frame)
 
+module _ (s : State) where
+  -- 7, 8, 9 and 13 have passed
+  next-move : (m : Move) → let x = trainOf s (m .train .0) in
+      knows s m ≡ true → not (atEnd x) ≡ true → eqb (m .from .0) (x .at .0) && eqb (m .to .0) (nextOf x) ≡ true
+      → hasRoom s ≡ true → NextMove s m
+  next-move m known onward posts room = record {
+    known = ltb-true _ _ known;
+    short = eqb-false _ _ (not-true _ onward);
+    from = eqb-true _ _ (and-left (eqb (m .from .0) _) _ posts);
+    to = eqb-true _ _ (and-right (eqb (m .from .0) (trainOf s (m .train .0) .at .0)) _ posts);
+    space = leb-true _ _ room;
+  }
+
+  -- what holds of the checks of an FA, of those of an AM and of none holds of every message's
+  pub by-content : (P : List Check → Type 0) → ((m : Move) → P (contentChecks s (Fa m)))
+      → ((m : Move) → P (contentChecks s (Am m))) → P [] → (a : Message) → P (contentChecks s a)
+  by-content P fa am none (Fa m) = fa m
+  by-content P fa am none (Am m) = am m
+  by-content P fa am none (Fe m) = none
+  by-content P fa am none (Afe m) = none
+  by-content P fa am none (Refused n) = none
+
+  content-passed : (a : Message) → forBox a ≡ true → refusal (contentChecks s a) ≡ 0 → Taken s a
+  content-passed (Fa m) kind e =
+      let passed = passed-by (contentChecks s (Fa m)) refl e in
+      request m (next-move m (passed unknownTrain) (passed trainAtEnd) (passed wrongPost) (passed journalFull))
+      (not-true _ (passed alreadyAsked)) (not-true _ (passed underAuthority))
+  content-passed (Am m) kind e =
+      let passed = passed-by (contentChecks s (Am m)) refl e in
+      arrival m (next-move m (passed unknownTrain) (passed trainAtEnd) (passed wrongPost) (passed journalFull))
+      (passed noAuthority)
+  content-passed (Fe m) kind e = absurd (false≢true kind)
+  content-passed (Afe m) kind e = absurd (false≢true kind)
+  content-passed (Refused n) kind e = absurd (false≢true kind)
+
 module _ (s : State) (table : List ℕ) (journal : List Record) (frame out : List ℕ) where
   pub frame-passed : refusal (frameChecks s (length table) (length journal) frame (length out)) ≡ 0
       → Passed s table journal frame out
   frame-passed e =
-      let check = passed-at (frameChecks s (length table) (length journal) frame (length out)) refl e in
-      let stores = check 1 in
+      let outer = outerChecks s (length table) (length journal) frame (length out) in
+      let parts = both-pass outer (contentChecks s (readFrame frame)) refl e in
+      let passed = passed-by outer refl (parts .0) in
+      let stores = passed shortStore in
       let rest = and-right (leb tableLength (length table)) _ stores in
-      let m = moveIn (readFrame frame) in
-      let x = trainOf s (m .train .0) in
       record {
-        valid-state = valid-facts s (check 0);
+        valid-state = valid-facts s (passed strangeState);
         long-table = leb-true _ _ (and-left (leb tableLength (length table)) _ stores);
         long-journal = leb-true _ _ (and-left (leb journalLength (length journal)) _ rest);
         long-out = leb-true _ _ (and-right (leb journalLength (length journal)) _ rest);
-        message = read (readFrame frame) (check 5)
-            (record {
-              known = ltb-true _ _ (check 6);
-              short = eqb-false _ _ (not-true _ (check 7));
-              from = eqb-true _ _ (and-left (eqb (m .from .0) (x .at .0)) _ (check 8));
-              to = eqb-true _ _ (and-right (eqb (m .from .0) (x .at .0)) _ (check 8));
-              space = leb-true _ _ (check 12);
-            })
-            (check 9) (check 10) (check 11);
+        message = content-passed s (readFrame frame) (passed wrongEnd) (parts .1);
       }
-    where
-      read : (a : Message) → isFa a || isAm a ≡ true → NextMove s (moveIn a)
-          → not (isFa a && isAsked (trainOf s (moveIn a .train .0) .status)) ≡ true
-          → not (isFa a && isRunning (trainOf s (moveIn a .train .0) .status)) ≡ true
-          → not (isAm a) || isRunning (trainOf s (moveIn a .train .0) .status) ≡ true
-          → Taken s a
-      read (Fa m) kind next a b c = request m next (not-true _ a) (not-true _ b)
-      read (Am m) kind next a b c = arrival m next c
-      read (Fe m) kind next a b c = absurd (false≢true kind)
-      read (Afe m) kind next a b c = absurd (false≢true kind)
-      read (Refused n) kind next a b c = absurd (false≢true kind)
 
 -- ---- the answer, by cases
 
@@ -135,19 +155,17 @@ answer-numbers s table journal frame out =
 
 -- ---- what is left
 
-pub record Accepted (table : List ℕ) (s : State) (a : Message) (w : Work) : Type 0 where
+pub record Accepted (s : State) (a : Message) (w : Work) : Type 0 where
   pub valid-state : Valid (w .state)
   pub line : lineOf (w .state) ≡ lineOf s
   pub size : length (w .state .fleet) ≡ length (s .fleet)
-  pub nobody : Nobody table (w .state) (w .state .trains)
   -- the frame's record, then one for each answer
   pub written : w .logged ≡ map recordOf (a ∷ w .sent)
   pub few : length (w .logged) ≤ mostLogged
   pub counted : w .state .logged ≡ s .logged + length (w .logged)
   pub messages : (b : Message) → List·Memᴰ b (w .sent) → IsMessage b
 
-pub paired : {table : List ℕ} {s : State} {a : Message} {w : Work} → Accepted table s a w
-    → length (w .logged) ≡ 1 + length (w .sent)
+pub paired : {s : State} {a : Message} {w : Work} → Accepted s a w → length (w .logged) ≡ 1 + length (w .sent)
 paired {a = a} {w = w} k = ap length (k .written) ∙ omega (arith, length-map (a ∷ w .sent) recordOf)
 
 module _ (table : List ℕ) (s : State) (d : Valid s) (a : Message) where
@@ -163,12 +181,11 @@ module _ (table : List ℕ) (s : State) (d : Valid s) (a : Message) where
     paid : length (settled table (taken s a x) .logged) + askedCount (settled table (taken s a x) .state) ≤ mostLogged
     paid = omega (arith, settles .spent, few-asked)
 
-    settled-accepted : Accepted table s a (settled table (taken s a x))
+    settled-accepted : Accepted s a (settled table (taken s a x))
     settled-accepted = record {
       valid-state = settled-valid table (taken s a x) v;
       line = settles .line ∙ changed-line s (moveIn a .train .0) x (s .logged + 1) same;
       size = settles .size ∙ length-set (s .fleet) (moveIn a .train .0) x;
-      nobody = settled-end table (taken s a x);
       written = rw (settles .written, settles .added);
       few = omega (arith, paid);
       counted = omega (arith, settles .counted, settles .spent);
@@ -177,23 +194,18 @@ module _ (table : List ℕ) (s : State) (d : Valid s) (a : Message) where
 
 -- ---- the asker's AFE
 
--- a record logged alone changes nobody's chance
-logged-grantable : (table : List ℕ) (s : State) (t : ℕ) → grantable table (oneLogged s) t ≡ grantable table s t
-unfolding grantable
-logged-grantable table s t = refl
-
 declining : (m : Move) → IsMessage (Afe m)
 unfolding IsMessage
 declining m = tt
 
 -- "If the asker was not granted, its AFE comes last."
-declined-accepted : (table : List ℕ) (s : State) (a : Message) (m : Move) (w : Work) → m .train .0 < s .trains
-    → length (w .logged) + askedCount (w .state) ≤ mostLogged → Accepted table s a w → Accepted table s a (declined m w)
-declined-accepted table s a m w known paid k =
+declined-accepted : (s : State) (a : Message) (m : Move) (w : Work) → m .train .0 < s .trains
+    → length (w .logged) + askedCount (w .state) ≤ mostLogged → Accepted s a w → Accepted s a (declined m w)
+declined-accepted s a m w known paid k =
     by-cases (isAsked (trainOf (w .state) (m .train .0) .status)) (λ e. rw e (more e)) (λ e. rw e k)
   where
     more : isAsked (trainOf (w .state) (m .train .0) .status) ≡ true
-        → Accepted table s a (sends (w .state) w (recordOf (Afe m)) (Afe m))
+        → Accepted s a (sends (w .state) w (recordOf (Afe m)) (Afe m))
     more e =
         let here : m .train .0 < w .state .trains = rw (ap (λ (l : Line). l .trains) (k .line)) known in
         let one = count-some (w .state .trains) (λ t. isAsked (trainOf (w .state) t .status)) (m .train .0) here e in
@@ -202,7 +214,6 @@ declined-accepted table s a m w known paid k =
           valid-state = valid-logged (w .state) (k .valid-state);
           line = k .line;
           size = k .size;
-          nobody = record { barred = λ u ku. logged-grantable table (w .state) u ∙ k .nobody .barred u ku };
           written = rw (k .written, map-append recordOf (w .sent) (Afe m ∷ []));
           few = omega (arith, long);
           counted = omega (arith, long, k .counted);
@@ -214,12 +225,12 @@ declined-accepted table s a m w known paid k =
 -- ---- both frames
 
 pub accepted-facts : (table : List ℕ) (s : State) → Valid s → (a : Message) → Taken s a
-    → Accepted table s a (accepted table s a)
+    → Accepted s a (accepted table s a)
 unfolding accepted
 accepted-facts table s d a (request m n free idle) =
     let x = withStatus (trainOf s (m .train .0)) (Asked (s .logged)) in
     let v = valid-request s d (m .train .0) (n .known) (n .short) idle in
-    declined-accepted table s (Fa m) m _ (n .known) (paid table s d (Fa m) x refl v)
+    declined-accepted s (Fa m) m _ (n .known) (paid table s d (Fa m) x refl v)
     (settled-accepted table s d (Fa m) x refl v)
 accepted-facts table s d a (arrival m n runs) =
     let x = arrivedNext (trainOf s (m .train .0)) in
@@ -231,3 +242,26 @@ pub accepted-valid : (table : List ℕ) (s : State) → Valid s → (a : Message
 accepted-valid table s d a t =
     let k = accepted-facts table s d a t in
     is-valid _ (k .valid-state) (omega (arith, k .counted, k .few, taken-space s a t))
+
+-- ---- nobody is left
+
+-- a record logged alone changes nobody's chance
+logged-grantable : (table : List ℕ) (s : State) (t : ℕ) → grantable table (oneLogged s) t ≡ grantable table s t
+unfolding grantable
+logged-grantable table s t = refl
+
+declined-nobody : (table : List ℕ) (m : Move) (w : Work) → Nobody table (w .state) (w .state .trains)
+    → let v = declined m w in Nobody table (v .state) (v .state .trains)
+declined-nobody table m w k = by-cases (isAsked (trainOf (w .state) (m .train .0) .status))
+    (λ e. rw e (record { barred = λ u ku. logged-grantable table (w .state) u ∙ k .barred u ku }))
+    (λ e. rw e k)
+
+-- both frames run the granting
+pub accepted-nobody : (table : List ℕ) (s : State) (a : Message) → Taken s a
+    → let w = accepted table s a in Nobody table (w .state) (w .state .trains)
+unfolding accepted
+accepted-nobody table s a (request m n free idle) =
+    let w = taken s (Fa m) (withStatus (trainOf s (m .train .0)) (Asked (s .logged))) in
+    declined-nobody table m (settled table w) (settled-end table w)
+accepted-nobody table s a (arrival m n runs) =
+    settled-end table (taken s (Am m) (arrivedNext (trainOf s (m .train .0))))

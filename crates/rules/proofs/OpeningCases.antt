@@ -12,10 +12,10 @@ use borrow.Author.Tests.{le-leb, lt-leb, ne-eqb}
 use Rattle.common.specs.Check.{Check, check, refusal}
 use Rattle.common.specs.Tabulate.{valuesFrom, padded}
 use Rattle.common.proofs.Tests.{by-equality}
-use Rattle.common.proofs.Check.{none, stop, pass, refusal-is, first-part, second-part, not-given, passed-at, accepts}
+use Rattle.common.proofs.Check.{none, stop, pass, refusal-is, first-part, second-part, not-given, passed-by, accepts}
 use Rattle.common.proofs.Check.{refuses}
 use Rattle.common.proofs.Tabulate.{padded-none, past-padded}
-use Rattle.line.specs.Refusal.{shortStore, overfull, noWayThrough}
+use Rattle.line.specs.Refusal.{shortStore, posts, tracks, trains, offTheLine, overfull, noWayThrough}
 use Rattle.line.specs.Book.{lineOf as lineIn, bookChecks, accepted, refusedBy, readBook, outcomeNumber}
 use Rattle.line.specs.declared.line.Outcome.{Outcome}
 use Rattle.line.specs.declared.line.Outcome.the-variants.{Read, Refused}
@@ -124,8 +124,8 @@ module _ (book table : List ℕ) (records : ℕ) where
 
       formed : wellFormed m ≡ true
       formed =
-          let passed = passed-at (bookChecks book) refl (read-line book m is-read .0) in
-          rw same (well-formed-parts l (passed 2) (passed 4) (passed 5) (passed 7))
+          let passed = passed-by (bookChecks book) refl (read-line book m is-read .0) in
+          rw same (well-formed-parts l (passed posts) (passed tracks) (passed trains) (passed offTheLine))
 
       left : refusal (openingChecks book table records) ≡ refusal (placingChecks m table)
       left = rw same (stores ∙ second-part (bookChecks book) (placingChecks l table) refl (read-line book m is-read .0))

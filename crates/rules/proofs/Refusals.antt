@@ -1,9 +1,9 @@
 -- Which number refuses a frame: the checks before its own pass, and its own fails.
 use mathlib.Core.Path.{_≡_, refl, sym, ap, subst}
 use mathlib.Core.Logic.{_≢_, _⊎_, ⊎-elim}
-use mathlib.Core.Bool.{true, false, not, _&&_, _||_, and-false, false≢true}
-use mathlib.Core.List.{List, [], _∷_, _++_}
-use Prim.Native.Nat.{ℕ, _+_, _<_}
+use mathlib.Core.Bool.{true, false, not, _&&_, and-false, false≢true}
+use mathlib.Core.List.{List, _∷_, _++_}
+use Prim.Native.Nat.{ℕ, _<_}
 use native.Mathlib.Omega.{arith}
 use lib.Dec.{leb, eqb}
 use lib.ListN.{length}
@@ -11,15 +11,16 @@ use borrow.Author.Tests.{eq-eqb, ne-eqb, lt-ltb, le-ltb, le-leb, lt-leb}
 use Rattle.common.specs.Check.{Check, check}
 use Rattle.common.proofs.Tests.{and-both, not-of-false}
 use Rattle.common.proofs.Check.{Refuses, stop, pass, refusal-is, refuses, stop-within, pass-all}
-use Rattle.line.specs.Refusal.{wrongEnd, journalFull}
-use Rattle.frame.specs.Frame.{readChecks, readFrame}
+use Rattle.line.specs.Refusal.{wrongEnd, unknownTrain}
+use Rattle.frame.specs.Frame.{moveIn, readChecks, readFrame}
 use Rattle.frame.specs.RoundTrip.{IsMessage}
 use Rattle.frame.proofs.Outcome.{read-passed, read-refused}
 use Rattle.journal.specs.Journal.{journalLength}
 use Rattle.completion.specs.Table.{tableLength}
-use Rattle.rules.specs.Types.{Message, Fa, Fe, Afe, Am, Refused, Status, Free, Asked, Running}
+use Rattle.rules.specs.Types.{Move, Message, Fa, Fe, Afe, Am, Refused, Status, Free, Asked, Running}
 use Rattle.rules.specs.State.{isFree, isAsked, isRunning, nextOf}
-use Rattle.rules.specs.Answer.{outLength, mostLogged, isFa, isAm, moveIn, statusChecks, moveChecks, frameChecks}
+use Rattle.rules.specs.Answer.{outLength, forBox, knows, moveChecks, requestChecks, arrivalChecks, contentChecks}
+use Rattle.rules.specs.Answer.{frameChecks}
 use Rattle.rules.specs.Answer.{accepted, Answer, answered, refused, answer}
 use Rattle.rules.specs.Refusals.{Handed, RefusedAs, Prepared, Reads, named, NamesNext, Refusals}
 
@@ -38,7 +39,7 @@ running-unasked Free e = refl
 running-unasked (Asked n) e = sym e
 running-unasked Running e = refl
 
-pub is-message : (a : Message) → isFa a || isAm a ≡ true → IsMessage a
+pub is-message : (a : Message) → forBox a ≡ true → IsMessage a
 unfolding IsMessage
 is-message (Fa m) e = tt
 is-message (Am m) e = tt
@@ -52,7 +53,7 @@ module _ (h : Handed) where
 
   -- those after the reading, of a frame that reads as a
   abbrev content : Message → List Check
-  content a = check wrongEnd (isFa a || isAm a) ∷ moveChecks (h .state) (isFa a) (isAm a) (moveIn a)
+  content a = check wrongEnd (forBox a) ∷ contentChecks (h .state) a
 
   by-number : {n : ℕ} → 0 < n → Refuses checks n → RefusedAs n h
   unfolding answer
@@ -89,18 +90,32 @@ module _ (h : Handed) where
 
   module _ (a : Message) where
     -- 6 passes too
-    after-kind : {n : ℕ} → Reads h a → Refuses (moveChecks (h .state) (isFa a) (isAm a) (moveIn a)) n
-        → Refuses checks n
+    after-kind : {n : ℕ} → Reads h a → Refuses (contentChecks (h .state) a) n → Refuses checks n
     after-kind v r = after-reading a (v .prepared) (v .message) (is-message a (v .kind)) (pass (v .kind) r)
 
-    -- 7 to 9 pass too
-    pub after-posts : {n : ℕ} → NamesNext h a
-        → Refuses (statusChecks (isFa a) (isAm a) (named h a .status)
-        ++ (check journalFull (leb (h .state .logged + mostLogged) journalLength) ∷ [])) n
+    -- what of an FA and an AM is checked first, whatever is checked after it
+    by-move : {n : ℕ} → Reads h a
+        → ((cs : List Check)
+        → Refuses (check unknownTrain (knows (h .state) (moveIn a)) ∷ moveChecks (h .state) (moveIn a) ++ cs) n)
         → Refuses checks n
-    after-posts v r = after-kind (v .reads)
-        (pass (lt-ltb _ _ (v .known)) (pass (not-of-false _ (ne-eqb _ _ (v .short)))
-        (pass (and-both _ _ (eq-eqb _ _ (v .from)) (eq-eqb _ _ (v .to))) r)))
+    by-move {n = n} v r = after-kind v (at a (v .kind) r)
+      where
+        at : (b : Message) → forBox b ≡ true
+            → ((cs : List Check)
+            → Refuses (check unknownTrain (knows (h .state) (moveIn b)) ∷ moveChecks (h .state) (moveIn b) ++ cs) n)
+            → Refuses (contentChecks (h .state) b) n
+        at (Fa m) e f = f _
+        at (Am m) e f = f _
+        at (Fe m) e f = absurd (false≢true e)
+        at (Afe m) e f = absurd (false≢true e)
+        at (Refused k) e f = absurd (false≢true e)
+
+    -- 7 to 9 pass too
+    after-posts : {n : ℕ} (cs : List Check) → NamesNext h a → Refuses cs n
+        → Refuses (check unknownTrain (knows (h .state) (moveIn a)) ∷ moveChecks (h .state) (moveIn a) ++ cs) n
+    after-posts cs v r =
+        pass (lt-ltb _ _ (v .known)) (pass (not-of-false _ (ne-eqb _ _ (v .short)))
+        (pass (and-both _ _ (eq-eqb _ _ (v .from)) (eq-eqb _ _ (v .to))) r))
 
     other-posts : (moveIn a .from .0 ≢ named h a .at .0) ⊎ (moveIn a .to .0 ≢ nextOf (named h a))
         → eqb (moveIn a .from .0) (named h a .at .0) && eqb (moveIn a .to .0) (nextOf (named h a)) ≡ false
@@ -109,6 +124,13 @@ module _ (h : Handed) where
         (λ e.
         let wrong = ne-eqb (moveIn a .to .0) (nextOf (named h a)) e in
         rw wrong (and-false (eqb (moveIn a .from .0) (named h a .at .0))))
+
+  pub after-asking : {n : ℕ} (m : Move) → NamesNext h (Fa m) → Refuses (requestChecks (h .state) m) n → Refuses checks n
+  after-asking m v r = after-kind (Fa m) (v .reads) (after-posts (Fa m) _ v r)
+
+  pub after-arriving : {n : ℕ} (m : Move) → NamesNext h (Am m) → Refuses (arrivalChecks (h .state) m) n
+      → Refuses checks n
+  after-arriving m v r = after-kind (Am m) (v .reads) (after-posts (Am m) _ v r)
 
 pub refusals : Refusals
 unfolding IsMessage
@@ -122,18 +144,17 @@ refusals = record {
   wrong-end = λ h m v. ⊎-elim
       (λ e. by-number h (omega arith) (after-reading h (Fe m) v e tt (stop refl)))
       (λ e. by-number h (omega arith) (after-reading h (Afe m) v e tt (stop refl)));
-  unknown = λ h a v e. by-number h (omega arith) (after-kind h a v (stop (le-ltb _ _ e)));
+  unknown = λ h a v e. by-number h (omega arith) (by-move h a v (λ cs. stop (le-ltb _ _ e)));
   ended = λ h a v k e.
-      by-number h (omega arith) (after-kind h a v (pass (lt-ltb _ _ k) (stop (ap not (eq-eqb _ _ e)))));
-  other-post = λ h a v k s e. by-number h (omega arith)
-      (after-kind h a v (pass (lt-ltb _ _ k) (pass (not-of-false _ (ne-eqb _ _ s)) (stop (other-posts h a e)))));
-  asked = λ h m v e. by-number h (omega arith) (after-posts h (Fa m) v (stop (ap not e)));
+      by-number h (omega arith) (by-move h a v (λ cs. pass (lt-ltb _ _ k) (stop (ap not (eq-eqb _ _ e)))));
+  other-post = λ h a v k s e. by-number h (omega arith) (by-move h a v (λ cs.
+      pass (lt-ltb _ _ k) (pass (not-of-false _ (ne-eqb _ _ s)) (stop (other-posts h a e)))));
+  asked = λ h m v e. by-number h (omega arith) (after-asking h m v (stop (ap not e)));
   running = λ h m v e. by-number h (omega arith)
-      (after-posts h (Fa m) v (pass (not-of-false _ (running-unasked (named h (Fa m) .status) e)) (stop (ap not e))));
-  idle = λ h m v e. by-number h (omega arith) (after-posts h (Am m) v (pass refl (pass refl (stop e))));
-  full-request = λ h m v e l. by-number h (omega arith) (after-posts h (Fa m) v
+      (after-asking h m v (pass (not-of-false _ (running-unasked (named h (Fa m) .status) e)) (stop (ap not e))));
+  idle = λ h m v e. by-number h (omega arith) (after-arriving h m v (stop e));
+  full-request = λ h m v e l. by-number h (omega arith) (after-asking h m v
       (pass (not-of-false _ (free-unasked (named h (Fa m) .status) e))
-      (pass (not-of-false _ (free-idle (named h (Fa m) .status) e)) (pass refl (stop (lt-leb _ _ l))))));
-  full-arrival = λ h m v e l. by-number h (omega arith)
-      (after-posts h (Am m) v (pass refl (pass refl (pass e (stop (lt-leb _ _ l))))));
+      (pass (not-of-false _ (free-idle (named h (Fa m) .status) e)) (stop (lt-leb _ _ l)))));
+  full-arrival = λ h m v e l. by-number h (omega arith) (after-arriving h m v (pass e (stop (lt-leb _ _ l))));
 }

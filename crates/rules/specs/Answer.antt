@@ -1,6 +1,6 @@
 -- The answer to a frame: the checks in order, what an accepted frame does, and what is left in state, journal and out
 -- buffer.
-use mathlib.Core.Bool.{Bool, true, false, not, cond, _&&_, _||_}
+use mathlib.Core.Bool.{Bool, true, false, not, cond, _&&_}
 use mathlib.Core.List.{List, [], _∷_, _++_}
 use Prim.Native.Nat.{ℕ, _+_, _*_}
 use lib.Dec.{leb, ltb, eqb}
@@ -9,10 +9,10 @@ use Rattle.common.specs.Check.{Check, check, refusal, unlessRefused}
 use Rattle.common.specs.Part.{replaced}
 use Rattle.line.specs.Refusal.{strangeState, shortStore, wrongEnd, unknownTrain, atEnd as trainAtEnd, wrongPost}
 use Rattle.line.specs.Refusal.{alreadyAsked, underAuthority, noAuthority, journalFull}
-use Rattle.frame.specs.Frame.{frameLength, moveOf, readChecks, readFrame, bytesOf}
+use Rattle.frame.specs.Frame.{frameLength, moveIn, readChecks, readFrame, bytesOf}
 use Rattle.journal.specs.Journal.{journalLength, mostSent, batchLength, recordOf}
 use Rattle.completion.specs.Table.{tableLength}
-use Rattle.rules.specs.Types.{Move, Message, Fa, Fe, Afe, Am, Refused, Record, Status, Asked, Train, State}
+use Rattle.rules.specs.Types.{Move, Message, Fa, Fe, Afe, Am, Refused, Record, Asked, Train, State}
 use Rattle.rules.specs.Types.{Verdict, Sent, RefusedBy, Reply}
 use Rattle.rules.specs.State.{isAsked, isRunning, atEnd, nextOf, trainOf, withStatus, arrivedNext, withTrain}
 use Rattle.rules.specs.Valid.{valid}
@@ -26,56 +26,68 @@ outLength = mostSent * frameLength
 abbrev pub mostLogged : ℕ
 mostLogged = batchLength
 
-abbrev pub isFa : Message → Bool
-isFa (Fa m) = true
-isFa (Fe m) = false
-isFa (Afe m) = false
-isFa (Am m) = false
-isFa (Refused n) = false
+-- the dispatcher's messages; FE and AFE are 6
+abbrev pub forBox : Message → Bool
+forBox (Fa m) = true
+forBox (Fe m) = false
+forBox (Afe m) = false
+forBox (Am m) = true
+forBox (Refused n) = false
 
-abbrev pub isAm : Message → Bool
-isAm (Fa m) = false
-isAm (Fe m) = false
-isAm (Afe m) = false
-isAm (Am m) = true
-isAm (Refused n) = false
-
--- the move that a message names
-abbrev pub moveIn : Message → Move
-moveIn (Fa m) = m
-moveIn (Fe m) = m
-moveIn (Afe m) = m
-moveIn (Am m) = m
-moveIn (Refused n) = moveOf 0 0 0
-
--- "then 10 or 11 for FA, 12 for AM"
-abbrev pub statusChecks : Bool → Bool → Status → List Check
-statusChecks asks arrives w =
-    check alreadyAsked (not (asks && isAsked w))
-    ∷ check underAuthority (not (asks && isRunning w))
-    ∷ check noAuthority (not arrives || isRunning w)
-    ∷ []
-
--- "7, 8 (at its end), 9", then those, "then 13": of the move that an FA `asks` for, or an AM `arrives` by
-abbrev pub moveChecks : State → Bool → Bool → Move → List Check
-moveChecks s asks arrives m =
-    let x = trainOf s (m .train .0) in
-    check unknownTrain (ltb (m .train .0) (s .trains))
-    ∷ check trainAtEnd (not (atEnd x))
-    ∷ check wrongPost (eqb (m .from .0) (x .at .0) && eqb (m .to .0) (nextOf x))
-    ∷ statusChecks asks arrives (x .status)
-    ++ (check journalFull (leb (s .logged + mostLogged) journalLength) ∷ [])
-
--- "Checks in order: 1, 2, 3, 4, 5, 6, 7, 8 (at its end), 9, then 10 or 11 for FA, 12 for AM, then 13."
--- Of the table, the journal and the out buffer only the sizes are looked at.
-abbrev pub frameChecks : State → ℕ → ℕ → List ℕ → ℕ → List Check
-frameChecks s table records frame room =
-    let a = readFrame frame in
+-- "1, 2, 3, 4, 5, 6": before what the frame says is looked into. Of the table, the journal and the out buffer only the
+-- sizes are looked at.
+abbrev pub outerChecks : State → ℕ → ℕ → List ℕ → ℕ → List Check
+outerChecks s table records frame room =
     check strangeState (valid s)
     ∷ check shortStore (leb tableLength table && (leb journalLength records && leb outLength room))
     ∷ readChecks frame
-    ++ (check wrongEnd (isFa a || isAm a)
-    ∷ moveChecks s (isFa a) (isAm a) (moveIn a))
+    ++ (check wrongEnd (forBox (readFrame frame)) ∷ [])
+
+-- 7: "train not below T"
+abbrev pub knows : State → Move → Bool
+knows s m = ltb (m .train .0) (s .trains)
+
+-- "8 (at its end), 9"
+abbrev pub moveChecks : State → Move → List Check
+moveChecks s m =
+    let x = trainOf s (m .train .0) in
+    check trainAtEnd (not (atEnd x))
+    ∷ check wrongPost (eqb (m .from .0) (x .at .0) && eqb (m .to .0) (nextOf x))
+    ∷ []
+
+-- 13: "fewer than 7 records left of 176"
+abbrev pub hasRoom : State → Bool
+hasRoom s = leb (s .logged + mostLogged) journalLength
+
+-- "then 10 or 11 for FA, .. then 13"
+abbrev pub requestChecks : State → Move → List Check
+requestChecks s m =
+    let w = trainOf s (m .train .0) .status in
+    check alreadyAsked (not (isAsked w))
+    ∷ check underAuthority (not (isRunning w))
+    ∷ check journalFull (hasRoom s)
+    ∷ []
+
+-- "then .. 12 for AM, then 13"
+abbrev pub arrivalChecks : State → Move → List Check
+arrivalChecks s m =
+    let w = trainOf s (m .train .0) .status in
+    check noAuthority (isRunning w)
+    ∷ check journalFull (hasRoom s)
+    ∷ []
+
+-- of what the message says; any other message was refused by 6 or by its reading
+abbrev pub contentChecks : State → Message → List Check
+contentChecks s (Fa m) = check unknownTrain (knows s m) ∷ moveChecks s m ++ requestChecks s m
+contentChecks s (Am m) = check unknownTrain (knows s m) ∷ moveChecks s m ++ arrivalChecks s m
+contentChecks s (Fe m) = []
+contentChecks s (Afe m) = []
+contentChecks s (Refused n) = []
+
+-- "Checks in order: 1, 2, 3, 4, 5, 6, 7, 8 (at its end), 9, then 10 or 11 for FA, 12 for AM, then 13."
+abbrev pub frameChecks : State → ℕ → ℕ → List ℕ → ℕ → List Check
+frameChecks s table records frame room =
+    outerChecks s table records frame room ++ contentChecks s (readFrame frame)
 
 -- ---- an accepted frame
 

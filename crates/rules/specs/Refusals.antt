@@ -3,19 +3,19 @@
 -- is checked after it.
 use mathlib.Core.Path.{_≡_}
 use mathlib.Core.Logic.{_≢_, _⊎_}
-use mathlib.Core.Bool.{true, false, _||_}
+use mathlib.Core.Bool.{true, false}
 use mathlib.Core.List.{List}
 use Prim.Native.Nat.{ℕ, _+_, _≤_, _<_}
 use lib.ListN.{length}
 use Rattle.line.specs.Refusal.{strangeState, shortStore, wrongEnd, unknownTrain, atEnd as trainAtEnd, wrongPost}
 use Rattle.line.specs.Refusal.{alreadyAsked, underAuthority, noAuthority, journalFull}
-use Rattle.frame.specs.Frame.{readFrame}
+use Rattle.frame.specs.Frame.{moveIn, readFrame}
 use Rattle.journal.specs.Journal.{journalLength}
 use Rattle.completion.specs.Table.{tableLength}
 use Rattle.rules.specs.Types.{Move, Message, Fa, Fe, Afe, Am, Refused, Record, Train, State, RefusedBy}
 use Rattle.rules.specs.State.{isFree, isAsked, isRunning, nextOf, trainOf}
 use Rattle.rules.specs.Valid.{valid}
-use Rattle.rules.specs.Answer.{outLength, mostLogged, isFa, isAm, moveIn, answer}
+use Rattle.rules.specs.Answer.{outLength, mostLogged, forBox, answer}
 
 -- a frame, and what is handed in with it
 pub record Handed : Type 0 where
@@ -39,7 +39,7 @@ pub record Prepared (h : Handed) : Type 0 where
 pub record Reads (h : Handed) (a : Message) : Type 0 where
   pub prepared : Prepared h
   pub message : readFrame (h .frame) ≡ a
-  pub kind : isFa a || isAm a ≡ true
+  pub kind : forBox a ≡ true
 
 -- the record of the train that a names
 abbrev pub named : Handed → Message → Train

@@ -9,37 +9,13 @@ use Rattle.dispatcher.specs.Step.{Acceptable}
 use Rattle.dispatcher.proofs.accepting.accept.Statement.{statement}
 use Rattle.dispatcher.proofs.accepting.accept.Tie as tie
 
-enum-known-message : tie.Need-enum-known-message
-enum-known-message c = search needs
-
 request-requires : tie.Need-request-requires
 request-requires c κs = let start = c .before .before .before .before in subst
     (λ (a : Message). Acceptable (start .args .state) a) (c .before .message .given .1) (start .pre)
 
-enum-told : tie.Need-enum-told
-enum-told c = search needs
-
-untouched-requires : tie.Need-untouched-requires
-untouched-requires c κs = search needs
-
-enum-told-2 : tie.Need-enum-told-2
-enum-told-2 c = search needs
-
-untouched-requires-2 : tie.Need-untouched-requires-2
-untouched-requires-2 c κs = search needs
-
-enum-known-message-2 : tie.Need-enum-known-message-2
-enum-known-message-2 c = search needs
-
 arrival-requires : tie.Need-arrival-requires
 arrival-requires c κs = let start = c .before .before .before .before in subst
     (λ (a : Message). Acceptable (start .args .state) a) (c .before .message2 .given .1) (start .pre)
-
-enum-told-3 : tie.Need-enum-told-3
-enum-told-3 c = search needs
-
-untouched-requires-3 : tie.Need-untouched-requires-3
-untouched-requires-3 c κs = search needs
 
 -- what holds of the message that was told holds of the one that was handed in
 module _ (start : tie.Start) where
@@ -71,16 +47,16 @@ pub accept-spec : {M : Type 1} → statement M
 accept-spec =
     tie.close
     (tie.spec
-    enum-known-message
+    (λ c. search needs)
     request-requires
-    enum-told
-    untouched-requires
-    enum-told-2
-    untouched-requires-2
-    enum-known-message-2
+    (λ c. search needs)
+    (λ c κs. search needs)
+    (λ c. search needs)
+    (λ c κs. search needs)
+    (λ c. search needs)
     arrival-requires
-    enum-told-3
-    untouched-requires-3
+    (λ c. search needs)
+    (λ c κs. search needs)
     returns
     returns-2
     returns-3

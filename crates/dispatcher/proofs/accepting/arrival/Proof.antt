@@ -12,9 +12,6 @@ use Rattle.dispatcher.proofs.accepting.arrival.Tie as tie
 train-of-requires : tie.Need-train-of-requires
 train-of-requires c κs = let a = c .before .args in ready-train (a .state) (Am (a .m)) _ (c .before .pre)
 
-arrived-requires : tie.Need-arrived-requires
-arrived-requires c κs = search needs
-
 -- the train's new record
 abbrev free : tie.Start → Train
 free s = arrivedNext (trainOf (s .args .state) (s .args .m .train .0))
@@ -38,4 +35,4 @@ returns c =
     ∙ taken-with (s .args .state) (Am (s .args .m)) _ (s .pre) (now (s .args .table)) _ (record-made (c .before))
 
 pub arrival-spec : {M : Type 1} → statement M
-arrival-spec = tie.close (tie.spec train-of-requires arrived-requires take-requires returns)
+arrival-spec = tie.close (tie.spec train-of-requires (λ c κs. search needs) take-requires returns)

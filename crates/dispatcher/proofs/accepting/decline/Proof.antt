@@ -7,15 +7,6 @@ use Rattle.dispatcher.proofs.Declining.{declined-asker, granted-asker}
 use Rattle.dispatcher.proofs.accepting.decline.Statement.{statement}
 use Rattle.dispatcher.proofs.accepting.decline.Tie as tie
 
-status-of-requires : tie.Need-status-of-requires
-status-of-requires c κs = search needs
-
-is-asked-requires : tie.Need-is-asked-requires
-is-asked-requires c κs = search needs
-
-logged-requires : tie.Need-logged-requires
-logged-requires c κs = search needs
-
 -- the test of the asker's status
 module _ (c : tie.After-is-asked) where
   abbrev start : tie.Start
@@ -35,8 +26,8 @@ pub decline-spec : {M : Type 1} → statement M
 decline-spec =
     tie.close
     (tie.spec
-    status-of-requires
-    is-asked-requires
-    logged-requires
+    (λ c κs. search needs)
+    (λ c κs. search needs)
+    (λ c κs. search needs)
     returns
     returns-2)

@@ -16,9 +16,6 @@ use Rattle.dispatcher.proofs.accepting.request.Tie as tie
 train-of-requires : tie.Need-train-of-requires
 train-of-requires c κs = let a = c .before .args in ready-train (a .state) (Fa (a .m)) _ (c .before .pre)
 
-with-status-requires : tie.Need-with-status-requires
-with-status-requires c κs = search needs
-
 -- the train's new record
 abbrev asked : tie.Start → Train
 asked s = withStatus (trainOf (s .args .state) (s .args .m .train .0)) (Asked (s .args .state .logged))
@@ -65,4 +62,4 @@ returns c = c .decline .ensures (work (c .before)) (settles (c .before))
 pub request-spec : {M : Type 1} → statement M
 request-spec =
     tie.close
-    (tie.spec train-of-requires with-status-requires take-requires decline-requires returns)
+    (tie.spec train-of-requires (λ c κs. search needs) take-requires decline-requires returns)

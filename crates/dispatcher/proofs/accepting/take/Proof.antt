@@ -14,9 +14,6 @@ use Rattle.authority.specs.Progress.{progressOf}
 use Rattle.dispatcher.proofs.accepting.take.Statement.{statement}
 use Rattle.dispatcher.proofs.accepting.take.Tie as tie
 
-with-train-requires : tie.Need-with-train-requires
-with-train-requires c κs = search needs
-
 settle-requires : tie.Need-settle-requires
 settle-requires c κs =
     subst⁻¹ (λ (s : State). (consistent (oneLogged s) ≡ true) × (s .logged + mostLogged ≤ journalLength))
@@ -30,4 +27,4 @@ returns c =
     (c .before .with-train .ensures)
 
 pub take-spec : {M : Type 1} → statement M
-take-spec = tie.close (tie.spec with-train-requires settle-requires returns)
+take-spec = tie.close (tie.spec (λ c κs. search needs) settle-requires returns)

@@ -4,9 +4,6 @@ use Rattle.authority.specs.Progress.{addRecords}
 use Rattle.dispatcher.proofs.accepting.untouched.Statement.{statement}
 use Rattle.dispatcher.proofs.accepting.untouched.Tie as tie
 
-empty-requires : tie.Need-empty-requires
-empty-requires c κs = search needs
-
 returns : tie.Need-returns
 unfolding addRecords
 returns c = rw (c .empty .ensures)
@@ -15,5 +12,5 @@ pub untouched-spec : {M : Type 1} → statement M
 untouched-spec =
     tie.close
     (tie.spec
-    empty-requires
+    (λ c κs. search needs)
     returns)

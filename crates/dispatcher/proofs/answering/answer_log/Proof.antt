@@ -7,18 +7,6 @@ use Rattle.rules.specs.Answer.{answerOf}
 use Rattle.dispatcher.proofs.answering.answer_log.Statement.{statement}
 use Rattle.dispatcher.proofs.answering.answer_log.Tie as tie
 
-log-length-requires : tie.Need-log-length-requires
-log-length-requires c κs = search needs
-
-step-requires : tie.Need-step-requires
-step-requires c κs = search needs
-
-log-with-requires : tie.Need-log-with-requires
-log-with-requires c κs = search needs
-
-same-length : tie.Need-same-length
-same-length c = search needs
-
 returns : tie.Need-returns
 returns c =
     let done = c .before .before .before .before .before in
@@ -30,8 +18,8 @@ pub answer-log-spec : {M : Type 1} → statement M
 answer-log-spec =
     tie.close
     (tie.spec
-    log-length-requires
-    step-requires
-    log-with-requires
-    same-length
+    (λ c κs. search needs)
+    (λ c κs. search needs)
+    (λ c κs. search needs)
+    (λ c. search needs)
     returns)

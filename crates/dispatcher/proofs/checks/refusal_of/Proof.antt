@@ -10,17 +10,11 @@ use Rattle.dispatcher.proofs.Refusals.{strange, short-stores, message-d
 use Rattle.dispatcher.proofs.checks.refusal_of.Statement.{statement}
 use Rattle.dispatcher.proofs.checks.refusal_of.Tie as tie
 
-valid-requires : tie.Need-valid-requires
-valid-requires c κs = search needs
-
 returns : tie.Need-returns
 returns c =
     let a = c .before .before .before .args in
     strange (a .state) (a .table) (a .records) (now (a .frame)) (a .room) (sym (c .before .valid .ensures)
     ∙ not-true _ (c .if1 .taken))
-
-long-enough-requires : tie.Need-long-enough-requires
-long-enough-requires c κs = search needs
 
 returns-2 : tie.Need-returns-2
 returns-2 c =
@@ -29,9 +23,6 @@ returns-2 c =
     short-stores (a .state) (a .table) (a .records) (now (a .frame)) (a .room) (sym (e .before .valid .ensures)
     ∙ not-false _ (e .if1 .left))
     (sym (c .before .long-enough .ensures) ∙ not-true _ (c .if2 .taken))
-
-read-requires : tie.Need-read-requires
-read-requires c κs = search needs
 
 message-refusal-requires : tie.Need-message-refusal-requires
 message-refusal-requires c κs =
@@ -53,10 +44,10 @@ pub refusal-of-spec : {M : Type 1} → statement M
 refusal-of-spec =
     tie.close
     (tie.spec
-    valid-requires
+    (λ c κs. search needs)
     returns
-    long-enough-requires
+    (λ c κs. search needs)
     returns-2
-    read-requires
+    (λ c κs. search needs)
     message-refusal-requires
     returns-3)

@@ -31,14 +31,8 @@ mul-entry c = omega (arith, c .before .loop .inv .1 .few)
 array-copy-out-entry : tie.Need-array-copy-out-entry Inv-loop μ-loop
 array-copy-out-entry c = let pre = c .before .before .before .pre in omega arith
 
-frame-of-requires : tie.Need-frame-of-requires Inv-loop μ-loop
-frame-of-requires c κs = search needs
-
 mul-place : tie.Need-mul-place Inv-loop μ-loop
 mul-place c = omega (arith, c .before .before .before .before .loop .inv .1 .few)
-
-place-requires : tie.Need-place-requires Inv-loop μ-loop
-place-requires c κs = search needs
 
 add-sent : tie.Need-add-sent Inv-loop μ-loop
 add-sent c = omega (arith, c .before .before .before .before .before .before .before .loop .inv .1 .few)
@@ -78,9 +72,9 @@ send-spec =
     add-entry
     mul-entry
     array-copy-out-entry
-    frame-of-requires
+    (λ c κs. search needs)
     mul-place
-    place-requires
+    (λ c κs. search needs)
     add-sent
     loop-less
     loop-again

@@ -18,12 +18,6 @@ use Rattle.dispatcher.proofs.Outcomes.{step-accepted}
 use Rattle.dispatcher.proofs.stepping.step.Statement.{statement}
 use Rattle.dispatcher.proofs.stepping.step.Tie as tie
 
-refusal-of-requires : tie.Need-refusal-of-requires
-refusal-of-requires c κs = search needs
-
-refused-requires : tie.Need-refused-requires
-refused-requires c κs = search needs
-
 -- the checks were made
 module _ (c : tie.After-refusal-of) where
   abbrev start : tie.Start
@@ -51,9 +45,6 @@ returns : tie.Need-returns
 returns c = let r = c .before .before in step-refused (s r) (table r) (count r) (bytes r) (buffer r) _ (number r)
     (c .before .if1 .taken) _ (c .refused .ensures)
 
-read-requires : tie.Need-read-requires
-read-requires c κs = search needs
-
 -- all of them passed
 module _ (c : tie.After-read) where
   abbrev checked : tie.After-refusal-of
@@ -67,9 +58,6 @@ accept-requires : tie.Need-accept-requires
 accept-requires c κs =
     subst⁻¹ (λ (a : Message). Acceptable (s (checked c)) a) (c .read .ensures)
     (taken-acceptable (s (checked c)) (passed c .valid-state) (readFrame (bytes (checked c))) (passed c .message))
-
-cast-at : tie.Need-cast-at
-cast-at c = search needs
 
 -- the work is done
 module _ (c : tie.After-accept) where
@@ -89,9 +77,6 @@ send-requires c κs =
       passed (d .before) .long-out,
     )
 
-same-length : tie.Need-same-length
-same-length c = search needs
-
 returns-2 : tie.Need-returns-2
 returns-2 c =
     let d = c .before .before .before .before .before .before .before .before in
@@ -103,12 +88,12 @@ pub step-spec : {M : Type 1} → statement M
 step-spec =
     tie.close
     (tie.spec
-    refusal-of-requires
-    refused-requires
+    (λ c κs. search needs)
+    (λ c κs. search needs)
     returns
-    read-requires
+    (λ c κs. search needs)
     accept-requires
-    cast-at
+    (λ c. search needs)
     send-requires
-    same-length
+    (λ c. search needs)
     returns-2)
