@@ -1,56 +1,76 @@
 -- The test of a grant in the order in which the code makes it, and the configuration whose bit it reads, train by
 -- train.
-use mathlib.Core.Path.{_≡_, ap, _∙_}
-use mathlib.Core.Logic.{_≢_}
+use mathlib.Core.Path.{_≡_, refl, ap, _∙_}
 use mathlib.Core.Bool.{true, false}
 use mathlib.Core.List.{List}
 use Prim.Native.Nat.{ℕ, _+_, _≤_, _<_}
+use native.Mathlib.Nat.{not-suc-le-zero}
 use native.Mathlib.Omega.{arith}
 use lib.Dec.{eqb, ltb}
-use lib.ListN.{getD}
+use lib.ListN.{length, getD, set, replicate, length-set}
+use lib.Seq.{getD-set-same, getD-set-other}
 use borrow.Author.Tests.{eq-eqb, ne-eqb, lt-ltb, le-ltb}
-use Rattle.common.specs.Tabulate.{padded}
+use Rattle.common.proofs.Tests.{by-equality}
 use Rattle.common.proofs.Below.{ofBool-le}
-use Rattle.common.proofs.Tabulate.{at-padded}
 use Rattle.common.proofs.Update.{update-own, update-other}
 use Rattle.line.specs.Route.{sectionOf, distance}
 use Rattle.line.specs.Holding.{postHolders, sectionHolders}
-use Rattle.completion.specs.Configuration.{Configuration, moved, codeBelow}
+use Rattle.completion.specs.Configuration.{moved, codeBelow}
 use Rattle.completion.specs.Table.{bitOf}
-use Rattle.completion.proofs.Codes.{code-cong}
-use Rattle.authority.specs.Types.{Move, Train, State}
-use Rattle.rules.specs.State.{isAsked, isRunning, trainOf, located, reachedBy, reached, nextMove}
+use Rattle.authority.specs.Types.{Move, State}
+use Rattle.rules.specs.State.{isAsked, isRunning, trainOf, located, reached, nextMove}
 use Rattle.rules.specs.Valid.{consistent}
 use Rattle.rules.specs.Granting.{grantable}
-use Rattle.rules.proofs.Validity.{consistent-facts, start-below, post-below, next-post-below, asked-short}
+use Rattle.validity.specs.Holders.{Placed}
+use Rattle.validity.proofs.Located.{on-eight}
+use Rattle.rules.proofs.Validity.{consistent-facts, start-below, end-below, post-below, next-post-below, asked-short}
 
--- ---- the posts that train u has travelled, when train t has moved on
+-- ---- a consistent state
 
 module _ (s : State) (d : consistent s ≡ true) where
   pub few-trains : s .trains ≤ 6
   few-trains = consistent-facts s d .line .few-trains
 
-  module _ (u : ℕ) (k : u < s .trains) (x : Train) (e : x ≡ trainOf s u) where
-    pub short-way : distance (x .route .start .0) (x .at .0) < 8
-    short-way =
-        let v = consistent-facts s d in
-        rw e (omega (arith, start-below s v u k, post-below s v u k, v .line .few-posts))
+  pub all-placed : Placed s
+  all-placed t k =
+      let v = consistent-facts s d in
+      on-eight (trainOf s t) (s .posts) (v .line .few-posts) (post-below s v t k) (end-below s v t k)
 
-    pub few-reached : reachedBy x < 10
-    few-reached = omega (arith, short-way, ofBool-le (isRunning (x .status)))
+  pub short-way : (t : ℕ) → t < s .trains → distance (trainOf s t .route .start .0) (trainOf s t .at .0) < 8
+  short-way t k =
+      let v = consistent-facts s d in
+      omega (arith, start-below s v t k, post-below s v t k, v .line .few-posts)
 
-module _ (s : State) (t u p : ℕ) (e : p ≡ reached s u) where
-  pub travelled-own : u ≡ t → p + 1 ≡ moved (reached s) t u
-  travelled-own q = rw (q, update-own (reached s) t (reached s t + 1)) (ap (λ (n : ℕ). n + 1) (e ∙ ap (reached s) q))
+  pub few-reached : (t : ℕ) → t < s .trains → reached s t < 10
+  few-reached t k = omega (arith, short-way t k, ofBool-le (isRunning (trainOf s t .status)))
 
-  pub travelled-other : u ≢ t → p ≡ moved (reached s) t u
-  travelled-other h = rw (update-other (reached s) t (reached s t + 1) u h) e
+-- ---- the posts that each train has travelled
 
--- the digits of n trains, at most six, have their code
-pub padded-code : (n : ℕ) (c : Configuration) (digits : List ℕ) → n ≤ 6 → digits ≡ padded 6 n c 0
-    → codeBelow n (λ u. getD digits u 0) ≡ codeBelow n c
-padded-code n c digits few e = code-cong n (λ u. getD digits u 0) c (λ u k.
-    ap (λ (l : List ℕ). getD l u 0) e ∙ at-padded 6 n c 0 u (omega arith) k)
+-- they are stored for the first n trains
+pub record Stored (s : State) (n : ℕ) (travelled : List ℕ) : Type 0 where
+  pub six : length travelled ≡ 6
+  pub each : (u : ℕ) → u < n → getD travelled u 0 ≡ reached s u
+
+pub stored-none : (s : State) → Stored s 0 (replicate 6 0)
+stored-none s = record { six = refl; each = λ u k. absurd (not-suc-le-zero k) }
+
+pub stored-more : (s : State) (n : ℕ) (travelled : List ℕ) (r : ℕ) → n < 6 → Stored s n travelled → r ≡ reached s n
+    → Stored s (n + 1) (set travelled n r)
+stored-more s n travelled r small h e = record {
+  six = length-set travelled n r ∙ h .six;
+  each = λ u k. by-equality u n
+      (λ q. rw q (getD-set-same travelled n r 0 (omega (arith, h .six)) ∙ e))
+      (λ q. getD-set-other travelled n u r 0 q ∙ h .each u (omega arith));
+}
+
+-- train t has moved on
+pub stored-moved : (s : State) (travelled : List ℕ) → Stored s (s .trains) travelled → (t : ℕ) → t < 6 → t < s .trains
+    → (u : ℕ) → u < s .trains → getD (set travelled t (getD travelled t 0 + 1)) u 0 ≡ moved (reached s) t u
+stored-moved s travelled h t small known u k = by-equality u t
+    (λ q. rw (q, update-own (reached s) t (reached s t + 1))
+    (getD-set-same travelled t _ 0 (omega (arith, h .six)) ∙ ap (λ (n : ℕ). n + 1) (h .each t known)))
+    (λ q. rw (update-other (reached s) t (reached s t + 1) u q)
+    (getD-set-other travelled t u _ 0 q ∙ h .each u k))
 
 -- ---- holders and tracks, found to be n and k
 

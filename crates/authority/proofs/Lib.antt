@@ -1,7 +1,4 @@
--- The definitions in the order in which the code goes through them.
-pub mod Located
-pub mod HolderSets
-pub mod Tested
+-- The granting in the order in which the code goes through it.
 pub mod GrantTest
 pub mod Askers
 pub mod Working

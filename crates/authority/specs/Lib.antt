@@ -1,6 +1,4 @@
--- Words of the code below the entry points.
+-- Words of the code of the granting.
 pub mod Types
-pub mod Holders
-pub mod Tests
 pub mod Asking
 pub mod Progress

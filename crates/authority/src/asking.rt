@@ -2,7 +2,6 @@
 ghost use mathlib.Core.Path.{_≡_};
 ghost use Prim.Native.Nat.{_≤_};
 ghost use Rattle.authority.specs.Asking.{elder, lower, NextAsked};
-use crate::fleet::status_of;
 use line::TrainNo;
 use rules::State;
 use rules::Status;
@@ -18,10 +17,13 @@ pub fn next_asked(state: State, from: u8) -> Asker
     requires { ⌜ state .trains ≤ 6 ⌝ }
     ensures { λ r. ⌜ NextAsked state from (state .trains) r ⌝ }
 {
+    let fleet = state.fleet;
     let mut best = Asker::Nobody;
     let mut t: u8 = 0;
     while t < state.trains {
-        best = elder(best, TrainNo(t), status_of(state, TrainNo(t)), from);
+        let train = fleet[t as usize];
+        let status = train.status;
+        best = elder(best, TrainNo(t), status, from);
         t += 1;
     }
     best

@@ -1,23 +1,22 @@
 // Whether a train can be granted.
 ghost use mathlib.Core.Path.{_≡_};
 ghost use mathlib.Core.Bool.{true};
-ghost use Prim.Native.Nat.{_<_};
-ghost use Rattle.common.specs.Tabulate.{padded};
+ghost use Prim.Native.Nat.{ℕ, _<_};
+ghost use lib.ListN.{getD};
 ghost use Rattle.completion.specs.Configuration.{moved};
 ghost use Rattle.rules.specs.State.{reached};
 ghost use Rattle.rules.specs.Valid.{consistent};
 ghost use Rattle.rules.specs.Granting.{grantable};
-use crate::fleet::status_of;
-use crate::fleet::tracks_at;
-use crate::fleet::train_of;
-use crate::holding::holders_of;
-use crate::holding::post_holders;
-use crate::holding::section_holders;
-use crate::train::is_asked;
-use crate::train::next_move;
-use crate::train::reached;
 use line::TrainNo;
 use rules::State;
+use validity::holders_of;
+use validity::is_asked;
+use validity::next_move;
+use validity::post_holders;
+use validity::reached;
+use validity::section_holders;
+use validity::status_of;
+use validity::tracks_at;
 
 // 01: "A train can be granted if it is Asked, its next section is unheld, its next post is held by
 // fewer trains than tracks, and the table has the bit for the placing in which every Running train,
@@ -42,26 +41,17 @@ pub fn grantable(state: State, table: &[u8], t: TrainNo) -> bool
 
 // The posts that each train has then travelled.
 fn reached_with(state: State, t: TrainNo) -> [u8; 6]
-    requires { ⌜ consistent state ≡ true ⌝ }
-    ensures { λ r. ⌜ r ≡ padded 6 (state .trains) (moved (reached state) (t .0)) 0 ⌝ }
+    requires { ⌜ (consistent state ≡ true) × (t .0 < state .trains) ⌝ }
+    ensures { λ r. ⌜ ((u : ℕ) → u < state .trains → getD r u 0 ≡ moved (reached state) (t .0) u) ⌝ }
 {
+    let fleet = state.fleet;
     let mut travelled = [0u8; 6];
-    let mut u: u8 = 0;
-    while u < state.trains {
-        travelled[u as usize] = travelled_by(state, t, TrainNo(u));
+    let mut u: usize = 0;
+    while u < state.trains as usize {
+        travelled[u] = reached(fleet[u]);
         u += 1;
     }
+    let i = t.0 as usize;
+    travelled[i] = travelled[i] + 1;
     travelled
-}
-
-// Train `u` has then travelled so many.
-fn travelled_by(state: State, t: TrainNo, u: TrainNo) -> u8
-    requires { ⌜ (consistent state ≡ true) × (u .0 < state .trains) ⌝ }
-    ensures { λ r. ⌜ r ≡ moved (reached state) (t .0) (u .0) ⌝ }
-{
-    let posts = reached(train_of(state, u));
-    if u.0 == t.0 {
-        return posts + 1;
-    }
-    posts
 }

@@ -11,17 +11,17 @@ ghost use Rattle.rules.specs.Answer.{mostLogged};
 ghost use Rattle.authority.specs.Progress.{progressOf, progressWith, progressTo};
 use crate::asking::Asker;
 use crate::asking::next_asked;
-use crate::fleet::one_logged;
-use crate::fleet::train_of;
-use crate::fleet::with_train;
 use crate::grantable::grantable;
-use crate::train::next_move;
-use crate::train::with_status;
 use frame::Message;
 use journal::Batch;
 use line::TrainNo;
 use rules::State;
 use rules::Status;
+use validity::next_move;
+use validity::one_logged;
+use validity::train_of;
+use validity::with_status;
+use validity::with_train;
 
 // How far the work on a frame is: the state, and the records of what was logged so far.
 pub struct Progress {

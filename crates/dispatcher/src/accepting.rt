@@ -11,20 +11,20 @@ ghost use Rattle.rules.specs.Answer.{mostLogged, accepted, declined, untouched}
 ghost use Rattle.authority.specs.Progress.{progressOf};
 ghost use Rattle.dispatcher.specs.Step.{Ready, Acceptable};
 use authority::Progress;
-use authority::arrived;
-use authority::is_asked;
 use authority::logged;
 use authority::settle;
-use authority::status_of;
-use authority::train_of;
-use authority::with_status;
-use authority::with_train;
 use frame::Message;
 use frame::Move;
 use line::TrainNo;
 use rules::State;
 use rules::Status;
 use rules::Train;
+use validity::arrived;
+use validity::is_asked;
+use validity::status_of;
+use validity::train_of;
+use validity::with_status;
+use validity::with_train;
 
 // The frame is logged and answered. What is neither an FA nor an AM is not accepted.
 pub fn accept(state: State, table: &[u8], message: Message) -> Progress

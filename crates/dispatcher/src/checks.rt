@@ -12,13 +12,6 @@ ghost use Rattle.completion.specs.Table.{tableLength};
 ghost use Rattle.rules.specs.Answer.{outLength, moveChecks, hasRoom, contentChecks, frameChecks};
 ghost use Rattle.dispatcher.specs.Types.{Fa, Am};
 ghost use Rattle.dispatcher.specs.Step.{messageRefusal};
-use authority::at_end;
-use authority::is_asked;
-use authority::is_running;
-use authority::next_post;
-use authority::status_of;
-use authority::train_of;
-use authority::valid;
 use frame::FRAME_LENGTH;
 use frame::Message;
 use frame::Move;
@@ -28,6 +21,13 @@ use journal::MOST_SENT;
 use line::refusal;
 use rules::State;
 use table::TABLE_LENGTH;
+use validity::at_end;
+use validity::is_asked;
+use validity::is_running;
+use validity::next_post;
+use validity::status_of;
+use validity::train_of;
+use validity::valid;
 
 // 01: "At most 6 frames go out, 42 bytes".
 pub const OUT_LENGTH: usize = MOST_SENT * FRAME_LENGTH;

@@ -1,5 +1,5 @@
 -- `next_asked` meets its contract. The loop's invariant: the best so far is the next one among the trains passed.
-use mathlib.Core.Path.{_≡_, sym}
+use mathlib.Core.Path.{_≡_, refl}
 use Prim.Native.Nat.{_≤_, _-_}
 use native.Mathlib.Numerals.{add-one}
 use native.Mathlib.Omega.{arith}
@@ -10,16 +10,22 @@ use Rattle.authority.proofs.asking.next_asked.Statement.{statement}
 use Rattle.authority.proofs.asking.next_asked.Tie as tie
 
 abbrev Inv-loop : tie.InvT-loop
-Inv-loop state from best₀ t₀ best t = (t ≤ state .trains) × NextAsked state from t best
+Inv-loop state from fleet best₀ t₀ best t = (t ≤ state .trains) × NextAsked state from t best
 
 abbrev μ-loop : tie.MeasureT-loop
-μ-loop state from best₀ t₀ best t = state .trains - t
+μ-loop state from fleet best₀ t₀ best t = state .trains - t
 
 loop-holds : tie.Need-loop-holds Inv-loop μ-loop
 loop-holds c = (omega arith, next-none _ _)
 
-status-of-requires : tie.Need-status-of-requires Inv-loop μ-loop
-status-of-requires c κs = omega arith
+cast-train : tie.Need-cast-train Inv-loop μ-loop
+cast-train c = search needs
+
+mul-train : tie.Need-mul-train Inv-loop μ-loop
+mul-train c = omega arith
+
+array-copy-out-train : tie.Need-array-copy-out-train Inv-loop μ-loop
+array-copy-out-train c = omega arith
 
 elder-requires : tie.Need-elder-requires Inv-loop μ-loop
 elder-requires c κs = search needs
@@ -34,14 +40,15 @@ loop-again : tie.Need-loop-again Inv-loop μ-loop
 loop-again c =
     let at = c .before .before .before .before in (
       omega arith,
-      rw (c .elder .ensures, add-one) (next-more (at .before .args .state) (at .before .args .from)
-          (at .loop .t) _ _ (sym (c .before .status-of .ensures)) (at .loop .inv .1)),
+      rw (c .elder .ensures, add-one) (next-more (at .before .before .args .state) (at .before .before .args .from)
+          (at .loop .t) _ _ refl (at .loop .inv .1)),
     )
 
 returns : tie.Need-returns Inv-loop μ-loop
 returns c =
-    let all : c .before .before .loop .t ≡ c .before .before .before .args .state .trains = omega arith in
-    rw all at (c .before .before .loop .inv .1)
+    let at = c .before .before in
+    let all : at .loop .t ≡ at .before .before .args .state .trains = omega arith in
+    rw all at (at .loop .inv .1)
 
 pub next-asked-spec : {M : Type 1} → statement M
 next-asked-spec =
@@ -50,7 +57,9 @@ next-asked-spec =
     Inv-loop
     μ-loop
     loop-holds
-    status-of-requires
+    cast-train
+    mul-train
+    array-copy-out-train
     elder-requires
     add-t
     loop-less

@@ -6,10 +6,11 @@ use native.Mathlib.Omega.{arith}
 use lib.Dec.{eqb}
 use borrow.Author.Needs.{needs}
 use borrow.Author.Tests.{not-true, not-false}
+use Rattle.completion.proofs.Codes.{code-cong}
 use Rattle.line.specs.Holding.{postHolders, sectionHolders}
 use Rattle.authority.specs.Types.{Status}
 use Rattle.rules.specs.State.{isAsked, trainOf, located}
-use Rattle.authority.proofs.GrantTest.{few-trains, padded-code, some-hold, none-hold, no-track, a-track}
+use Rattle.authority.proofs.GrantTest.{few-trains, all-placed, some-hold, none-hold, no-track, a-track}
 use Rattle.authority.proofs.GrantTest.{from-on-line, to-on-line, not-asked, section-held, post-full, bit-decides}
 use Rattle.authority.proofs.grantable.grantable.Statement.{statement}
 use Rattle.authority.proofs.grantable.grantable.Tie as tie
@@ -43,7 +44,8 @@ next-move-requires : tie.Need-next-move-requires
 next-move-requires c κs = omega (arith, few-trains _ (from c .pre .0), from c .pre .1)
 
 holders-of-requires : tie.Need-holders-of-requires
-holders-of-requires c κs = few-trains _ (from (c .before) .pre .0)
+holders-of-requires c κs =
+    let d = from (c .before) .pre .0 in (few-trains _ d, all-placed _ d)
 
 section-requires : tie.Need-section-requires
 section-requires c κs = search needs
@@ -89,7 +91,7 @@ module _ (c : tie.Else2) where
   free = none-hold _ (section-counted (c .before)) (c .if2 .left)
 
 tracks-at-requires : tie.Need-tracks-at-requires
-tracks-at-requires c κs = search needs
+tracks-at-requires c κs = to-low (at c)
 
 post-holders-requires : tie.Need-post-holders-requires
 post-holders-requires c κs = to-low (at (c .before))
@@ -128,8 +130,7 @@ returns-4 c =
     let room = c .before .before .before in
     let e = unheld (room .before) in
     let i = at e in
-    let code = c .before .code .ensures
-    ∙ padded-code _ _ _ (few-trains _ (from (asked i) .pre .0)) (c .before .before .reached-with .ensures) in
+    let code = c .before .code .ensures ∙ code-cong _ _ _ (c .before .before .reached-with .ensures) in
     c .bit .ensures
     ∙ bit-decides _ _ _ (asks (asked i)) _ (i .before .before .next-move .ensures) _ (i .section .ensures) (free e)
     (a-track _ (post-counted (room .before)) _ (room .before .before .tracks-at .ensures) (room .if3 .left)) _ code

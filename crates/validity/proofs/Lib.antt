@@ -1,0 +1,4 @@
+-- A state, read: one train's record, the sets of holders, and the tests in the code's order.
+pub mod Located
+pub mod HolderSets
+pub mod Tested

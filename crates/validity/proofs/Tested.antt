@@ -1,0 +1,177 @@
+-- The tests of a state in the order in which the code makes them: the first that fails decides, and else the last.
+-- Together they are those of `rules`.
+use mathlib.Core.Path.{_≡_, refl, sym, ap, _∙_}
+use mathlib.Core.Logic.{⊎-elim}
+use mathlib.Core.Bool.{Bool, true, false, not, _&&_, and-false, and-true}
+use Prim.Native.Nat.{ℕ, _≤_, _<_}
+use native.Mathlib.Omega.{arith}
+use lib.Count.{ones}
+use lib.Dec.{leb, ltb}
+use lib.ListN.{getD}
+use borrow.Author.Tests.{ltb-true, le-leb, lt-leb}
+use Rattle.common.specs.Below.{allBelow}
+use Rattle.common.proofs.Tests.{same-test, and-left, and-right, and-both}
+use Rattle.common.proofs.Below.{all-below, below-all, all-cong}
+use Rattle.line.specs.Route.{between}
+use Rattle.line.specs.Line.{inRange, postsInRange, tracksInRange, trainsInRange, routesOnLine, wellFormed}
+use Rattle.line.proofs.Travel.{between-of}
+use Rattle.line.proofs.WellFormed.{high, ranged, below-range, above-range}
+use Rattle.journal.specs.Journal.{journalLength}
+use Rattle.validity.specs.Types.{Status, Train, State, Holders}
+use Rattle.validity.specs.Holders.{Placed, Held}
+use Rattle.validity.specs.Tests.{countsValid, onLine, recordValid, heldWithin, placeValid}
+use Rattle.rules.specs.State.{isFree, atEnd, trainOf, lineOf}
+use Rattle.rules.proofs.Trains.{route-of}
+use Rattle.validity.proofs.Located.{on-eight}
+use Rattle.validity.proofs.HolderSets.{posts-counted, sections-counted}
+use Rattle.rules.specs.Valid.{trainValid, sectionsValid, postsValid, numberBelow, sameNumber, numberValid}
+use Rattle.rules.specs.Valid.{consistent, valid}
+
+-- ---- one train's record
+
+module _ (x : Train) where
+  abbrev onRoute : Bool
+  onRoute = between (x .route .start .0) (x .at .0) (x .route .end .0)
+
+  pub off-route : onRoute ≡ false → false ≡ trainValid x
+  off-route e = rw e
+
+  module _ (e : onRoute ≡ true) where
+    pub free-valid : isFree (x .status) ≡ true → true ≡ trainValid x
+    free-valid f = rw (e, f)
+
+    pub busy-valid : isFree (x .status) ≡ false → (b : Bool) → b ≡ atEnd x → not b ≡ trainValid x
+    busy-valid f b g = rw (e, f, g)
+
+-- ---- the number of train t's request: w is its status
+
+module _ (s : State) (t : ℕ) (w : Status) (e : w ≡ trainOf s t .status) where
+  pub number-late : numberBelow w (s .logged) ≡ false → false ≡ numberValid s t
+  number-late f = rw (← e, f)
+
+  pub number-decides : numberBelow w (s .logged) ≡ true → (b : Bool)
+      → b ≡ allBelow t (λ u. not (sameNumber w (trainOf s u .status))) → b ≡ numberValid s t
+  number-decides f b g = g ∙ rw (← e, f)
+
+-- ---- the sets of post p and of the section after it
+
+pub place-tested : (s : State) (h : Holders) → Held s h → (p : ℕ) → p < 8 → (b : Bool)
+    → b ≡ heldWithin (getD (s .tracks) p 0) (ones (getD (h .posts) p 0)) (ones (getD (h .sections) p 0))
+    → placeValid s p ≡ b
+place-tested s h held p small b e =
+    sym (e ∙ rw (posts-counted s h held p _ small refl, sections-counted s h held p _ small refl))
+
+module _ (tracks h i : ℕ) where
+  pub no-tracks : tracks < 1 → false ≡ heldWithin tracks h i
+  no-tracks l = rw (below-range 1 4 tracks l)
+
+  pub many-tracks : 4 < tracks → false ≡ heldWithin tracks h i
+  many-tracks l = rw (above-range 1 4 tracks l)
+
+  module _ (some : 1 ≤ tracks) (few : tracks ≤ 4) where
+    pub too-many : tracks < h → false ≡ heldWithin tracks h i
+    too-many l = rw (ranged 1 4 tracks some few, lt-leb h tracks l)
+
+    pub few-enough : h ≤ tracks → leb i 1 ≡ heldWithin tracks h i
+    few-enough l = rw (ranged 1 4 tracks some few, le-leb h tracks l)
+
+-- ---- the state: the definition's tests are these
+
+all-and : (n : ℕ) (f g : ℕ → Bool) → allBelow n (λ k. f k && g k) ≡ allBelow n f && allBelow n g
+all-and n f g = same-test (allBelow n (λ k. f k && g k)) (allBelow n f && allBelow n g)
+    (λ e.
+    let both = all-below n (λ k. f k && g k) e in
+    and-both _ _ (below-all n f (λ k l. and-left (f k) (g k) (both k l)))
+    (below-all n g (λ k l. and-right (f k) (g k) (both k l))))
+    (λ e.
+    let one = all-below n f (and-left (allBelow n f) (allBelow n g) e) in
+    let two = all-below n g (and-right (allBelow n f) (allBelow n g) e) in
+    below-all n _ (λ k l. and-both (f k) (g k) (one k l) (two k l)))
+
+-- a line of posts r, tracks k, trains t and routes o; trains v, sections s, posts p and numbers q, in two orders
+in-turn : (r k t o v s p q : Bool)
+    → r && (k && (t && o)) && v && s && p && q ≡ r && t && (o && v) && (k && (p && s)) && q
+in-turn false k t o v s p q = refl
+in-turn true k false o v s p q = rw (and-false k)
+in-turn true k true false v s p q = rw (and-false k)
+in-turn true false true true v s p q = rw (and-false v)
+in-turn true true true true false s p q = refl
+in-turn true true true true true false p q = rw (and-false p)
+in-turn true true true true true true false q = refl
+in-turn true true true true true true true q = refl
+
+module _ (s : State) where
+  trains-together : allBelow (s .trains) (λ t. recordValid (s .posts) (trainOf s t))
+      ≡ routesOnLine (lineOf s) && allBelow (s .trains) (λ t. trainValid (trainOf s t))
+  trains-together =
+      all-and (s .trains) (λ t. onLine (s .posts) (trainOf s t .route)) (λ t. trainValid (trainOf s t))
+      ∙ ap (λ (b : Bool). b && allBelow (s .trains) (λ t. trainValid (trainOf s t)))
+      (all-cong (s .trains) _ _ (λ t k. ap (onLine (s .posts)) (sym (route-of s t))))
+
+  places-together : allBelow (s .posts) (placeValid s)
+      ≡ tracksInRange (lineOf s) && (postsValid s && sectionsValid s)
+  places-together =
+      all-and (s .posts) (λ p. inRange 1 4 (getD (s .tracks) p 0)) _
+      ∙ ap (λ (b : Bool). tracksInRange (lineOf s) && b) (all-and (s .posts) _ _)
+
+  abbrev counts : Bool
+  counts = countsValid (s .posts) (s .trains)
+
+  abbrev trains : Bool
+  trains = allBelow (s .trains) (λ t. recordValid (s .posts) (trainOf s t))
+
+  abbrev places : Bool
+  places = allBelow (s .posts) (placeValid s)
+
+  abbrev numbers : Bool
+  numbers = allBelow (s .trains) (numberValid s)
+
+  grouped : consistent s ≡ counts && trains && places && numbers
+  unfolding consistent wellFormed
+  grouped =
+      in-turn (postsInRange (lineOf s)) (tracksInRange (lineOf s)) (trainsInRange (lineOf s)) (routesOnLine (lineOf s))
+      (allBelow (s .trains) (λ t. trainValid (trainOf s t))) (sectionsValid s) (postsValid s) numbers
+      ∙ rw (trains-together, places-together)
+
+  pub counts-fail : counts ≡ false → false ≡ consistent s
+  counts-fail e = sym (grouped ∙ rw e)
+
+  module _ (e : counts ≡ true) where
+    pub eight-posts : s .posts ≤ 8
+    eight-posts = high 2 8 (s .posts) (and-left (inRange 2 8 (s .posts)) _ e)
+
+    pub six-trains : s .trains ≤ 6
+    six-trains = high 1 6 (s .trains) (and-right (inRange 2 8 (s .posts)) _ e)
+
+    pub trains-fail : trains ≡ false → false ≡ consistent s
+    trains-fail f = sym (grouped ∙ rw (e, f))
+
+    module _ (f : trains ≡ true) where
+      pub all-placed : Placed s
+      all-placed t k =
+          let x = trainOf s t in
+          let r = all-below (s .trains) (λ u. recordValid (s .posts) (trainOf s u)) f t k in
+          let route = and-left (onLine (s .posts) (x .route)) _ r in
+          let start : x .route .start .0 < s .posts =
+          ltb-true _ _ (and-left (ltb (x .route .start .0) (s .posts)) _ route) in
+          let end : x .route .end .0 < s .posts =
+          ltb-true _ _ (and-right (ltb (x .route .start .0) (s .posts)) _ route) in
+          let inside = between-of _ _ _ (and-left (onRoute x) _ (and-right (onLine (s .posts) (x .route)) _ r)) in
+          on-eight x (s .posts) eight-posts (⊎-elim (λ b. omega arith) (λ b. omega arith) inside) end
+
+      pub places-fail : places ≡ false → false ≡ consistent s
+      places-fail g = sym (grouped ∙ rw (e, f, g))
+
+      module _ (g : places ≡ true) where
+        pub numbers-decide : numbers ≡ consistent s
+        numbers-decide = sym (grouped ∙ rw (e, f, g))
+
+  -- the count beside them
+
+  pub count-fails : journalLength < s .logged → false ≡ valid s
+  unfolding valid
+  count-fails h = sym (rw (lt-leb (s .logged) journalLength h) (and-false (consistent s)))
+
+  pub count-passes : s .logged ≤ journalLength → (b : Bool) → b ≡ consistent s → b ≡ valid s
+  unfolding valid
+  count-passes h b e = e ∙ sym (rw (le-leb (s .logged) journalLength h) (and-true (consistent s)))

@@ -1,0 +1,162 @@
+-- `holders_of` meets its contract. The loop's invariant: the sets have the holders among the trains passed.
+use mathlib.Core.Path.{_≡_, sym, _∙_}
+use Prim.Native.Nat.{_≤_, _<_, _-_}
+use native.Mathlib.Omega.{arith}
+use borrow.Author.Needs.{needs}
+use Rattle.rules.specs.State.{nextOf, trainOf}
+use Rattle.validity.specs.Types.{State, Train}
+use Rattle.validity.proofs.HolderSets.{Sets, sets-none, sets-standing, sets-running}
+use Rattle.validity.proofs.holding.holders_of.Statement.{statement}
+use Rattle.validity.proofs.holding.holders_of.Tie as tie
+
+abbrev Inv-loop : tie.InvT-loop
+Inv-loop state fleet posts₀ sections₀ t₀ posts sections t = (t ≤ state .trains) × Sets state t posts sections
+
+abbrev μ-loop : tie.MeasureT-loop
+μ-loop state fleet posts₀ sections₀ t₀ posts sections t = state .trains - t
+
+loop-holds : tie.Need-loop-holds Inv-loop μ-loop
+loop-holds c = (omega arith, sets-none _)
+
+cast-if1 : tie.Need-cast-if1 Inv-loop μ-loop
+cast-if1 c = search needs
+
+mul-train : tie.Need-mul-train Inv-loop μ-loop
+mul-train c = search needs
+
+array-copy-out-train : tie.Need-array-copy-out-train Inv-loop μ-loop
+array-copy-out-train c = omega arith
+
+cast-own : tie.Need-cast-own Inv-loop μ-loop
+cast-own c = search needs
+
+shl-own : tie.Need-shl-own Inv-loop μ-loop
+shl-own c = search needs
+
+add-t : tie.Need-add-t Inv-loop μ-loop
+add-t c = omega arith
+
+cast-p : tie.Need-cast-p Inv-loop μ-loop
+cast-p c = search needs
+
+-- the train of this turn, at one of the eight posts
+module _ (c : tie.After-struct-known2 Inv-loop μ-loop) where
+  abbrev turn : tie.At-loop Inv-loop μ-loop
+  turn = c .before .before .before .before
+
+  abbrev given : State
+  given = turn .before .before .args .state
+
+  abbrev train : Train
+  train = trainOf given (turn .loop .t)
+
+  small : turn .loop .t < 6
+  small = omega (arith, turn .before .before .pre .0)
+
+  placed : (train .at .0 < 8) × (nextOf train < 8)
+  placed = turn .before .before .pre .1 (turn .loop .t) (omega arith)
+
+array-read-posts : tie.Need-array-read-posts Inv-loop μ-loop
+array-read-posts c = placed c .0
+
+array-write-posts : tie.Need-array-write-posts Inv-loop μ-loop
+array-write-posts c = placed c .0
+
+is-running-requires : tie.Need-is-running-requires Inv-loop μ-loop
+is-running-requires c κs = search needs
+
+next-post-requires : tie.Need-next-post-requires Inv-loop μ-loop
+next-post-requires c κs = search needs
+
+cast-q : tie.Need-cast-q Inv-loop μ-loop
+cast-q c = search needs
+
+section-requires : tie.Need-section-requires Inv-loop μ-loop
+section-requires c κs = search needs
+
+cast-i : tie.Need-cast-i Inv-loop μ-loop
+cast-i c = search needs
+
+-- it is Running, to a post and over a section that are on the line
+module _ (c : tie.After-struct-known4 Inv-loop μ-loop) where
+  abbrev own : tie.After-struct-known2 Inv-loop μ-loop
+  own = c .before .before .before .before .before .before
+
+  to-small : c .before .before .before .next-post .result .0 < 8
+  to-small = omega (arith, c .before .before .before .next-post .ensures, placed own .1)
+
+  section-small : c .before .section .result .0 < 8
+  section-small = omega (arith, c .before .section .ensures, to-small)
+
+array-read-posts-2 : tie.Need-array-read-posts-2 Inv-loop μ-loop
+array-read-posts-2 c = to-small c
+
+array-write-posts-2 : tie.Need-array-write-posts-2 Inv-loop μ-loop
+array-write-posts-2 c = to-small c
+
+array-read-sections : tie.Need-array-read-sections Inv-loop μ-loop
+array-read-sections c = section-small c
+
+array-write-sections : tie.Need-array-write-sections Inv-loop μ-loop
+array-write-sections c = section-small c
+
+loop-less : tie.Need-loop-less Inv-loop μ-loop
+loop-less c = omega arith
+
+loop-again : tie.Need-loop-again Inv-loop μ-loop
+loop-again c =
+    let o = own c in
+    let runs = c .before .before .before .before in (
+      omega arith,
+      sets-running (given o) (turn o .loop .t) (small o) (turn o .loop .posts) (turn o .loop .sections)
+          (turn o .loop .inv .1) (placed o .0) (sym (runs .before .is-running .ensures) ∙ runs .if2 .taken) _ _
+          (c .before .before .before .next-post .ensures) (to-small c) (c .before .section .ensures),
+    )
+
+loop-less-2 : tie.Need-loop-less-2 Inv-loop μ-loop
+loop-less-2 c = omega arith
+
+loop-again-2 : tie.Need-loop-again-2 Inv-loop μ-loop
+loop-again-2 c =
+    let o = c .before .before in (
+      omega arith,
+      sets-standing (given o) (turn o .loop .t) (small o) (turn o .loop .posts) (turn o .loop .sections)
+          (turn o .loop .inv .1) (placed o .0) (sym (c .before .is-running .ensures) ∙ c .if2 .left),
+    )
+
+returns : tie.Need-returns Inv-loop μ-loop
+returns c =
+    let a = c .before .before in
+    let all : a .loop .t ≡ a .before .before .args .state .trains = omega arith in
+    rw all at (a .loop .inv .1 .held)
+
+pub holders-of-spec : {M : Type 1} → statement M
+holders-of-spec =
+    tie.close
+    (tie.spec
+    Inv-loop
+    μ-loop
+    loop-holds
+    cast-if1
+    mul-train
+    array-copy-out-train
+    cast-own
+    shl-own
+    add-t
+    cast-p
+    array-read-posts
+    array-write-posts
+    is-running-requires
+    next-post-requires
+    cast-q
+    section-requires
+    cast-i
+    array-read-posts-2
+    array-write-posts-2
+    array-read-sections
+    array-write-sections
+    loop-less
+    loop-again
+    loop-less-2
+    loop-again-2
+    returns)

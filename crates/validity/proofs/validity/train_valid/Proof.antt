@@ -1,0 +1,46 @@
+-- `train_valid` meets its contract: its tests are those of the definition, in its order.
+use mathlib.Core.Path.{sym, _∙_}
+use borrow.Author.Needs.{needs}
+use borrow.Author.Tests.{not-true, not-false}
+use Rattle.validity.proofs.Tested.{off-route, free-valid, busy-valid}
+use Rattle.validity.proofs.validity.train_valid.Statement.{statement}
+use Rattle.validity.proofs.validity.train_valid.Tie as tie
+
+between-requires : tie.Need-between-requires
+between-requires c κs = search needs
+
+returns : tie.Need-returns
+returns c = off-route (c .before .before .before .args .train) (sym (c .before .between .ensures)
+    ∙ not-true _ (c .if1 .taken))
+
+is-free-requires : tie.Need-is-free-requires
+is-free-requires c κs = search needs
+
+returns-2 : tie.Need-returns-2
+returns-2 c =
+    let on = c .before .before in
+    free-valid (on .before .before .before .args .train) (sym (on .before .between .ensures)
+    ∙ not-false _ (on .if1 .left))
+    (sym (c .before .is-free .ensures) ∙ c .if2 .taken)
+
+at-end-requires : tie.Need-at-end-requires
+at-end-requires c κs = search needs
+
+returns-3 : tie.Need-returns-3
+returns-3 c =
+    let busy = c .before in
+    let on = busy .before .before in
+    busy-valid (on .before .before .before .args .train) (sym (on .before .between .ensures)
+    ∙ not-false _ (on .if1 .left))
+    (sym (busy .before .is-free .ensures) ∙ busy .if2 .left) _ (c .at-end .ensures)
+
+pub train-valid-spec : {M : Type 1} → statement M
+train-valid-spec =
+    tie.close
+    (tie.spec
+    between-requires
+    returns
+    is-free-requires
+    returns-2
+    at-end-requires
+    returns-3)

@@ -1,0 +1,28 @@
+-- The tests of a state as the code groups them: the counts, each train's record, each post with its section.
+use mathlib.Core.Bool.{Bool, _&&_}
+use Prim.Native.Nat.{ℕ}
+use lib.Dec.{leb, ltb}
+use lib.ListN.{getD}
+use Rattle.line.specs.Line.{inRange}
+use Rattle.line.specs.Holding.{postHolders, sectionHolders}
+use Rattle.rules.specs.State.{located}
+use Rattle.rules.specs.Valid.{trainValid}
+use Rattle.validity.specs.Types.{Route, Train, State}
+
+abbrev pub countsValid : ℕ → ℕ → Bool
+countsValid posts trains = inRange 2 8 posts && inRange 1 6 trains
+
+-- a route on a line of so many posts
+abbrev pub onLine : ℕ → Route → Bool
+onLine posts r = ltb (r .start .0) posts && ltb (r .end .0) posts
+
+abbrev pub recordValid : ℕ → Train → Bool
+recordValid posts x = onLine posts (x .route) && trainValid x
+
+-- a post of so many tracks with h holders, and the section after it with i
+abbrev pub heldWithin : ℕ → ℕ → ℕ → Bool
+heldWithin tracks h i = inRange 1 4 tracks && (leb h tracks && leb i 1)
+
+abbrev pub placeValid : State → ℕ → Bool
+placeValid s p =
+    heldWithin (getD (s .tracks) p 0) (postHolders (s .trains) (located s) p) (sectionHolders (s .trains) (located s) p)

@@ -1,0 +1,74 @@
+// Who holds what: for each post and for each section the set of the trains that hold it, in six
+// bits; that of value 2 ^ t is train t's.
+ghost use mathlib.Core.Path.{_≡_};
+ghost use Prim.Native.Nat.{_≤_, _<_};
+ghost use lib.Count.{ones};
+ghost use lib.ListN.{getD};
+ghost use Rattle.line.specs.Holding.{postHolders, sectionHolders};
+ghost use Rattle.rules.specs.State.{located};
+ghost use Rattle.validity.specs.Holders.{Placed, Held};
+use crate::train::is_running;
+use crate::train::next_post;
+use line::PostNo;
+use line::SectionNo;
+use rules::State;
+
+// The set of each post, and the set of each section.
+pub struct Holders {
+    pub posts: [u8; 8],
+    pub sections: [u8; 8],
+}
+
+// 01: "A Running train, from its present post p to q, holds the section between them and a track at
+// each of p and q. .. Another train holds a track at its present post."
+pub fn holders_of(state: State) -> Holders
+    requires { ⌜ (state .trains ≤ 6) × Placed state ⌝ }
+    ensures { λ r. ⌜ Held state r ⌝ }
+{
+    let fleet = state.fleet;
+    let mut posts = [0u8; 8];
+    let mut sections = [0u8; 8];
+    let mut t: usize = 0;
+    while t < state.trains as usize {
+        let train = fleet[t];
+        let own: u8 = 1 << t;
+        t += 1;
+        let status = train.status;
+        let p = train.at.0 as usize;
+        posts[p] = posts[p] | own;
+        if is_running(status) {
+            let next = next_post(train);
+            let q = next.0 as usize;
+            let i = line::section(train.at, next).0 as usize;
+            posts[q] = posts[q] | own;
+            sections[i] = sections[i] | own;
+        }
+    }
+    Holders { posts, sections }
+}
+
+// How many trains hold post `p`.
+pub fn post_holders(holders: Holders, p: PostNo) -> u32
+    requires { ⌜ p .0 < 8 ⌝ }
+    ensures { λ r. ⌜ ((s : State) → Held s holders → r ≡ postHolders (s .trains) (located s) (p .0)) ⌝ }
+{
+    let posts = holders.posts;
+    ones_in(posts, p.0)
+}
+
+// How many trains hold section `i`.
+pub fn section_holders(holders: Holders, i: SectionNo) -> u32
+    requires { ⌜ i .0 < 8 ⌝ }
+    ensures { λ r. ⌜ ((s : State) → Held s holders → r ≡ sectionHolders (s .trains) (located s) (i .0)) ⌝ }
+{
+    let sections = holders.sections;
+    ones_in(sections, i.0)
+}
+
+fn ones_in(sets: [u8; 8], i: u8) -> u32
+    requires { ⌜ i < 8 ⌝ }
+    ensures { λ r. ⌜ r ≡ ones (getD sets i 0) ⌝ }
+{
+    let k = i as usize;
+    u32::count_ones(sets[k] as u32)
+}

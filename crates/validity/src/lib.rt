@@ -1,0 +1,24 @@
+// The state in the code: the record of one train, who holds what, and whether a state is valid.
+// Inner parts of the dispatcher, whose callers meet what they ask.
+mod fleet;
+mod holding;
+mod train;
+mod validity;
+
+pub use fleet::one_logged;
+pub use fleet::status_of;
+pub use fleet::tracks_at;
+pub use fleet::train_of;
+pub use fleet::with_train;
+pub use holding::holders_of;
+pub use holding::post_holders;
+pub use holding::section_holders;
+pub use train::arrived;
+pub use train::at_end;
+pub use train::is_asked;
+pub use train::is_running;
+pub use train::next_move;
+pub use train::next_post;
+pub use train::reached;
+pub use train::with_status;
+pub use validity::valid;

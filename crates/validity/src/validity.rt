@@ -1,0 +1,205 @@
+// Whether a state that is handed in is valid (01: sound): its counts, each train's record, each post
+// with its section, and the numbers of the requests.
+ghost use mathlib.Core.Path.{_≡_};
+ghost use Prim.Native.Nat.{_≤_, _<_};
+ghost use lib.Count.{ones};
+ghost use Rattle.common.specs.Below.{allBelow};
+ghost use Rattle.rules.specs.State.{trainOf};
+ghost use Rattle.rules.specs.Valid.{trainValid, numberBelow, sameNumber, numberValid, consistent, valid};
+ghost use Rattle.validity.specs.Holders.{Placed};
+ghost use Rattle.validity.specs.Tests.{countsValid, onLine, recordValid, heldWithin, placeValid};
+use crate::fleet::status_of;
+use crate::fleet::train_of;
+use crate::holding::holders_of;
+use crate::train::at_end;
+use crate::train::is_free;
+use journal::JOURNAL_LENGTH;
+use line::Route;
+use line::TrainNo;
+use rules::State;
+use rules::Status;
+use rules::Train;
+
+pub fn valid(state: State) -> bool
+    ensures { λ r. ⌜ r ≡ valid state ⌝ }
+{
+    if JOURNAL_LENGTH < state.logged as usize {
+        return false;
+    }
+    consistent(state)
+}
+
+// All but the range of the count.
+fn consistent(state: State) -> bool
+    ensures { λ r. ⌜ r ≡ consistent state ⌝ }
+{
+    if !counts_valid(state.posts, state.trains) {
+        return false;
+    }
+    if !trains_valid(state) {
+        return false;
+    }
+    if !places_valid(state) {
+        return false;
+    }
+    numbers_valid(state)
+}
+
+// There are 2 to 8 posts and 1 to 6 trains.
+fn counts_valid(posts: u8, trains: u8) -> bool
+    ensures { λ r. ⌜ r ≡ countsValid posts trains ⌝ }
+{
+    if posts < 2 {
+        return false;
+    }
+    if 8 < posts {
+        return false;
+    }
+    1 <= trains && trains <= 6
+}
+
+fn trains_valid(state: State) -> bool
+    requires { ⌜ state .trains ≤ 6 ⌝ }
+    ensures { λ r. ⌜ r ≡ allBelow (state .trains) (λ t. recordValid (state .posts) (trainOf state t)) ⌝ }
+{
+    let mut t: u8 = 0;
+    while t < state.trains {
+        if !record_valid(state.posts, train_of(state, TrainNo(t))) {
+            return false;
+        }
+        t += 1;
+    }
+    true
+}
+
+fn record_valid(posts: u8, train: Train) -> bool
+    ensures { λ r. ⌜ r ≡ recordValid posts train ⌝ }
+{
+    let route = train.route;
+    if !on_line(posts, route) {
+        return false;
+    }
+    train_valid(train)
+}
+
+// The route starts and ends on a line of so many posts.
+fn on_line(posts: u8, route: Route) -> bool
+    ensures { λ r. ⌜ r ≡ onLine posts route ⌝ }
+{
+    route.start.0 < posts && route.end.0 < posts
+}
+
+// The present post is on the route, and only a train short of its end is Asked or Running.
+fn train_valid(train: Train) -> bool
+    ensures { λ r. ⌜ r ≡ trainValid train ⌝ }
+{
+    let route = train.route;
+    let status = train.status;
+    if !line::between(route.start, train.at, route.end) {
+        return false;
+    }
+    if is_free(status) {
+        return true;
+    }
+    !at_end(train)
+}
+
+// Each post has 1 to 4 tracks and no more holders, and each section one at most.
+fn places_valid(state: State) -> bool
+    requires { ⌜ (state .posts ≤ 8) × (state .trains ≤ 6) × Placed state ⌝ }
+    ensures { λ r. ⌜ r ≡ allBelow (state .posts) (placeValid state) ⌝ }
+{
+    let holders = holders_of(state);
+    let tracks = state.tracks;
+    let posts = holders.posts;
+    let sections = holders.sections;
+    let mut p: usize = 0;
+    while p < state.posts as usize {
+        if !held_within(tracks[p], posts[p], sections[p]) {
+            return false;
+        }
+        p += 1;
+    }
+    true
+}
+
+// The sets of a post of so many tracks and of the section after it have no more ones than they may.
+fn held_within(tracks: u8, post: u8, section: u8) -> bool
+    ensures { λ r. ⌜ r ≡ heldWithin tracks (ones post) (ones section) ⌝ }
+{
+    if tracks < 1 {
+        return false;
+    }
+    if 4 < tracks {
+        return false;
+    }
+    if (tracks as u32) < u32::count_ones(post as u32) {
+        return false;
+    }
+    u32::count_ones(section as u32) <= 1
+}
+
+// The numbers of the Asked trains' requests are below the count, and no two are the same.
+fn numbers_valid(state: State) -> bool
+    requires { ⌜ state .trains ≤ 6 ⌝ }
+    ensures { λ r. ⌜ r ≡ allBelow (state .trains) (numberValid state) ⌝ }
+{
+    let mut t: u8 = 0;
+    while t < state.trains {
+        if !number_valid(state, TrainNo(t)) {
+            return false;
+        }
+        t += 1;
+    }
+    true
+}
+
+// Train `t`'s number is below the count, and no train before it has the same.
+fn number_valid(state: State, t: TrainNo) -> bool
+    requires { ⌜ t .0 < 6 ⌝ }
+    ensures { λ r. ⌜ r ≡ numberValid state (t .0) ⌝ }
+{
+    let status = status_of(state, t);
+    if !number_below(status, state.logged) {
+        return false;
+    }
+    let mut u: u8 = 0;
+    while u < t.0 {
+        if same_number(status, status_of(state, TrainNo(u))) {
+            return false;
+        }
+        u += 1;
+    }
+    true
+}
+
+fn number_below(status: Status, count: u8) -> bool
+    ensures { λ r. ⌜ r ≡ numberBelow status count ⌝ }
+{
+    match status {
+        Status::Free => true,
+        Status::Asked(n) => n < count,
+        Status::Running => true,
+    }
+}
+
+fn same_number(a: Status, b: Status) -> bool
+    ensures { λ r. ⌜ r ≡ sameNumber a b ⌝ }
+{
+    match a {
+        Status::Free => false,
+        Status::Asked(m) => has_number(b, m),
+        Status::Running => false,
+    }
+}
+
+// Whether it is the status of a train whose request has the number `m`.
+fn has_number(status: Status, m: u8) -> bool
+    ensures { λ r. ⌜ r ≡ sameNumber (Status.Asked m) status ⌝ }
+{
+    match status {
+        Status::Free => false,
+        Status::Asked(n) => m == n,
+        Status::Running => false,
+    }
+}
