@@ -2,7 +2,7 @@
 -- `valid s` asks but the range of the count, which no change of a record can break.
 use mathlib.Core.Path.{_≡_, refl, sym}
 use mathlib.Core.Logic.{_≢_, ⊎-elim}
-use mathlib.Core.Bool.{Bool, true, false, not, cond, _||_, false≢true, true≢false}
+use mathlib.Core.Bool.{Bool, true, false, not, _||_, false≢true, true≢false}
 use Prim.Native.Nat.{ℕ, _≤_, _<_}
 use native.Mathlib.Omega.{arith}
 use lib.Dec.{leb, eqb, ltb}
@@ -13,11 +13,12 @@ use Rattle.common.proofs.Tests.{by-cases, by-equality, and-left, and-right, and
 use Rattle.common.proofs.Below.{all-below, below-all, one-counted}
 use Rattle.line.specs.Route.{between, sectionOf}
 use Rattle.line.specs.Line.{tracksAt}
-use Rattle.line.specs.Holding.{at, moving, holdsSection, postHolders, sectionHolders}
+use Rattle.line.specs.Holding.{holdsSection, postHolders, sectionHolders}
 use Rattle.line.proofs.Travel.{Between, between-of, of-between, next-below}
 use Rattle.line.proofs.WellFormed.{WellFormed, well-formed, is-well-formed}
 use Rattle.rules.specs.Types.{Status, Free, Asked, Running, Train, State}
-use Rattle.rules.specs.State.{isFree, isAsked, isRunning, askedAs, atEnd, nextOf, trainOf, lineOf, located}
+use Rattle.rules.specs.State.{isFree, isAsked, isRunning, askedAs, atEnd, nextOf, locatedAt, trainOf, lineOf}
+use Rattle.rules.specs.State.{located}
 use Rattle.rules.specs.Valid.{trainValid, sectionsValid, postsValid, numberBelow, sameNumber, numberValid}
 use Rattle.rules.specs.Valid.{consistent, mostCounted, valid}
 use Rattle.rules.proofs.Trains.{asked-busy, route-of}
@@ -183,11 +184,10 @@ pub one-holder : (s : State) → Valid s → (i t u : ℕ) → t < s .trains →
 one-holder s d i t u kt ku p q =
     one-counted (s .trains) (λ v. holdsSection (located s v) i) (d .sections i on) t u kt ku p q
   where
-    low : (runs : Bool) (a b : ℕ) → holdsSection (cond runs (moving a b) (at a)) i ≡ true → i ≤ a
-    low true a b e = let z = eqb-true (sectionOf a b) i e in omega arith
-    low false a b e = absurd (false≢true e)
+    low : (x : Train) → holdsSection (locatedAt x) i ≡ true → i ≤ x .at .0
+    low x h = by-cases (isRunning (x .status))
+        (λ e. let z = eqb-true (sectionOf (x .at .0) (nextOf x)) i (rw e at h) in omega arith)
+        (λ e. absurd (false≢true (rw e at h)))
 
     on : i < s .posts
-    on =
-        let x = trainOf s t in
-        omega (arith, low (isRunning (x .status)) (x .at .0) (nextOf x) p, post-below s d t kt)
+    on = omega (arith, low (trainOf s t) p, post-below s d t kt)
