@@ -4,14 +4,8 @@ use Rattle.authority.proofs.Askers.{lower-own, lower-other, lower-first
 use Rattle.authority.proofs.asking.lower.Statement.{statement}
 use Rattle.authority.proofs.asking.lower.Tie as tie
 
-enum-known-best : tie.Need-enum-known-best
-enum-known-best c = search needs
-
 returns : tie.Need-returns
 returns c = lower-own _ _ _ _ _ (c .before .before .best .given .1) (c .if1 .taken)
-
-enum-told : tie.Need-enum-told
-enum-told c = search needs
 
 returns-2 : tie.Need-returns-2
 returns-2 c = lower-other _ _ _ _ _ (c .before .before .best .given .1) (c .if1 .left)
@@ -23,8 +17,8 @@ pub lower-spec : {M : Type 1} → statement M
 lower-spec =
     tie.close
     (tie.spec
-    enum-known-best
+    (λ c. search needs)
     returns
-    enum-told
+    (λ c. search needs)
     returns-2
     returns-3)

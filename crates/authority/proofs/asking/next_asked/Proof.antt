@@ -18,17 +18,11 @@ abbrev μ-loop : tie.MeasureT-loop
 loop-holds : tie.Need-loop-holds Inv-loop μ-loop
 loop-holds c = (omega arith, next-none _ _)
 
-cast-train : tie.Need-cast-train Inv-loop μ-loop
-cast-train c = search needs
-
 mul-train : tie.Need-mul-train Inv-loop μ-loop
 mul-train c = omega arith
 
 array-copy-out-train : tie.Need-array-copy-out-train Inv-loop μ-loop
 array-copy-out-train c = omega arith
-
-elder-requires : tie.Need-elder-requires Inv-loop μ-loop
-elder-requires c κs = search needs
 
 add-t : tie.Need-add-t Inv-loop μ-loop
 add-t c = omega arith
@@ -57,10 +51,10 @@ next-asked-spec =
     Inv-loop
     μ-loop
     loop-holds
-    cast-train
+    (λ c. search needs)
     mul-train
     array-copy-out-train
-    elder-requires
+    (λ c κs. search needs)
     add-t
     loop-less
     loop-again

@@ -18,9 +18,6 @@ use Rattle.authority.proofs.grantable.grantable.Tie as tie
 status-of-requires : tie.Need-status-of-requires
 status-of-requires c κs = omega (arith, few-trains _ (c .before .pre .0), c .before .pre .1)
 
-is-asked-requires : tie.Need-is-asked-requires
-is-asked-requires c κs = search needs
-
 -- the test of the status
 module _ (c : tie.After-is-asked) where
   abbrev start : tie.Start
@@ -46,9 +43,6 @@ next-move-requires c κs = omega (arith, few-trains _ (from c .pre .0), from c .
 holders-of-requires : tie.Need-holders-of-requires
 holders-of-requires c κs =
     let d = from (c .before) .pre .0 in (few-trains _ d, all-placed _ d)
-
-section-requires : tie.Need-section-requires
-section-requires c κs = search needs
 
 -- who holds what
 module _ (c : tie.After-section) where
@@ -116,15 +110,6 @@ returns-3 c =
     post-full _ _ _ (asks (asked i)) _ (i .before .before .next-move .ensures) _ (i .section .ensures) (free e)
     (no-track _ (post-counted (c .before)) _ (c .before .before .tracks-at .ensures) (c .if3 .taken))
 
-reached-with-requires : tie.Need-reached-with-requires
-reached-with-requires c κs = search needs
-
-code-requires : tie.Need-code-requires
-code-requires c κs = search needs
-
-bit-requires : tie.Need-bit-requires
-bit-requires c κs = search needs
-
 returns-4 : tie.Need-returns-4
 returns-4 c =
     let room = c .before .before .before in
@@ -140,17 +125,17 @@ grantable-spec =
     tie.close
     (tie.spec
     status-of-requires
-    is-asked-requires
+    (λ c κs. search needs)
     returns
     next-move-requires
     holders-of-requires
-    section-requires
+    (λ c κs. search needs)
     section-holders-requires
     returns-2
     tracks-at-requires
     post-holders-requires
     returns-3
-    reached-with-requires
-    code-requires
-    bit-requires
+    (λ c κs. search needs)
+    (λ c κs. search needs)
+    (λ c κs. search needs)
     returns-4)

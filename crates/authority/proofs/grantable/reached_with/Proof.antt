@@ -19,9 +19,6 @@ abbrev μ-loop : tie.MeasureT-loop
 loop-holds : tie.Need-loop-holds Inv-loop μ-loop
 loop-holds c = (omega arith, stored-none _)
 
-cast-if1 : tie.Need-cast-if1 Inv-loop μ-loop
-cast-if1 c = search needs
-
 few : (c : tie.At-loop Inv-loop μ-loop) → c .before .before .args .state .trains ≤ 6
 few c = few-trains _ (c .before .before .pre .0)
 
@@ -50,9 +47,6 @@ loop-again c =
       stored-more _ (at .loop .u) (at .loop .travelled) _ (omega (arith, few at)) (at .loop .inv .1)
           (c .reached .ensures),
     )
-
-cast-i : tie.Need-cast-i Inv-loop μ-loop
-cast-i c = search needs
 
 -- all are stored
 module _ (c : tie.At-loop Inv-loop μ-loop) (all : c .loop .u ≡ c .before .before .args .state .trains) where
@@ -97,7 +91,7 @@ reached-with-spec =
     Inv-loop
     μ-loop
     loop-holds
-    cast-if1
+    (λ c. search needs)
     mul-reached
     array-copy-out-reached
     reached-requires
@@ -105,7 +99,7 @@ reached-with-spec =
     add-u
     loop-less
     loop-again
-    cast-i
+    (λ c. search needs)
     array-read-travelled
     add-travelled
     array-write-travelled-2

@@ -3,18 +3,6 @@ use borrow.Author.Needs.{needs}
 use Rattle.authority.proofs.granting.granted.Statement.{statement}
 use Rattle.authority.proofs.granting.granted.Tie as tie
 
-next-move-requires : tie.Need-next-move-requires
-next-move-requires c κs = search needs
-
-train-of-requires : tie.Need-train-of-requires
-train-of-requires c κs = search needs
-
-with-status-requires : tie.Need-with-status-requires
-with-status-requires c κs = search needs
-
-with-train-requires : tie.Need-with-train-requires
-with-train-requires c κs = search needs
-
 logged-requires : tie.Need-logged-requires
 logged-requires c κs = rw (c .with-train .ensures) (c .before .before .before .before .before .before .pre .1)
 
@@ -31,9 +19,9 @@ pub granted-spec : {M : Type 1} → statement M
 granted-spec =
     tie.close
     (tie.spec
-    next-move-requires
-    train-of-requires
-    with-status-requires
-    with-train-requires
+    (λ c κs. search needs)
+    (λ c κs. search needs)
+    (λ c κs. search needs)
+    (λ c κs. search needs)
     logged-requires
     returns)

@@ -35,9 +35,6 @@ Inv-again table work₀ work = (w : Work) → Working table w work₀ → Workin
 abbrev μ-again : tie.MeasureT-again
 μ-again table work₀ work = askedCount (work .state)
 
-empty-requires : tie.Need-empty-requires Inv-loop μ-loop Inv-again μ-again
-empty-requires c κs = search needs
-
 logged-requires : tie.Need-logged-requires Inv-loop μ-loop Inv-again μ-again
 logged-requires c κs = omega (arith, c .before .before .pre .1)
 
@@ -84,12 +81,6 @@ module _ (c : tie.At-loop Inv-loop μ-loop Inv-again μ-again) where
 
 next-asked-requires : tie.Need-next-asked-requires Inv-loop μ-loop Inv-again μ-again
 next-asked-requires c κs = few-trains _ (valid-state (c .before))
-
-enum-known-t : tie.Need-enum-known-t Inv-loop μ-loop Inv-again μ-again
-enum-known-t c = search needs
-
-enum-told : tie.Need-enum-told Inv-loop μ-loop Inv-again μ-again
-enum-told c = search needs
 
 returns : tie.Need-returns Inv-loop μ-loop Inv-again μ-again
 returns c =
@@ -174,13 +165,13 @@ settle-spec =
     μ-loop
     Inv-again
     μ-again
-    empty-requires
+    (λ c κs. search needs)
     logged-requires
     again-holds
     loop-holds
     next-asked-requires
-    enum-known-t
-    enum-told
+    (λ c. search needs)
+    (λ c. search needs)
     returns
     grantable-requires
     granted-requires

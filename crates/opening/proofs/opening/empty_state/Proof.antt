@@ -4,12 +4,9 @@ use Rattle.common.specs.Tabulate.{valuesFrom}
 use Rattle.opening.proofs.opening.empty_state.Statement.{statement}
 use Rattle.opening.proofs.opening.empty_state.Tie as tie
 
-no-train-requires : tie.Need-no-train-requires
-no-train-requires c κs = search needs
-
 returns : tie.Need-returns
 unfolding valuesFrom
 returns c = rw (c .no-train .ensures)
 
 pub empty-state-spec : {M : Type 1} → statement M
-empty-state-spec = tie.close (tie.spec no-train-requires returns)
+empty-state-spec = tie.close (tie.spec (λ c κs. search needs) returns)

@@ -5,19 +5,10 @@ use borrow.Author.Needs.{needs}
 use Rattle.opening.proofs.opening.open_log.Statement.{statement}
 use Rattle.opening.proofs.opening.open_log.Tie as tie
 
-log-length-requires : tie.Need-log-length-requires
-log-length-requires c κs = search needs
-
-open-with-requires : tie.Need-open-with-requires
-open-with-requires c κs = search needs
-
-same-length : tie.Need-same-length
-same-length c = search needs
-
 returns : tie.Need-returns
 returns c =
     let called = c .before .before in
     called .open-with .ensures ∙ ap (openingWith _ _) (called .before .log-length .ensures)
 
 pub open-log-spec : {M : Type 1} → statement M
-open-log-spec = tie.close (tie.spec log-length-requires open-with-requires same-length returns)
+open-log-spec = tie.close (tie.spec (λ c κs. search needs) (λ c κs. search needs) (λ c. search needs) returns)

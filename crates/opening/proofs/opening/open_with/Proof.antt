@@ -18,14 +18,8 @@ use Rattle.rules.proofs.OpeningCases.{start-overfull, no-way, opens}
 use Rattle.opening.proofs.opening.open_with.Statement.{statement}
 use Rattle.opening.proofs.opening.open_with.Tie as tie
 
-refused-requires : tie.Need-refused-requires
-refused-requires c κs = search needs
-
 returns : tie.Need-returns
 returns c = handed _ _ (c .refused .ensures) ∙ table-short _ _ _ (c .before .if1 .taken)
-
-refused-requires-2 : tie.Need-refused-requires-2
-refused-requires-2 c κs = search needs
 
 returns-2 : tie.Need-returns-2
 returns-2 c = handed _ _ (c .refused2 .ensures) ∙ journal-short _ _ _ (c .before .if2 .taken)
@@ -47,21 +41,6 @@ module _ (c : tie.Else2) where
   room : journalLength ≤ from .args .records
   room = c .if2 .left
 
-read-requires : tie.Need-read-requires
-read-requires c κs = search needs
-
-enum-told : tie.Need-enum-told
-enum-told c = search needs
-
-enum-told-2 : tie.Need-enum-told-2
-enum-told-2 c = search needs
-
-number-of-requires : tie.Need-number-of-requires
-number-of-requires c κs = search needs
-
-refused-requires-3 : tie.Need-refused-requires-3
-refused-requires-3 c κs = search needs
-
 returns-3 : tie.Need-returns-3
 returns-3 c =
     let told = c .before .before in
@@ -82,12 +61,6 @@ module _ (c : tie.After-enum-told) where
   is-read =
       let a = c .before .before in
       read-as (book stores) (a .read .result) (a .read .ensures) (c .enum-told .given .1)
-
-feasible-start-requires : tie.Need-feasible-start-requires
-feasible-start-requires c κs = search needs
-
-refused-requires-4 : tie.Need-refused-requires-4
-refused-requires-4 c κs = search needs
 
 returns-4 : tie.Need-returns-4
 returns-4 c =
@@ -115,21 +88,6 @@ module _ (c : tie.After-bit) where
       let is = c .before .before .code .ensures ∙ start-code (line whole) in
       ap (bitOf (filling .fill .last .1 .0)) (sym is) ∙ sym (c .bit .ensures)
 
-fill-requires : tie.Need-fill-requires
-fill-requires c κs = search needs
-
-code-requires : tie.Need-code-requires
-code-requires c κs = search needs
-
-bit-requires : tie.Need-bit-requires
-bit-requires c κs = search needs
-
-refused-requires-5 : tie.Need-refused-requires-5
-refused-requires-5 c κs = search needs
-
-same-length : tie.Need-same-length
-same-length c = search needs
-
 returns-5 : tie.Need-returns-5
 returns-5 c =
     let a = c .before .before in
@@ -137,12 +95,6 @@ returns-5 c =
     handed _ _ (c .refused5 .ensures)
     ∙ no-way _ _ _ (long (stores r)) (room (stores r)) (line r) (is-read r) (fits a) _ _ (filling a .fill .ensures)
     (tested a ∙ not-true _ (c .before .if4 .taken))
-
-opened-state-requires : tie.Need-opened-state-requires
-opened-state-requires c κs = search needs
-
-same-length-2 : tie.Need-same-length-2
-same-length-2 c = search needs
 
 returns-6 : tie.Need-returns-6
 returns-6 c =
@@ -156,25 +108,25 @@ pub open-with-spec : {M : Type 1} → statement M
 open-with-spec =
     tie.close
     (tie.spec
-    refused-requires
+    (λ c κs. search needs)
     returns
-    refused-requires-2
+    (λ c κs. search needs)
     returns-2
-    read-requires
-    enum-told
-    enum-told-2
-    number-of-requires
-    refused-requires-3
+    (λ c κs. search needs)
+    (λ c. search needs)
+    (λ c. search needs)
+    (λ c κs. search needs)
+    (λ c κs. search needs)
     returns-3
-    feasible-start-requires
-    refused-requires-4
+    (λ c κs. search needs)
+    (λ c κs. search needs)
     returns-4
-    fill-requires
-    code-requires
-    bit-requires
-    refused-requires-5
-    same-length
+    (λ c κs. search needs)
+    (λ c κs. search needs)
+    (λ c κs. search needs)
+    (λ c κs. search needs)
+    (λ c. search needs)
     returns-5
-    opened-state-requires
-    same-length-2
+    (λ c κs. search needs)
+    (λ c. search needs)
     returns-6)

@@ -18,9 +18,6 @@ Inv-loop line fleet₀ t₀ fleet t = (t ≤ 6) × (fleet ≡ padded 6 t (λ u. 
 abbrev μ-loop : tie.MeasureT-loop
 μ-loop line fleet₀ t₀ fleet t = 6 - t
 
-no-train-requires : tie.Need-no-train-requires Inv-loop μ-loop
-no-train-requires c κs = search needs
-
 loop-holds : tie.Need-loop-holds Inv-loop μ-loop
 loop-holds c = (omega arith, rw (c .no-train .ensures) (padded-none 6 _ noTrain))
 
@@ -29,9 +26,6 @@ mul-fresh c = omega arith
 
 element-copy-out-fresh : tie.Need-element-copy-out-fresh Inv-loop μ-loop
 element-copy-out-fresh c = omega arith
-
-fresh-requires : tie.Need-fresh-requires Inv-loop μ-loop
-fresh-requires c κs = search needs
 
 mul-fleet : tie.Need-mul-fleet Inv-loop μ-loop
 mul-fleet c = omega arith
@@ -62,11 +56,11 @@ opened-state-spec =
     (tie.spec
     Inv-loop
     μ-loop
-    no-train-requires
+    (λ c κs. search needs)
     loop-holds
     mul-fresh
     element-copy-out-fresh
-    fresh-requires
+    (λ c κs. search needs)
     mul-fleet
     array-set-from-fleet
     add-t

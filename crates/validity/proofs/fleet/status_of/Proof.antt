@@ -5,9 +5,6 @@ use Rattle.validity.specs.Types.{Train}
 use Rattle.validity.proofs.fleet.status_of.Statement.{statement}
 use Rattle.validity.proofs.fleet.status_of.Tie as tie
 
-train-of-requires : tie.Need-train-of-requires
-train-of-requires c κs = search needs
-
 returns : tie.Need-returns
 returns c = ap (λ (x : Train). x .status) (c .train-of .ensures)
 
@@ -15,5 +12,5 @@ pub status-of-spec : {M : Type 1} → statement M
 status-of-spec =
     tie.close
     (tie.spec
-    train-of-requires
+    (λ c κs. search needs)
     returns)

@@ -18,26 +18,11 @@ abbrev μ-loop : tie.MeasureT-loop
 loop-holds : tie.Need-loop-holds Inv-loop μ-loop
 loop-holds c = (omega arith, sets-none _)
 
-cast-if1 : tie.Need-cast-if1 Inv-loop μ-loop
-cast-if1 c = search needs
-
-mul-train : tie.Need-mul-train Inv-loop μ-loop
-mul-train c = search needs
-
 array-copy-out-train : tie.Need-array-copy-out-train Inv-loop μ-loop
 array-copy-out-train c = omega arith
 
-cast-own : tie.Need-cast-own Inv-loop μ-loop
-cast-own c = search needs
-
-shl-own : tie.Need-shl-own Inv-loop μ-loop
-shl-own c = search needs
-
 add-t : tie.Need-add-t Inv-loop μ-loop
 add-t c = omega arith
-
-cast-p : tie.Need-cast-p Inv-loop μ-loop
-cast-p c = search needs
 
 -- the train of this turn, at one of the eight posts
 module _ (c : tie.After-struct-known2 Inv-loop μ-loop) where
@@ -61,21 +46,6 @@ array-read-posts c = placed c .0
 
 array-write-posts : tie.Need-array-write-posts Inv-loop μ-loop
 array-write-posts c = placed c .0
-
-is-running-requires : tie.Need-is-running-requires Inv-loop μ-loop
-is-running-requires c κs = search needs
-
-next-post-requires : tie.Need-next-post-requires Inv-loop μ-loop
-next-post-requires c κs = search needs
-
-cast-q : tie.Need-cast-q Inv-loop μ-loop
-cast-q c = search needs
-
-section-requires : tie.Need-section-requires Inv-loop μ-loop
-section-requires c κs = search needs
-
-cast-i : tie.Need-cast-i Inv-loop μ-loop
-cast-i c = search needs
 
 -- it is Running, to a post and over a section that are on the line
 module _ (c : tie.After-struct-known4 Inv-loop μ-loop) where
@@ -137,20 +107,20 @@ holders-of-spec =
     Inv-loop
     μ-loop
     loop-holds
-    cast-if1
-    mul-train
+    (λ c. search needs)
+    (λ c. search needs)
     array-copy-out-train
-    cast-own
-    shl-own
+    (λ c. search needs)
+    (λ c. search needs)
     add-t
-    cast-p
+    (λ c. search needs)
     array-read-posts
     array-write-posts
-    is-running-requires
-    next-post-requires
-    cast-q
-    section-requires
-    cast-i
+    (λ c κs. search needs)
+    (λ c κs. search needs)
+    (λ c. search needs)
+    (λ c κs. search needs)
+    (λ c. search needs)
     array-read-posts-2
     array-write-posts-2
     array-read-sections

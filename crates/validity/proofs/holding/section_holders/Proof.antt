@@ -4,11 +4,8 @@ use Rattle.validity.proofs.HolderSets.{sections-counted}
 use Rattle.validity.proofs.holding.section_holders.Statement.{statement}
 use Rattle.validity.proofs.holding.section_holders.Tie as tie
 
-ones-in-requires : tie.Need-ones-in-requires
-ones-in-requires c κs = search needs
-
 returns : tie.Need-returns
 returns c = λ s held. sections-counted s _ held _ _ (c .before .before .pre) (c .ones-in .ensures)
 
 pub section-holders-spec : {M : Type 1} → statement M
-section-holders-spec = tie.close (tie.spec ones-in-requires returns)
+section-holders-spec = tie.close (tie.spec (λ c κs. search needs) returns)

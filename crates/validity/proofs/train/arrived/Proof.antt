@@ -4,11 +4,8 @@ use borrow.Author.Needs.{needs}
 use Rattle.validity.proofs.train.arrived.Statement.{statement}
 use Rattle.validity.proofs.train.arrived.Tie as tie
 
-next-post-requires : tie.Need-next-post-requires
-next-post-requires c κs = search needs
-
 returns : tie.Need-returns
 returns c = arrived-at (c .before .before .args .train) _ (c .next-post .ensures)
 
 pub arrived-spec : {M : Type 1} → statement M
-arrived-spec = tie.close (tie.spec next-post-requires returns)
+arrived-spec = tie.close (tie.spec (λ c κs. search needs) returns)

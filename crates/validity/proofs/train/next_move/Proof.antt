@@ -4,12 +4,6 @@ use Rattle.validity.proofs.Located.{move-next}
 use Rattle.validity.proofs.train.next_move.Statement.{statement}
 use Rattle.validity.proofs.train.next_move.Tie as tie
 
-train-of-requires : tie.Need-train-of-requires
-train-of-requires c κs = search needs
-
-next-post-requires : tie.Need-next-post-requires
-next-post-requires c κs = search needs
-
 returns : tie.Need-returns
 returns c = move-next (c .before .before .before .args .state) _ _ _ (c .before .before .train-of .ensures)
     (c .next-post .ensures)
@@ -18,6 +12,6 @@ pub next-move-spec : {M : Type 1} → statement M
 next-move-spec =
     tie.close
     (tie.spec
-    train-of-requires
-    next-post-requires
+    (λ c κs. search needs)
+    (λ c κs. search needs)
     returns)

@@ -12,9 +12,6 @@ use Rattle.validity.proofs.Tested.{places-fail, numbers-decide}
 use Rattle.validity.proofs.validity.consistent.Statement.{statement}
 use Rattle.validity.proofs.validity.consistent.Tie as tie
 
-counts-valid-requires : tie.Need-counts-valid-requires
-counts-valid-requires c κs = search needs
-
 returns : tie.Need-returns
 returns c = counts-fail _ (sym (c .before .counts-valid .ensures) ∙ not-true _ (c .if1 .taken))
 
@@ -76,7 +73,7 @@ pub consistent-spec : {M : Type 1} → statement M
 consistent-spec =
     tie.close
     (tie.spec
-    counts-valid-requires
+    (λ c κs. search needs)
     returns
     trains-valid-requires
     returns-2

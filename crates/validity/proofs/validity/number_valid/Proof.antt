@@ -19,12 +19,6 @@ Inv-loop state t status u₀ u = Passing (t .0) (λ v. not (sameNumber status (t
 abbrev μ-loop : tie.MeasureT-loop
 μ-loop state t status u₀ u = t .0 - u
 
-status-of-requires : tie.Need-status-of-requires Inv-loop μ-loop
-status-of-requires c κs = search needs
-
-number-below-requires : tie.Need-number-below-requires Inv-loop μ-loop
-number-below-requires c κs = search needs
-
 returns : tie.Need-returns Inv-loop μ-loop
 returns c =
     let a = c .before .before .before .args in
@@ -36,9 +30,6 @@ loop-holds c = passing-none _ _
 
 status-of-requires-2 : tie.Need-status-of-requires-2 Inv-loop μ-loop
 status-of-requires-2 c κs = omega arith
-
-same-number-requires : tie.Need-same-number-requires Inv-loop μ-loop
-same-number-requires c κs = search needs
 
 -- train t's number is below the count
 module _ (c : tie.Else1 Inv-loop μ-loop) where
@@ -87,12 +78,12 @@ number-valid-spec =
     (tie.spec
     Inv-loop
     μ-loop
-    status-of-requires
-    number-below-requires
+    (λ c κs. search needs)
+    (λ c κs. search needs)
     returns
     loop-holds
     status-of-requires-2
-    same-number-requires
+    (λ c κs. search needs)
     returns-2
     add-u
     loop-less

@@ -23,9 +23,6 @@ holders-of-requires c κs = (c .pre .1, c .pre .2)
 loop-holds : tie.Need-loop-holds Inv-loop μ-loop
 loop-holds c = passing-none _ _
 
-cast-if1 : tie.Need-cast-if1 Inv-loop μ-loop
-cast-if1 c = search needs
-
 -- where a turn begins
 module _ (c : tie.Then1 Inv-loop μ-loop) where
   abbrev here : tie.At-loop Inv-loop μ-loop
@@ -45,9 +42,6 @@ array-read-held-within-2 c = low c
 
 array-read-held-within-3 : tie.Need-array-read-held-within-3 Inv-loop μ-loop
 array-read-held-within-3 c = low c
-
-held-within-requires : tie.Need-held-within-requires Inv-loop μ-loop
-held-within-requires c κs = search needs
 
 -- what the test says of post p
 module _ (c : tie.After-held-within Inv-loop μ-loop) where
@@ -84,11 +78,11 @@ places-valid-spec =
     μ-loop
     holders-of-requires
     loop-holds
-    cast-if1
+    (λ c. search needs)
     array-read-held-within
     array-read-held-within-2
     array-read-held-within-3
-    held-within-requires
+    (λ c κs. search needs)
     returns
     add-p
     loop-less

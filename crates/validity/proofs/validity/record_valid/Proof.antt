@@ -6,14 +6,8 @@ use Rattle.common.proofs.Tests.{and-passed}
 use Rattle.validity.proofs.validity.record_valid.Statement.{statement}
 use Rattle.validity.proofs.validity.record_valid.Tie as tie
 
-on-line-requires : tie.Need-on-line-requires
-on-line-requires c κs = search needs
-
 returns : tie.Need-returns
 returns c = rw (sym (c .before .on-line .ensures) ∙ not-true _ (c .if1 .taken))
-
-train-valid-requires : tie.Need-train-valid-requires
-train-valid-requires c κs = search needs
 
 returns-2 : tie.Need-returns-2
 returns-2 c =
@@ -21,4 +15,4 @@ returns-2 c =
     c .train-valid .ensures ∙ and-passed _ _ (sym (on .before .on-line .ensures) ∙ not-false _ (on .if1 .left))
 
 pub record-valid-spec : {M : Type 1} → statement M
-record-valid-spec = tie.close (tie.spec on-line-requires returns train-valid-requires returns-2)
+record-valid-spec = tie.close (tie.spec (λ c κs. search needs) returns (λ c κs. search needs) returns-2)

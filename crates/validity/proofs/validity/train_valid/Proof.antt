@@ -6,15 +6,9 @@ use Rattle.validity.proofs.Tested.{off-route, free-valid, busy-valid}
 use Rattle.validity.proofs.validity.train_valid.Statement.{statement}
 use Rattle.validity.proofs.validity.train_valid.Tie as tie
 
-between-requires : tie.Need-between-requires
-between-requires c κs = search needs
-
 returns : tie.Need-returns
 returns c = off-route (c .before .before .before .args .train) (sym (c .before .between .ensures)
     ∙ not-true _ (c .if1 .taken))
-
-is-free-requires : tie.Need-is-free-requires
-is-free-requires c κs = search needs
 
 returns-2 : tie.Need-returns-2
 returns-2 c =
@@ -22,9 +16,6 @@ returns-2 c =
     free-valid (on .before .before .before .args .train) (sym (on .before .between .ensures)
     ∙ not-false _ (on .if1 .left))
     (sym (c .before .is-free .ensures) ∙ c .if2 .taken)
-
-at-end-requires : tie.Need-at-end-requires
-at-end-requires c κs = search needs
 
 returns-3 : tie.Need-returns-3
 returns-3 c =
@@ -38,9 +29,9 @@ pub train-valid-spec : {M : Type 1} → statement M
 train-valid-spec =
     tie.close
     (tie.spec
-    between-requires
+    (λ c κs. search needs)
     returns
-    is-free-requires
+    (λ c κs. search needs)
     returns-2
-    at-end-requires
+    (λ c κs. search needs)
     returns-3)

@@ -23,9 +23,6 @@ loop-holds c = passing-none _ _
 train-of-requires : tie.Need-train-of-requires Inv-loop μ-loop
 train-of-requires c κs = omega arith
 
-record-valid-requires : tie.Need-record-valid-requires Inv-loop μ-loop
-record-valid-requires c κs = search needs
-
 -- what the test of the record says of train t
 module _ (c : tie.After-record-valid Inv-loop μ-loop) where
   abbrev here : tie.At-loop Inv-loop μ-loop
@@ -61,7 +58,7 @@ trains-valid-spec =
     μ-loop
     loop-holds
     train-of-requires
-    record-valid-requires
+    (λ c κs. search needs)
     returns
     add-t
     loop-less
