@@ -19,6 +19,7 @@ use Rattle.driver.specs.Pressing.{carriedOut, pressButton}
 use Rattle.driver.specs.Hearing.{hearFrame}
 use Rattle.driver.proofs.Outcomes as outcomes
 use Rattle.driver.proofs.Validity.{validity}
+use Rattle.rules.specs.State.{lineOf}
 use Rattle.rules.specs.Answer.{Answer, answer}
 use Rattle.rules.specs.Opening.{Opening, openingWith}
 use Rattle.rules.proofs.Acceptance.{taken-space, by-verdict, refusal-leaves, accepted-facts}
@@ -65,6 +66,12 @@ module _ (s : State) (table : List ℕ) (journal : List Record) (frame out : Lis
       (λ p.
       let k = accepted-facts table s (p .valid-state) (readFrame frame) (p .message) in
       record { eight = ap (λ (l : Line). length (l .tracks)) (k .line) ∙ h .eight; six = k .size ∙ h .six })
+
+  -- no frame changes the line
+  pub answer-line : lineOf (answer s table journal frame out .state) ≡ lineOf s
+  answer-line =
+      by-verdict s table journal frame out (λ (a : Answer). lineOf (a .state) ≡ lineOf s) (λ n e. refl)
+      (λ p. accepted-facts table s (p .valid-state) (readFrame frame) (p .message) .line)
 
   -- ---- the journal
 

@@ -1,150 +1,102 @@
--- A line and a state byte by byte: the length, and what stands past the first ten bytes, for every train at once.
-use mathlib.Core.Path.{_≡_, refl, sym, ap, subst, _∙_}
-use mathlib.Core.Logic.{_≢_}
-use mathlib.Core.List.{List, [], _∷_, _++_}
-use Prim.Native.Nat.{ℕ, _+_, _*_, _-_, _/_, _%_, _≤_, _<_}
+-- A line and a state part by part: the length, and what stands where, for every train at once.
+use mathlib.Core.Path.{_≡_, refl, sym, ap, _∙_}
+use mathlib.Core.List.{List, [], _∷_}
+use Prim.Native.Nat.{ℕ, _+_, _*_, _<_}
 use native.Mathlib.Omega.{arith}
-use lib.ListN.{length, getD, set, length-append, List·getD-append}
-use lib.Seq.{paste}
-use Rattle.common.specs.Part.{replacedIfRoom}
+use lib.ListN.{length, getD, length-append}
 use Rattle.line.specs.Line.{routeOf, noRoute}
 use Rattle.rules.specs.State.{trainOf, noTrain}
 use Rattle.encoding.specs.Types.{Line, State}
-use Rattle.encoding.specs.Each.{each, headed, restAt}
-use Rattle.encoding.specs.LineBytes.{lineLength, routeBytes, lineBytes}
-use Rattle.encoding.specs.StateBytes.{stateLength, trainBytes, stateBytes, loggedAt}
-use Rattle.encoding.proofs.Copying.{Copied, byte-more, part-more, whole-put}
-use Rattle.encoding.proofs.Each.{past, length-each, at-each}
-use Rattle.encoding.proofs.Head.{at-rest, length-headed}
+use Rattle.encoding.specs.Parts.{joined, each, headParts, headBytes, postsAt, tracksAt, trainsAt, headLength}
+use Rattle.encoding.specs.LineBytes.{lineLength, routeLength, routeEnds, routeAt, lineParts, lineBytes}
+use Rattle.encoding.specs.StateBytes.{stateLength, trainLength, standingBytes, trainBytes, trainAt, loggedAt}
+use Rattle.encoding.specs.StateBytes.{stateParts, stateBytes}
+use Rattle.encoding.proofs.Parts.{At, AllAt, same-place, bytes-at, within, joined-at, length-each, each-at}
+
+-- ---- the head
+
+module _ (posts : ℕ) (tracks : List ℕ) (trains : ℕ) (eight : length tracks ≡ 8) where
+  abbrev head : List ℕ
+  head = headBytes posts tracks trains
+
+  pub head-length : length head ≡ headLength
+  unfolding headBytes joined
+  head-length = simp length-append (omega arith)
+
+  head-parts : AllAt head 0 (headParts posts tracks trains)
+  unfolding headBytes
+  head-parts = joined-at (headParts posts tracks trains)
+
+  -- in bytes that begin with it
+  module _ {b : List ℕ} (a : At b 0 head) where
+    pub posts-at : At b postsAt (posts ∷ [])
+    posts-at = within a (head-parts .0) (omega (arith, head-length)) refl
+
+    pub tracks-at : At b tracksAt tracks
+    tracks-at = within a (head-parts .1 .0) (omega (arith, head-length)) refl
+
+    pub trains-at : At b trainsAt (trains ∷ [])
+    trains-at = within a (head-parts .1 .1 .0) (omega (arith, head-length)) (omega arith)
 
 -- ---- a line
 
 module _ (l : Line) (eight : length (l .tracks) ≡ 8) (six : length (l .routes) ≡ 6) where
-  abbrev routes : List ℕ
-  routes = each routeBytes (l .routes)
+  line-head-length : length (headBytes (l .posts) (l .tracks) (l .trains)) ≡ headLength
+  line-head-length = head-length (l .posts) (l .tracks) (l .trains) eight
 
-  twelve : length routes ≡ 2 * 6
-  twelve = length-each routeBytes 2 (λ r. refl) (l .routes) ∙ ap (λ (n : ℕ). 2 * n) six
+  routes-length : length (each routeEnds (l .routes)) ≡ routeLength * 6
+  routes-length = length-each routeEnds routeLength (λ r. refl) (l .routes) ∙ ap (λ (n : ℕ). routeLength * n) six
+
+  line-parts : AllAt (lineBytes l) 0 (lineParts l)
+  unfolding lineBytes
+  line-parts = joined-at (lineParts l)
 
   pub line-length : length (lineBytes l) ≡ lineLength
-  unfolding lineBytes
-  line-length = length-headed (l .posts) (l .tracks) (l .trains) routes eight ∙ ap (λ (n : ℕ). restAt + n) twelve
+  unfolding lineBytes joined
+  line-length = simp length-append (omega (arith, line-head-length, routes-length))
 
-  pub at-route : (t j : ℕ) → t < 6 → j < 2
-      → getD (lineBytes l) (restAt + (2 * t + j)) 0 ≡ getD (routeBytes (routeOf l t)) j 0
-  unfolding lineBytes
-  at-route t j h k =
-      at-rest (l .posts) (l .tracks) (l .trains) routes eight (2 * t + j)
-      ∙ at-each routeBytes 2 (λ r. refl) (l .routes) t j noRoute (omega arith) k
+  pub line-head : At (lineBytes l) 0 (headBytes (l .posts) (l .tracks) (l .trains))
+  line-head = line-parts .0
 
-  -- as the code writes it: first the head, then route by route
-  pub line-begun : {e to : List ℕ} → length e ≡ lineLength
-      → ((r : List ℕ) → restAt + length r ≤ length e
-      → to ≡ paste e 0 (headed (l .posts) (l .tracks) (l .trains) r) restAt)
-      → Copied e (lineBytes l) 0 to restAt
-  unfolding lineBytes
-  line-begun size f = record {
-    few = omega (arith, line-length);
-    room = omega (arith, line-length);
-    copied = f routes (omega (arith, twelve));
-  }
-
-  pub routes-more : {e to : List ℕ} (t : ℕ) → t < 6 → Copied e (lineBytes l) 0 to (restAt + 2 * t)
-      → (b : List ℕ) → b ≡ routeBytes (routeOf l t) → (after : List ℕ) → after ≡ replacedIfRoom to (restAt + 2 * t) b
-      → Copied e (lineBytes l) 0 after (restAt + 2 * (t + 1))
-  routes-more {e} t h k b q after f =
-      let two : length b ≡ 2 = ap length q in
-      let next : restAt + 2 * t + length b ≡ restAt + 2 * (t + 1) = omega arith in
-      subst (λ (n : ℕ). Copied e (lineBytes l) 0 after n) next
-      (part-more k b (omega (arith, line-length))
-      (λ j m.
-      let place : restAt + (2 * t + j) ≡ restAt + 2 * t + j = omega arith in
-      ap (λ (x : List ℕ). getD x j 0) q
-      ∙ sym (at-route t j h (omega arith))
-      ∙ ap (λ (n : ℕ). getD (lineBytes l) n 0) place)
-      after f)
-
-  pub line-put : {e to : List ℕ} (t : ℕ) → t ≡ 6 → length e ≡ lineLength → Copied e (lineBytes l) 0 to (restAt + 2 * t)
-      → to ≡ lineBytes l
-  line-put t h size k = whole-put k refl (omega (arith, line-length)) (omega (arith, line-length))
+  pub at-route : (t : ℕ) → t < 6 → At (lineBytes l) (routeAt t) (routeEnds (routeOf l t))
+  at-route t h =
+      within (line-parts .1 .0) (each-at routeEnds routeLength (λ r. refl) (l .routes) t noRoute (omega arith))
+      (omega (arith, routes-length)) (omega (arith, line-head-length))
 
 -- ---- a state
 
 module _ (s : State) (eight : length (s .tracks) ≡ 8) (six : length (s .fleet) ≡ 6) where
-  abbrev trains : List ℕ
-  trains = each trainBytes (s .fleet)
+  pub state-head-length : length (headBytes (s .posts) (s .tracks) (s .trains)) ≡ headLength
+  state-head-length = head-length (s .posts) (s .tracks) (s .trains) eight
 
-  abbrev rest : List ℕ
-  rest = trains ++ (s .logged ∷ [])
+  pub fleet-length : length (each trainBytes (s .fleet)) ≡ trainLength * 6
+  fleet-length = length-each trainBytes trainLength (λ x. refl) (s .fleet) ∙ ap (λ (n : ℕ). trainLength * n) six
 
-  thirty : length trains ≡ 30
-  thirty = length-each trainBytes 5 (λ x. refl) (s .fleet) ∙ ap (λ (n : ℕ). 5 * n) six
+  state-parts : AllAt (stateBytes s) 0 (stateParts s)
+  unfolding stateBytes
+  state-parts = joined-at (stateParts s)
 
   pub state-length : length (stateBytes s) ≡ stateLength
-  unfolding stateBytes
-  state-length =
-      length-headed (s .posts) (s .tracks) (s .trains) rest eight ∙ rw length-append (omega (arith, thirty))
+  unfolding stateBytes joined
+  state-length = simp length-append (omega (arith, state-head-length, fleet-length))
 
-  pub at-train : (t j : ℕ) → t < 6 → j < 5
-      → getD (stateBytes s) (restAt + (5 * t + j)) 0 ≡ getD (trainBytes (trainOf s t)) j 0
-  unfolding stateBytes
-  at-train t j h k =
-      at-rest (s .posts) (s .tracks) (s .trains) rest eight (5 * t + j)
-      ∙ List·getD-append trains (s .logged ∷ []) 0 (5 * t + j) (omega (arith, thirty))
-      ∙ at-each trainBytes 5 (λ x. refl) (s .fleet) t j noTrain (omega arith) k
+  pub state-head : At (stateBytes s) 0 (headBytes (s .posts) (s .tracks) (s .trains))
+  state-head = state-parts .0
+
+  pub at-train : (t : ℕ) → t < 6 → At (stateBytes s) (trainAt t) (trainBytes (trainOf s t))
+  at-train t h =
+      within (state-parts .1 .0) (each-at trainBytes trainLength (λ x. refl) (s .fleet) t noTrain (omega arith))
+      (omega (arith, fleet-length)) (omega (arith, state-head-length))
+
+  -- its route, and what a frame can change of it
+  pub at-ends : (t : ℕ) → t < 6 → At (stateBytes s) (trainAt t) (routeEnds (trainOf s t .route))
+  at-ends t h = within (at-train t h) (bytes-at {n = 0} (refl, (refl, tt))) (omega arith) (omega arith)
+
+  pub at-standing : (t : ℕ) → t < 6 → At (stateBytes s) (trainAt t + routeLength) (standingBytes (trainOf s t))
+  at-standing t h =
+      within (at-train t h) (bytes-at {n = routeLength} (refl, (refl, (refl, tt)))) (omega arith) (omega arith)
 
   pub at-logged : getD (stateBytes s) loggedAt 0 ≡ s .logged
-  unfolding stateBytes
   at-logged =
-      at-rest (s .posts) (s .tracks) (s .trains) rest eight 30
-      ∙ past trains (s .logged ∷ []) 30 0 0 (omega (arith, thirty))
-
-  -- the same by the place
-  pub train-there : (k i : ℕ) → i ≡ k - restAt → restAt ≤ k → k < stateLength → k ≢ loggedAt
-      → (e : List ℕ) → e ≡ trainBytes (trainOf s (i / 5)) → getD e (i % 5) 0 ≡ getD (stateBytes s) k 0
-  train-there k i p low high other e q =
-      let below : k < loggedAt = omega arith in
-      let place : restAt + (5 * (i / 5) + i % 5) ≡ k = omega arith in
-      ap (λ (x : List ℕ). getD x (i % 5) 0) q
-      ∙ sym (at-train (i / 5) (i % 5) (omega arith) (omega arith))
-      ∙ ap (λ (n : ℕ). getD (stateBytes s) n 0) place
-
-  pub logged-there : (k : ℕ) → k ≡ loggedAt → s .logged ≡ getD (stateBytes s) k 0
-  logged-there k e = rw e (sym at-logged)
-
-  -- as the code writes it: first the head, then train by train, then the count
-  pub state-begun : {e to : List ℕ} → length e ≡ stateLength
-      → ((r : List ℕ) → restAt + length r ≤ length e
-      → to ≡ paste e 0 (headed (s .posts) (s .tracks) (s .trains) r) restAt)
-      → Copied e (stateBytes s) 0 to restAt
-  unfolding stateBytes
-  state-begun size f =
-      let more : length rest ≡ 31 = rw length-append (omega (arith, thirty)) in
-      record {
-        few = omega (arith, state-length);
-        room = omega (arith, state-length);
-        copied = f rest (omega arith);
-      }
-
-  pub trains-more : {e to : List ℕ} (t : ℕ) → t < 6 → Copied e (stateBytes s) 0 to (restAt + 5 * t)
-      → (b : List ℕ) → b ≡ trainBytes (trainOf s t) → (after : List ℕ) → after ≡ replacedIfRoom to (restAt + 5 * t) b
-      → Copied e (stateBytes s) 0 after (restAt + 5 * (t + 1))
-  trains-more {e} t h k b q after f =
-      let five : length b ≡ 5 = ap length q in
-      let next : restAt + 5 * t + length b ≡ restAt + 5 * (t + 1) = omega arith in
-      subst (λ (n : ℕ). Copied e (stateBytes s) 0 after n) next
-      (part-more k b (omega (arith, state-length))
-      (λ j m.
-      let place : restAt + (5 * t + j) ≡ restAt + 5 * t + j = omega arith in
-      ap (λ (x : List ℕ). getD x j 0) q
-      ∙ sym (at-train t j h (omega arith))
-      ∙ ap (λ (n : ℕ). getD (stateBytes s) n 0) place)
-      after f)
-
-  pub state-put : {e to : List ℕ} (t : ℕ) → t ≡ 6 → length e ≡ stateLength
-      → Copied e (stateBytes s) 0 to (restAt + 5 * t) → set to loggedAt (s .logged) ≡ stateBytes s
-  state-put {e} {to} t h size k =
-      let place : restAt + 5 * t ≡ loggedAt = omega arith in
-      let all = subst (λ (n : ℕ). Copied e (stateBytes s) 0 to n) place k in
-      whole-put (byte-more all refl (omega (arith, state-length)) (s .logged) (sym at-logged)) refl
-      (omega (arith, state-length)) (omega (arith, state-length))
+      same-place (stateBytes s) (omega (arith, state-head-length, fleet-length))
+      ∙ sym (state-parts .1 .1 .0 .byte 0 (omega arith))

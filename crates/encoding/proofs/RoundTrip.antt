@@ -1,18 +1,17 @@
--- The round trips of `specs/RoundTrip`: each by the byte at a free place, with cases only over the few bytes of one
--- train or one unit.
+-- The round trips of `specs/RoundTrip`: each part that is read at its place stands there, and each that stands there is
+-- read.
 use mathlib.Core.Path.{_≡_, refl, sym, ap, _∙_}
 use mathlib.Core.Bool.{true}
 use mathlib.Core.List.{List}
-use Prim.Native.Nat.{ℕ, zero, suc, _+_, _*_, _-_, _/_, _%_, _≤_, _<_}
+use Prim.Native.Nat.{ℕ, zero, suc, _*_, _≤_, _<_}
 use native.Mathlib.Nat.{add-zero}
 use native.Mathlib.Omega.{arith}
 use lib.Dec.{leb}
-use lib.ListN.{length, getD, List·getD-append}
+use lib.ListN.{length, getD}
 use lib.Seq.{ext-getD}
-use borrow.Author.Tests.{eqb-true, leb-true}
+use borrow.Author.Tests.{leb-true}
 use Rattle.common.specs.Tabulate.{tabulate}
-use Rattle.common.proofs.Tests.{by-equality, by-order, and-left}
-use Rattle.common.proofs.Below.{all-below, below-all}
+use Rattle.common.proofs.Below.{below-all}
 use Rattle.common.proofs.Tabulate.{length-tabulate, at-tabulate, tabulate-cong}
 use Rattle.line.specs.Book.{byteAt}
 use Rattle.journal.specs.Journal.{blank}
@@ -20,18 +19,21 @@ use Rattle.driver.specs.State.{phaseNo}
 use Rattle.rules.specs.State.{askedAs, noTrain, trainOf}
 use Rattle.encoding.specs.Types.{Phase, Standing, Asked, Declined, Granted, UnderWay, Arrived, Unit}
 use Rattle.encoding.specs.Types.{Status, Free, AskedAs, Running, Train, State, Record}
-use Rattle.encoding.specs.Each.{each, restAt}
-use Rattle.encoding.specs.UnitBytes.{unitLength, unitBytes, encodesUnit, phaseOf, unitIn}
-use Rattle.encoding.specs.StateBytes.{stateLength, statusNo, trainBytes, stateBytes, trainAt, loggedAt}
-use Rattle.encoding.specs.StateBytes.{encodesStatus, encodesTrain, encodesState}
+use Rattle.encoding.specs.Parts.{headBytes}
+use Rattle.encoding.specs.UnitBytes.{unitBytes, encodesUnit, phaseOf, unitIn}
+use Rattle.encoding.specs.StateBytes.{statusNo, trainBytes, stateParts, stateBytes, trainAt}
+use Rattle.encoding.specs.StateBytes.{encodesStatus, encodesState}
 use Rattle.encoding.specs.StateBytes.{statusOf, trainIn, tracksIn, fleetIn, stateIn}
-use Rattle.encoding.specs.JournalBytes.{recordLength, recordBytes, recordIn, recordCount, recordsIn, withRecords}
+use Rattle.encoding.specs.JournalBytes.{recordLength, recordBytes, recordIn, recordCount, recordsIn}
+use Rattle.encoding.specs.JournalBytes.{journalParts, withRecords}
 use Rattle.encoding.specs.RoundTrip.{Shaped, RoundTrip}
+use Rattle.encoding.proofs.Parts.{At, same-place, bytes-at, within, joined-at, at-joined, whole-at}
+use Rattle.encoding.proofs.Parts.{length-each, each-at}
 use Rattle.encoding.proofs.Units as units
-use Rattle.encoding.proofs.Statuses.{encoded-length, encoded-trains, by-trains}
-use Rattle.encoding.proofs.Each.{length-each, at-each}
-use Rattle.encoding.proofs.Head.{at-posts, at-track, at-trains, posts-there, track-there, trains-there}
-use Rattle.encoding.proofs.Fields.{state-length, at-train, at-logged, train-there, logged-there}
+use Rattle.encoding.proofs.Statuses.{encoded-length, by-trains}
+use Rattle.encoding.proofs.Fields.{posts-at, tracks-at, trains-at, state-head-length, fleet-length}
+use Rattle.encoding.proofs.Fields.{state-length, state-head, at-train, at-logged}
+use Rattle.encoding.proofs.Reading.{eight, six, head-stands, fleet-stands}
 use Rattle.encoding.proofs.Journals.{own-records, length-with}
 
 -- ---- units
@@ -71,21 +73,12 @@ unit-back : (u : Unit) → unitIn (unitBytes u) ≡ u
 unfolding unitBytes
 unit-back u = rw (phase-back (u .phase))
 
-module _ (b : List ℕ) (h : encodesUnit b ≡ true) where
-  unit-byte : (k : ℕ) → k < unitLength → getD (unitBytes (unitIn b)) k 0 ≡ getD b k 0
-  unfolding unitBytes
-  unit-byte zero l = refl
-  unit-byte (suc zero) l = refl
-  unit-byte (suc (suc zero)) l = refl
-  unit-byte (suc (suc (suc zero))) l = refl
-  unit-byte (suc (suc (suc (suc zero)))) l =
-      phase-only (byteAt b 4) (leb-true (byteAt b 4) 5 (units.by-phase b (units.encoded-length b h) ∙ h))
-  unit-byte (suc (suc (suc (suc (suc k))))) l = absurd (omega arith)
-
-  pub unit-only : unitBytes (unitIn b) ≡ b
-  unit-only =
-      let five = units.five-bytes (unitIn b) in
-      ext-getD 0 (unitBytes (unitIn b)) b (five ∙ sym (units.encoded-length b h)) (λ k l. unit-byte k (rw five at l))
+unit-only : (b : List ℕ) → encodesUnit b ≡ true → unitBytes (unitIn b) ≡ b
+unfolding unitBytes
+unit-only b h =
+    let five = units.encoded-length b h in
+    let phase = phase-only (byteAt b 4) (leb-true (byteAt b 4) 5 (units.by-phase b five ∙ h)) in
+    whole-at (bytes-at (refl, (refl, (refl, (refl, (phase, tt)))))) (sym five)
 
 -- ---- statuses and trains
 
@@ -100,23 +93,18 @@ status-encodes Free = refl
 status-encodes (AskedAs n) = refl
 status-encodes Running = refl
 
-status-only : (k n : ℕ) → encodesStatus k n ≡ true → (statusNo (statusOf k n) ≡ k) × (askedAs (statusOf k n) ≡ n)
-unfolding statusOf
-status-only zero n h = (refl, sym (eqb-true n 0 h))
-status-only (suc zero) n h = (refl, refl)
-status-only (suc (suc zero)) n h = (refl, sym (eqb-true n 0 h))
-status-only (suc (suc (suc k))) n h =
-    let few = leb-true (suc (suc (suc k))) 2 (and-left (leb (suc (suc (suc k))) 2) _ h) in absurd (omega arith)
-
--- byte j of the train whose bytes begin at i
-train-byte : (b : List ℕ) (i : ℕ) → encodesTrain b i ≡ true → (j : ℕ) → j < 5
-    → getD (trainBytes (trainIn b i)) j 0 ≡ getD b (i + j) 0
-train-byte b i h zero l = rw add-zero
-train-byte b i h (suc zero) l = refl
-train-byte b i h (suc (suc zero)) l = refl
-train-byte b i h (suc (suc (suc zero))) l = status-only (byteAt b (i + 3)) (byteAt b (i + 4)) h .0
-train-byte b i h (suc (suc (suc (suc zero)))) l = status-only (byteAt b (i + 3)) (byteAt b (i + 4)) h .1
-train-byte b i h (suc (suc (suc (suc (suc j))))) l = absurd (omega arith)
+-- a train that stands at i is read
+train-read : (b : List ℕ) (i : ℕ) (x : Train) → At b i (trainBytes x) → trainIn b i ≡ x
+train-read b i x h =
+    let start : byteAt b i ≡ x .route .start .0 = rw add-zero at (sym (h .byte 0 (omega arith))) in
+    rw (
+      start,
+      ← h .byte 1 (omega arith),
+      ← h .byte 2 (omega arith),
+      ← h .byte 3 (omega arith),
+      ← h .byte 4 (omega arith),
+      status-back (x .status),
+    )
 
 -- ---- states
 
@@ -126,127 +114,76 @@ elements n l d e =
     let size = length-tabulate n (λ (i : ℕ). getD l i d) in
     ext-getD d (tabulate n (λ i. getD l i d)) l (size ∙ sym e) (λ i h. at-tabulate n _ i d (rw size at h))
 
--- a train is what its five bytes are read as
-same-train : (b : List ℕ) (i : ℕ) (x : Train) → ((j : ℕ) → j < 5 → getD b (i + j) 0 ≡ getD (trainBytes x) j 0)
-    → trainIn b i ≡ x
-same-train b i x h =
-    let start : byteAt b i ≡ x .route .start .0 = rw add-zero at (h 0 (omega arith)) in
-    rw (start, h 1 (omega arith), h 2 (omega arith), h 3 (omega arith), h 4 (omega arith), status-back (x .status))
-
 module _ (s : State) (shaped : Shaped s) where
   abbrev bytes : List ℕ
   bytes = stateBytes s
 
-  train-at : (t j : ℕ) → t < 6 → j < 5 → getD bytes (trainAt t + j) 0 ≡ getD (trainBytes (trainOf s t)) j 0
-  train-at t j h k =
-      let place : trainAt t + j ≡ restAt + (5 * t + j) = omega arith in
-      ap (λ (n : ℕ). getD bytes n 0) place ∙ at-train s (shaped .eight) (shaped .six) t j h k
+  begins : At bytes 0 (headBytes (s .posts) (s .tracks) (s .trains))
+  begins = state-head s (shaped .eight) (shaped .six)
 
   tracks-back : tracksIn bytes ≡ s .tracks
-  unfolding stateBytes
   tracks-back =
-      tabulate-cong 8 _ (λ p. getD (s .tracks) p 0)
-      (λ p h.
-      let place : 1 + p ≡ suc p = omega arith in
-      ap (λ (n : ℕ). getD (stateBytes s) n 0) place ∙ at-track (s .posts) (s .tracks) (s .trains) _ (shaped .eight) p h)
+      let at = tracks-at (s .posts) (s .tracks) (s .trains) (shaped .eight) begins in
+      tabulate-cong 8 _ (λ p. getD (s .tracks) p 0) (λ p h. sym (at .byte p (omega (arith, shaped .eight))))
       ∙ elements 8 (s .tracks) 0 (shaped .eight)
 
   fleet-back : fleetIn bytes ≡ s .fleet
   fleet-back =
-      tabulate-cong 6 _ (trainOf s) (λ t h. same-train bytes (trainAt t) (trainOf s t) (λ j k. train-at t j h k))
+      tabulate-cong 6 _ (trainOf s)
+      (λ t h. train-read bytes (trainAt t) (trainOf s t) (at-train s (shaped .eight) (shaped .six) t h))
       ∙ elements 6 (s .fleet) noTrain (shaped .six)
 
-  posts-back : byteAt bytes 0 ≡ s .posts
-  unfolding stateBytes
-  posts-back = sym (at-posts (s .posts) (s .tracks) (s .trains) _)
-
-  trains-back : byteAt bytes 9 ≡ s .trains
-  unfolding stateBytes
-  trains-back = at-trains (s .posts) (s .tracks) (s .trains) _ (shaped .eight)
-
   pub state-back : stateIn bytes ≡ s
-  state-back = rw (posts-back, tracks-back, trains-back, fleet-back, at-logged s (shaped .eight) (shaped .six))
+  state-back =
+      let posts = posts-at (s .posts) (s .tracks) (s .trains) (shaped .eight) begins .byte 0 (omega arith) in
+      let trains = trains-at (s .posts) (s .tracks) (s .trains) (shaped .eight) begins .byte 0 (omega arith) in
+      rw (← posts, tracks-back, ← trains, fleet-back, at-logged s (shaped .eight) (shaped .six))
 
   pub state-encoded : encodesState bytes ≡ true
   state-encoded =
+      let at = at-train s (shaped .eight) (shaped .six) in
       sym (by-trains bytes (state-length s (shaped .eight) (shaped .six)))
       ∙ below-all 6 _ (λ t h.
-      rw (train-at t 3 h (omega arith), train-at t 4 h (omega arith)) (status-encodes (trainOf s t .status)))
+      rw (← at t h .byte 3 (omega arith), ← at t h .byte 4 (omega arith)) (status-encodes (trainOf s t .status)))
 
 module _ (b : List ℕ) (h : encodesState b ≡ true) where
   abbrev read : State
   read = stateIn b
 
-  eight : length (read .tracks) ≡ 8
-  eight = length-tabulate 8 _
-
-  six : length (read .fleet) ≡ 6
-  six = length-tabulate 6 _
-
-  -- the first ten bytes
-  head-byte : (k : ℕ) → k < restAt → getD (stateBytes read) k 0 ≡ getD b k 0
-  unfolding stateBytes
-  head-byte k l = by-equality k 0
-      (λ e. sym (posts-there (read .posts) (read .tracks) (read .trains) _ k e) ∙ rw e)
-      (λ e. by-order k 9
-      (λ m.
-      let place : 1 + (k - 1) ≡ k = omega arith in
-      sym (track-there (read .posts) (read .tracks) (read .trains) _ eight k (omega arith) m)
-      ∙ at-tabulate 8 _ (k - 1) 0 (omega arith)
-      ∙ ap (λ (n : ℕ). getD b n 0) place)
-      (λ m.
-      let place : k ≡ 9 = omega arith in
-      sym (trains-there (read .posts) (read .tracks) (read .trains) _ eight k m l) ∙ rw place))
-
-  -- a train's
-  fleet-byte : (k : ℕ) → restAt ≤ k → k < loggedAt → getD (stateBytes read) k 0 ≡ getD b k 0
-  fleet-byte k low high =
-      let i = k - restAt in
-      let t : i / 5 < 6 = omega arith in
-      let j : i % 5 < 5 = omega arith in
-      let place : trainAt (i / 5) + i % 5 ≡ k = omega arith in
-      sym (train-there read eight six k i refl low (omega arith) (λ e. omega arith) _ refl)
-      ∙ ap (λ (x : Train). getD (trainBytes x) (i % 5) 0) (at-tabulate 6 _ (i / 5) noTrain t)
-      ∙ train-byte b (trainAt (i / 5)) (all-below 6 _ (encoded-trains b h) (i / 5) t) (i % 5) j
-      ∙ ap (λ (n : ℕ). getD b n 0) place
-
-  state-byte : (k : ℕ) → k < stateLength → getD (stateBytes read) k 0 ≡ getD b k 0
-  state-byte k l = by-order k restAt (head-byte k)
-      (λ low. by-order k loggedAt (fleet-byte k low)
-      (λ high.
-      let place : k ≡ loggedAt = omega arith in
-      sym (logged-there read eight six k place) ∙ rw place))
-
   pub state-only : stateBytes read ≡ b
+  unfolding stateBytes
   state-only =
-      let size = state-length read eight six in
-      ext-getD 0 (stateBytes read) b (size ∙ sym (encoded-length b h)) (λ k l. state-byte k (rw size at l))
+      let ten = state-head-length read (eight b) (six b) in
+      whole-at (at-joined (stateParts read) (
+        head-stands b,
+        (
+          fleet-stands b h (omega (arith, ten)),
+          (bytes-at (same-place b (omega (arith, ten, fleet-length read (eight b) (six b))), tt), tt),
+        ),
+      ))
+      (state-length read (eight b) (six b) ∙ sym (encoded-length b h))
 
 -- ---- the journal
 
--- a record is what its four bytes are read as
-same-record : (b : List ℕ) (i : ℕ) (r : Record)
-    → ((j : ℕ) → j < recordLength → getD b (i + j) 0 ≡ getD (recordBytes r) j 0)
-    → recordIn b i ≡ r
-same-record b i r h =
-    let kind : byteAt b i ≡ r .kind = rw add-zero at (h 0 (omega arith)) in
-    rw (kind, h 1 (omega arith), h 2 (omega arith), h 3 (omega arith))
+-- a record that stands at i is read
+record-read : (b : List ℕ) (i : ℕ) (r : Record) → At b i (recordBytes r) → recordIn b i ≡ r
+record-read b i r h =
+    let kind : byteAt b i ≡ r .kind = rw add-zero at (sym (h .byte 0 (omega arith))) in
+    rw (kind, ← h .byte 1 (omega arith), ← h .byte 2 (omega arith), ← h .byte 3 (omega arith))
 
 module _ (b : List ℕ) (j : List Record) (size : length j ≡ recordCount (length b)) where
-  record-byte : (i k : ℕ) → i < length j → k < recordLength
-      → getD (withRecords b j) (recordLength * i + k) 0 ≡ getD (recordBytes (getD j i blank)) k 0
+  record-stands : (i : ℕ) → i < length j → At (withRecords b j) (recordLength * i) (recordBytes (getD j i blank))
   unfolding withRecords
-  record-byte i k h l =
-      List·getD-append (each recordBytes j) _ 0 (recordLength * i + k)
-      (omega (arith, length-each recordBytes recordLength (λ r. refl) j))
-      ∙ at-each recordBytes recordLength (λ r. refl) j i k blank h l
+  record-stands i h =
+      within (joined-at (journalParts b j) .0) (each-at recordBytes recordLength (λ r. refl) j i blank h)
+      (omega (arith, length-each recordBytes recordLength (λ r. refl) j)) (omega arith)
 
   pub records-back : recordsIn (withRecords b j) ≡ j
   records-back =
       ap (λ (n : ℕ). tabulate (recordCount n) (λ i. recordIn (withRecords b j) (recordLength * i)))
       (length-with b j size)
       ∙ tabulate-cong (recordCount (length b)) _ (λ i. getD j i blank)
-      (λ i h. same-record (withRecords b j) (recordLength * i) (getD j i blank) (λ k l. record-byte i k (rw size h) l))
+      (λ i h. record-read (withRecords b j) (recordLength * i) (getD j i blank) (record-stands i (rw size h)))
       ∙ elements (recordCount (length b)) j blank size
 
 pub round-trip : RoundTrip

@@ -1,33 +1,16 @@
--- Laws of the bytes of a unit: which bytes encode one, the last of its phases and buttons, and how a call comes out.
+-- Laws of the bytes of a unit: which bytes encode one, and how many they are.
 use mathlib.Core.Path.{_≡_, refl}
 use mathlib.Core.Logic.{_≢_}
 use mathlib.Core.Bool.{true, false}
 use mathlib.Core.List.{List}
-use Prim.Native.Nat.{ℕ, _≤_}
-use native.Mathlib.Omega.{arith}
+use Prim.Native.Nat.{ℕ}
 use lib.Dec.{eqb, leb}
 use lib.ListN.{length}
 use borrow.Author.Tests.{eq-eqb, ne-eqb, eqb-true}
 use Rattle.common.proofs.Tests.{and-left}
 use Rattle.line.specs.Book.{byteAt}
-use Rattle.encoding.specs.Types.{Arrived, Report, Unit}
-use Rattle.encoding.specs.UnitBytes.{unitLength, unitBytes, encodesUnit, phaseOf, buttonOf}
-
-pub last-phase : (n : ℕ) → 5 ≤ n → Arrived ≡ phaseOf n
-unfolding phaseOf
-last-phase n h =
-    rw (
-      ne-eqb n 0 (λ e. omega arith),
-      ne-eqb n 1 (λ e. omega arith),
-      ne-eqb n 2 (λ e. omega arith),
-      ne-eqb n 3 (λ e. omega arith),
-      ne-eqb n 4 (λ e. omega arith),
-    )
-
-pub last-button : (n : ℕ) → 3 ≤ n → Report ≡ buttonOf n
-unfolding buttonOf
-last-button n h =
-    rw (ne-eqb n 0 (λ e. omega arith), ne-eqb n 1 (λ e. omega arith), ne-eqb n 2 (λ e. omega arith))
+use Rattle.encoding.specs.Types.{Unit}
+use Rattle.encoding.specs.UnitBytes.{unitLength, unitBytes, encodesUnit}
 
 module _ (b : List ℕ) where
   pub other-length : length b ≢ unitLength → false ≡ encodesUnit b

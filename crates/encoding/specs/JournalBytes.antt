@@ -1,12 +1,12 @@
 -- The journal as bytes. Records of 4 bytes: kind, train, from, to. A buffer of n bytes has n / 4 records; the n % 4
 -- bytes past them are never read or written.
-use mathlib.Core.List.{List, [], _∷_, _++_}
+use mathlib.Core.List.{List, [], _∷_}
 use Prim.Native.Nat.{ℕ, _+_, _*_, _/_}
 use lib.ListN.{length, drop}
 use Rattle.common.specs.Tabulate.{tabulate}
 use Rattle.line.specs.Book.{byteAt}
 use Rattle.encoding.specs.Types.{Record}
-use Rattle.encoding.specs.Each.{each}
+use Rattle.encoding.specs.Parts.{joined, each}
 
 abbrev pub recordLength : ℕ
 recordLength = 4
@@ -31,5 +31,8 @@ abbrev pub recordsIn : List ℕ → List Record
 recordsIn b = tabulate (recordCount (length b)) (λ i. recordIn b (recordLength * i))
 
 -- the records j in the place of those of b; the bytes past them stay
+abbrev pub journalParts : List ℕ → List Record → List (List ℕ)
+journalParts b j = each recordBytes j ∷ drop (recordLength * recordCount (length b)) b ∷ []
+
 unfoldable pub withRecords : List ℕ → List Record → List ℕ
-withRecords b j = each recordBytes j ++ drop (recordLength * recordCount (length b)) b
+withRecords b j = joined (journalParts b j)

@@ -3,7 +3,7 @@
 -- n a number.
 pub mod Types
 pub mod UnitBytes
-pub mod Each
+pub mod Parts
 pub mod LineBytes
 pub mod StateBytes
 pub mod JournalBytes

@@ -1,14 +1,24 @@
 -- A line as 22 bytes: posts; tracks of posts 0 to 7; trains; then start and end of trains 0 to 5.
 use mathlib.Core.List.{List, [], _∷_}
-use Prim.Native.Nat.{ℕ}
+use Prim.Native.Nat.{ℕ, _+_, _*_}
 use Rattle.encoding.specs.Types.{Route, Line}
-use Rattle.encoding.specs.Each.{each, headed}
+use Rattle.encoding.specs.Parts.{joined, each, headBytes, headLength}
 
-abbrev pub lineLength : ℕ
-lineLength = 22
+abbrev pub routeLength : ℕ
+routeLength = 2
 
-abbrev pub routeBytes : Route → List ℕ
-routeBytes r = r .start .0 ∷ r .end .0 ∷ []
+abbrev pub routeEnds : Route → List ℕ
+routeEnds r = r .start .0 ∷ r .end .0 ∷ []
+
+abbrev pub lineParts : Line → List (List ℕ)
+lineParts l = headBytes (l .posts) (l .tracks) (l .trains) ∷ each routeEnds (l .routes) ∷ []
 
 unfoldable pub lineBytes : Line → List ℕ
-lineBytes l = headed (l .posts) (l .tracks) (l .trains) (each routeBytes (l .routes))
+lineBytes l = joined (lineParts l)
+
+-- where the bytes of train t's route begin
+abbrev pub routeAt : ℕ → ℕ
+routeAt t = headLength + routeLength * t
+
+abbrev pub lineLength : ℕ
+lineLength = headLength + routeLength * 6

@@ -10,10 +10,8 @@ use Rattle.common.specs.Tabulate.{tabulate}
 use Rattle.line.specs.Book.{byteAt, route}
 use Rattle.rules.specs.State.{askedAs}
 use Rattle.encoding.specs.Types.{Status, Free, AskedAs, Running, Train, State}
-use Rattle.encoding.specs.Each.{each, headed, restAt}
-
-abbrev pub stateLength : ℕ
-stateLength = 41
+use Rattle.encoding.specs.Parts.{joined, each, headBytes, postsAt, tracksAt, trainsAt, headLength}
+use Rattle.encoding.specs.LineBytes.{routeLength, routeEnds}
 
 -- ---- the bytes of a state
 
@@ -23,22 +21,33 @@ statusNo Free = 0
 statusNo (AskedAs n) = 1
 statusNo Running = 2
 
--- number of its FA (0 unless Asked)
+-- what a frame can change of a train; number of its FA (0 unless Asked)
+abbrev pub standingBytes : Train → List ℕ
+standingBytes x = x .at .0 ∷ statusNo (x .status) ∷ askedAs (x .status) ∷ []
+
 abbrev pub trainBytes : Train → List ℕ
-trainBytes x =
-    x .route .start .0 ∷ x .route .end .0 ∷ x .at .0 ∷ statusNo (x .status) ∷ askedAs (x .status) ∷ []
+trainBytes x = routeEnds (x .route) ++ standingBytes x
+
+abbrev pub stateParts : State → List (List ℕ)
+stateParts s = headBytes (s .posts) (s .tracks) (s .trains) ∷ each trainBytes (s .fleet) ∷ (s .logged ∷ []) ∷ []
 
 unfoldable pub stateBytes : State → List ℕ
-stateBytes s = headed (s .posts) (s .tracks) (s .trains) (each trainBytes (s .fleet) ++ (s .logged ∷ []))
+stateBytes s = joined (stateParts s)
 
 -- ---- which bytes encode a state, and which state
 
--- where the five bytes of train t begin, and where the journal count is
+abbrev pub trainLength : ℕ
+trainLength = routeLength + 3
+
+-- where the bytes of train t begin, and where the journal count is
 abbrev pub trainAt : ℕ → ℕ
-trainAt t = restAt + 5 * t
+trainAt t = headLength + trainLength * t
 
 abbrev pub loggedAt : ℕ
-loggedAt = 40
+loggedAt = headLength + trainLength * 6
+
+abbrev pub stateLength : ℕ
+stateLength = loggedAt + 1
 
 -- a status, and 0 for the number where it is not Asked; of the train whose bytes begin at i
 abbrev pub encodesStatus : ℕ → ℕ → Bool
@@ -65,7 +74,7 @@ trainIn b i = record {
 }
 
 abbrev pub tracksIn : List ℕ → List ℕ
-tracksIn b = tabulate 8 (λ p. byteAt b (1 + p))
+tracksIn b = tabulate 8 (λ p. byteAt b (tracksAt + p))
 
 abbrev pub fleetIn : List ℕ → List Train
 fleetIn b = tabulate 6 (λ t. trainIn b (trainAt t))
@@ -73,9 +82,9 @@ fleetIn b = tabulate 6 (λ t. trainIn b (trainAt t))
 -- the state that the bytes encode
 abbrev pub stateIn : List ℕ → State
 stateIn b = record {
-  posts = byteAt b 0;
+  posts = byteAt b postsAt;
   tracks = tracksIn b;
-  trains = byteAt b 9;
+  trains = byteAt b trainsAt;
   fleet = fleetIn b;
   logged = byteAt b loggedAt;
 }

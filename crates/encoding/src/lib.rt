@@ -1,21 +1,2 @@
-// A unit, a line, a state and a journal as bytes, in the layouts that quangevit.h states.
-mod head_bytes;
-mod journal_bytes;
-mod line_bytes;
-mod placing;
-mod state_bytes;
-mod unit_bytes;
-
-pub use journal_bytes::RECORD_LENGTH;
-pub use journal_bytes::append;
-pub use line_bytes::LINE_LENGTH;
-pub use line_bytes::put_line;
-pub use state_bytes::STATE_LENGTH;
-pub use state_bytes::encodes_state;
-pub use state_bytes::put_state;
-pub use state_bytes::state_in;
-pub use unit_bytes::UNIT_LENGTH;
-pub use unit_bytes::button_of;
-pub use unit_bytes::encodes_unit;
-pub use unit_bytes::put_unit;
-pub use unit_bytes::unit_in;
+// Which bytes stand for a unit, a line, a state and a journal. There is no code here: specs/ has the
+// definitions that the contracts of `codec` cite, and the claims over them.

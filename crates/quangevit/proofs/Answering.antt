@@ -5,6 +5,7 @@ use mathlib.Core.List.{List}
 use Prim.Native.Nat.{ℕ}
 use lib.ListN.{length}
 use Rattle.journal.specs.Journal.{appended}
+use Rattle.rules.specs.State.{lineOf}
 use Rattle.rules.specs.Answer.{verdictNumber, verdictFrames, Answer}
 use Rattle.rules.proofs.Acceptance.{refusal-leaves}
 use Rattle.dispatcher.specs.declared.stepping.Outcome.{Outcome}
@@ -16,7 +17,7 @@ use Rattle.calls.specs.Types.{State, Verdict, RefusedBy}
 use Rattle.calls.specs.Word.{wordOf}
 use Rattle.calls.specs.BoxCalls.{answerCallOf, answerAfter, answerCall}
 use Rattle.calls.specs.HandedOn.{ruled}
-use Rattle.calls.proofs.HandedOn.{handed-on}
+use Rattle.calls.proofs.HandedOn.{answer-line, handed-on}
 
 -- the word of a verdict
 abbrev pub verdictWord : Verdict → ℕ
@@ -32,6 +33,15 @@ module _ (state table journal frame out : List ℕ) where
   answered h s e o sent p log q after r w t =
       let same = rw e at (p .answers (recordsIn journal) (record-count journal)) in
       rw (t, r, q, h) (ap (answerAfter journal) same)
+
+  -- the line is that of the state before, so that its bytes are there
+  pub same-line : (s : State) → s ≡ stateIn state
+      → (o : Outcome) (sent : List ℕ) → Stepped s table (recordCount (length journal)) frame out o sent
+      → lineOf (stateIn state) ≡ lineOf (o .reply .state)
+  same-line s e o sent p =
+      let same = rw e at (p .answers (recordsIn journal) (record-count journal)) in
+      sym (ap (λ (a : Answer). lineOf (a .state)) same
+      ∙ answer-line (stateIn state) table (recordsIn journal) frame out)
 
   -- a refusal leaves all as it was, so that nothing is written
   pub answer-refused : encodesState state ≡ true → (s : State) → s ≡ stateIn state

@@ -3,14 +3,15 @@ ghost use mathlib.Core.Path.{_≡_};
 ghost use Rattle.calls.specs.BoxCalls.{bookCall, readBookCall, openCallOf, openCall};
 ghost use Rattle.calls.specs.BoxCalls.{answerCallOf, answerCall};
 use crate::word::word_of;
-use encoding::LINE_LENGTH;
-use encoding::RECORD_LENGTH;
-use encoding::STATE_LENGTH;
-use encoding::append;
-use encoding::encodes_state;
-use encoding::put_line;
-use encoding::put_state;
-use encoding::state_in;
+use codec::LINE_LENGTH;
+use codec::RECORD_LENGTH;
+use codec::STATE_LENGTH;
+use codec::append;
+use codec::encodes_state;
+use codec::put_changes;
+use codec::put_line;
+use codec::put_state;
+use codec::state_in;
 use line::refusal::STRANGE_STATE;
 use rules::Verdict;
 
@@ -75,7 +76,7 @@ pub extern "C" fn quangevit_answer(
             let batch = outcome.batch;
             append(journal, outcome.at, batch);
             let after = reply.state;
-            put_state(after, state);
+            put_changes(after, state);
             word_of(0, n)
         }
     }

@@ -7,7 +7,7 @@ use borrow.Author.Tests.{not-true, not-false}
 use Rattle.encoding.specs.StateBytes.{encodesState}
 use Rattle.encoding.proofs.Statuses.{encoded-length}
 use Rattle.calls.proofs.BoxSteps.{not-answered}
-use Rattle.quangevit.proofs.Answering.{verdictWord, answered, answer-refused}
+use Rattle.quangevit.proofs.Answering.{verdictWord, answered, same-line, answer-refused}
 use borrow.Author.Needs.{needs}
 use Rattle.quangevit.proofs.office.quangevit_answer.Statement.{statement}
 use Rattle.quangevit.proofs.office.quangevit_answer.Tie as tie
@@ -62,11 +62,15 @@ module _ (c : tie.After-step) where
   abbrev tested : tie.Else1
   tested = read .before .before
 
-put-state-requires : tie.Need-put-state-requires
-put-state-requires c κs =
-    let l = c .before .before .before .before in
-    let v = l .before .before .before .before in
-    encoded-length _ (encoded (tested (v .before .before .before .before .before)))
+put-changes-requires : tie.Need-put-changes-requires
+put-changes-requires c κs =
+    let v = c .before .before .before .before .before .before .before .before in
+    let o = v .before .before .before .before .before in
+    let a = from (tested o) .args in (
+      encoded-length _ (encoded (tested o)),
+      same-line (now (a .state)) (now (a .table)) (now (a .journal)) (now (a .frame)) (now (a .out)) _
+          (read o .state-in .ensures) _ _ (o .step .ensures),
+    )
 
 word-of-requires-3 : tie.Need-word-of-requires-3
 word-of-requires-3 c κs = search needs
@@ -103,7 +107,7 @@ returns-3 c =
     let o = v .before .before .before .before .before in
     let a = from (tested o) .args in
     answered (now (a .state)) (now (a .table)) (now (a .journal)) (now (a .frame)) (now (a .out)) (encoded (tested o)) _
-    (read o .state-in .ensures) _ _ (o .step .ensures) _ (l .append .ensures) _ (p .put-state .ensures) _
+    (read o .state-in .ensures) _ _ (o .step .ensures) _ (l .append .ensures) _ (p .put-changes .ensures) _
     (c .word-of3 .ensures ∙ ap verdictWord (sym (v .verdict2 .given .1)))
 
 pub quangevit-answer-spec : {M : Type 1} → statement M
@@ -120,7 +124,7 @@ quangevit-answer-spec =
     word-of-requires-2
     enum-known-verdict-2
     append-requires
-    put-state-requires
+    put-changes-requires
     word-of-requires-3
     same-length-2
     same-length-3

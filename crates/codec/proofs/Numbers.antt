@@ -1,0 +1,48 @@
+-- Laws of statuses, phases and buttons as numbers, and of a list that a loop has filled.
+use mathlib.Core.Path.{_≡_}
+use mathlib.Core.Logic.{_≢_}
+use mathlib.Core.Bool.{true, false}
+use Prim.Native.Nat.{ℕ, _≤_, _<_}
+use native.Mathlib.Omega.{arith}
+use lib.Dec.{eqb}
+use borrow.Author.Tests.{ne-eqb, le-leb, lt-leb, lt-ltb}
+use Rattle.common.specs.Tabulate.{tabulate, padded}
+use Rattle.common.proofs.Tabulate.{tabulate-cong}
+use Rattle.encoding.specs.Types.{Running, Arrived, Report}
+use Rattle.encoding.specs.UnitBytes.{phaseOf, buttonOf}
+use Rattle.encoding.specs.StateBytes.{encodesStatus, statusOf}
+
+-- a list with all its places filled
+pub padded-all : {A : Type 0} (n : ℕ) (f : ℕ → A) (d : A) → padded n n f d ≡ tabulate n f
+unfolding padded
+padded-all n f d = tabulate-cong n _ f (λ i h. rw (lt-ltb i n h))
+
+module _ (k n : ℕ) where
+  pub running : 2 ≤ k → Running ≡ statusOf k n
+  unfolding statusOf
+  running h = rw (ne-eqb k 0 (λ e. omega arith), ne-eqb k 1 (λ e. omega arith))
+
+  pub no-status : 2 < k → false ≡ encodesStatus k n
+  no-status h = rw (lt-leb k 2 h)
+
+  pub asked-number : k ≡ 1 → true ≡ encodesStatus k n
+  asked-number e = rw e
+
+  pub other-number : k ≤ 2 → k ≢ 1 → eqb n 0 ≡ encodesStatus k n
+  other-number h e = rw (le-leb k 2 h, ne-eqb k 1 e)
+
+pub last-phase : (n : ℕ) → 5 ≤ n → Arrived ≡ phaseOf n
+unfolding phaseOf
+last-phase n h =
+    rw (
+      ne-eqb n 0 (λ e. omega arith),
+      ne-eqb n 1 (λ e. omega arith),
+      ne-eqb n 2 (λ e. omega arith),
+      ne-eqb n 3 (λ e. omega arith),
+      ne-eqb n 4 (λ e. omega arith),
+    )
+
+pub last-button : (n : ℕ) → 3 ≤ n → Report ≡ buttonOf n
+unfolding buttonOf
+last-button n h =
+    rw (ne-eqb n 0 (λ e. omega arith), ne-eqb n 1 (λ e. omega arith), ne-eqb n 2 (λ e. omega arith))

@@ -1,0 +1,28 @@
+-- `put_unit` meets its contract: the five bytes are the whole buffer.
+use Rattle.codec.proofs.Copying.{is-put}
+use Rattle.encoding.specs.UnitBytes.{unitBytes}
+use borrow.Author.Needs.{needs}
+use Rattle.codec.proofs.unit_bytes.put_unit.Statement.{statement}
+use Rattle.codec.proofs.unit_bytes.put_unit.Tie as tie
+
+bytes-of-requires : tie.Need-bytes-of-requires
+bytes-of-requires c κs = search needs
+
+slice-aggregate-put : tie.Need-slice-aggregate-put
+slice-aggregate-put c = search needs
+
+put-requires : tie.Need-put-requires
+put-requires c κs = search needs
+
+same-length : tie.Need-same-length
+same-length c = search needs
+
+returns : tie.Need-returns
+unfolding unitBytes
+returns c =
+    is-put _ _ _ _ (search needs) (c .before .before .before .before .before .bytes-of .ensures)
+    (c .before .before .put .ensures)
+
+pub put-unit-spec : {M : Type 1} → statement M
+put-unit-spec =
+    tie.close (tie.spec bytes-of-requires slice-aggregate-put put-requires same-length returns)

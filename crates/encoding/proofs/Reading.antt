@@ -1,0 +1,78 @@
+-- What is read of a state's bytes stands there, whether or not they encode a state: head, routes and, where they do,
+-- trains.
+use mathlib.Core.Path.{_≡_, refl, sym, ap, subst, _∙_}
+use mathlib.Core.Bool.{true}
+use mathlib.Core.List.{List}
+use Prim.Native.Nat.{ℕ, zero, suc, _+_, _<_}
+use native.Mathlib.Nat.{add-zero}
+use native.Mathlib.Omega.{arith}
+use lib.Dec.{leb}
+use lib.ListN.{length, List·getD-map}
+use borrow.Author.Tests.{eqb-true, leb-true}
+use Rattle.common.proofs.Tests.{and-left}
+use Rattle.common.proofs.Below.{all-below}
+use Rattle.common.proofs.Tabulate.{length-tabulate, at-tabulate}
+use Rattle.line.specs.Line.{routeOf}
+use Rattle.line.specs.Book.{byteAt}
+use Rattle.rules.specs.State.{askedAs, noTrain, trainOf, lineOf}
+use Rattle.encoding.specs.Types.{Route, Line, Train, State}
+use Rattle.encoding.specs.Parts.{each, headParts, headBytes, tracksAt, headLength}
+use Rattle.encoding.specs.LineBytes.{routeEnds}
+use Rattle.encoding.specs.StateBytes.{statusNo, trainLength, trainBytes, trainAt}
+use Rattle.encoding.specs.StateBytes.{encodesStatus, encodesTrain, encodesState, statusOf, trainIn, stateIn}
+use Rattle.encoding.proofs.Parts.{At, same-place, bytes-at, at-joined, at-each}
+use Rattle.encoding.proofs.Statuses.{encoded-trains}
+
+status-only : (k n : ℕ) → encodesStatus k n ≡ true → (statusNo (statusOf k n) ≡ k) × (askedAs (statusOf k n) ≡ n)
+unfolding statusOf
+status-only zero n h = (refl, sym (eqb-true n 0 h))
+status-only (suc zero) n h = (refl, refl)
+status-only (suc (suc zero)) n h = (refl, sym (eqb-true n 0 h))
+status-only (suc (suc (suc k))) n h =
+    let few = leb-true (suc (suc (suc k))) 2 (and-left (leb (suc (suc (suc k))) 2) _ h) in absurd (omega arith)
+
+-- a train that is read at i stands there
+train-stands : (b : List ℕ) (i : ℕ) → encodesTrain b i ≡ true → At b i (trainBytes (trainIn b i))
+train-stands b i h =
+    let status = status-only (byteAt b (i + 3)) (byteAt b (i + 4)) h in
+    bytes-at (rw add-zero, (refl, (refl, (status .0, (status .1, tt)))))
+
+module _ (b : List ℕ) where
+  abbrev read : State
+  read = stateIn b
+
+  pub eight : length (read .tracks) ≡ 8
+  eight = length-tabulate 8 _
+
+  pub six : length (read .fleet) ≡ 6
+  six = length-tabulate 6 _
+
+  pub head-stands : At b 0 (headBytes (read .posts) (read .tracks) (read .trains))
+  unfolding headBytes
+  head-stands =
+      let tracks : At b tracksAt (read .tracks) = record { byte = λ j l. at-tabulate 8 _ j 0 (rw eight at l) } in
+      at-joined (headParts (read .posts) (read .tracks) (read .trains))
+      (bytes-at (refl, tt), (tracks, (bytes-at (same-place b (omega (arith, eight)), tt), tt)))
+
+  route-stands : (t : ℕ) → t < 6 → At b (trainAt t) (routeEnds (trainOf read t .route))
+  route-stands t h = rw (at-tabulate 6 (λ u. trainIn b (trainAt u)) t noTrain h) (bytes-at (rw add-zero, (refl, tt)))
+
+  pub fleet-stands : encodesState b ≡ true → {n : ℕ} → n ≡ headLength → At b n (each trainBytes (read .fleet))
+  fleet-stands h e =
+      at-each trainBytes trainLength (λ x. refl) (read .fleet) noTrain
+      (λ t l.
+      let below : t < 6 = rw six at l in
+      rw (e, at-tabulate 6 _ t noTrain below)
+      (train-stands b (trainAt t) (all-below 6 _ (encoded-trains b h) t below)))
+
+  -- where the line that is read is that of s, its bytes are there
+  module _ (s : State) (same : lineOf read ≡ lineOf s) where
+    pub head-kept : At b 0 (headBytes (s .posts) (s .tracks) (s .trains))
+    head-kept = subst (λ (l : Line). At b 0 (headBytes (l .posts) (l .tracks) (l .trains))) same head-stands
+
+    pub route-kept : (t : ℕ) → t < 6 → At b (trainAt t) (routeEnds (trainOf s t .route))
+    route-kept t h =
+        let own : (v : State) → routeOf (lineOf v) t ≡ trainOf v t .route =
+        λ v. List·getD-map (λ (x : Train). x .route) (v .fleet) t noTrain in
+        subst (λ (r : Route). At b (trainAt t) (routeEnds r))
+        (sym (own read) ∙ ap (λ (l : Line). routeOf l t) same ∙ own s) (route-stands t h)

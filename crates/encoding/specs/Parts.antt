@@ -1,0 +1,34 @@
+-- Bytes in parts that are laid end to end: what the layouts have in common.
+use mathlib.Core.List.{List, [], _∷_, _++_, map}
+use Prim.Native.Nat.{ℕ, _+_}
+
+-- some parts, one after the other
+unfoldable pub joined : List (List ℕ) → List ℕ
+joined [] = []
+joined (p ∷ ps) = p ++ joined ps
+
+-- the bytes of some things, one after the other
+abbrev pub each : {A : Type 0} → (A → List ℕ) → List A → List ℕ
+each f l = joined (map f l)
+
+-- ---- what a line and a state begin with
+
+-- posts; tracks of posts 0 to 7; trains
+abbrev pub headParts : ℕ → List ℕ → ℕ → List (List ℕ)
+headParts posts tracks trains = (posts ∷ []) ∷ tracks ∷ (trains ∷ []) ∷ []
+
+unfoldable pub headBytes : ℕ → List ℕ → ℕ → List ℕ
+headBytes posts tracks trains = joined (headParts posts tracks trains)
+
+-- where each of them is, and how many bytes they are
+abbrev pub postsAt : ℕ
+postsAt = 0
+
+abbrev pub tracksAt : ℕ
+tracksAt = postsAt + 1
+
+abbrev pub trainsAt : ℕ
+trainsAt = tracksAt + 8
+
+abbrev pub headLength : ℕ
+headLength = trainsAt + 1
