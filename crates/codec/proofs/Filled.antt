@@ -110,7 +110,8 @@ begun e {s} {b} {p} size is y h n q =
 
 module _ (posts : ℕ) (tracks : List ℕ) (trains : ℕ) (eight : length tracks ≡ 8) where
   -- as the code writes it: a byte, the tracks at once, a byte
-  pub head-put : (s : List ℕ) {after : List ℕ} → headLength ≤ length s → after ≡ replacedIfRoom (set s postsAt posts) tracksAt tracks
+  pub head-put : (s : List ℕ) {after : List ℕ} → headLength ≤ length s
+      → after ≡ replacedIfRoom (set s postsAt posts) tracksAt tracks
       → set after trainsAt trains ≡ replaced s 0 (headBytes posts tracks trains)
   head-put s {after} room e =
       let head = headBytes posts tracks trains in
@@ -118,10 +119,12 @@ module _ (posts : ℕ) (tracks : List ℕ) (trains : ℕ) (eight : length tracks
       let b = replaced s 0 head in
       let size : length b ≡ length s = length-replaced s 0 head (omega arith) in
       let there : At b 0 head = replaced-at s 0 head (omega arith) in
-      let one = byte-more (none-filled {s = s} {b = b} (sym size)) posts (posts-at posts tracks trains eight there .byte 0 (omega arith))
-      (omega arith) in
-      let nine = part-more one (tracks-at posts tracks trains eight there) refl e (omega arith) trainsAt (omega arith) in
-      let all = byte-more nine trains (trains-at posts tracks trains eight there .byte 0 (omega arith)) (omega arith) in
+      let first = posts-at posts tracks trains eight there .byte 0 (omega arith) in
+      let last = trains-at posts tracks trains eight there .byte 0 (omega arith) in
+      let one = byte-more (none-filled {s = s} {b = b} (sym size)) posts first (omega arith) in
+      let nine =
+      part-more one (tracks-at posts tracks trains eight there) refl e (omega arith) trainsAt (omega arith) in
+      let all = byte-more nine trains last (omega arith) in
       ext-getD 0 (set after trainsAt trains) b (all .size)
       (λ k h. by-order k headLength (all .first k)
       (λ l. all .rest k l ∙ sym (replaced-after s 0 head (omega arith) k (omega arith))))

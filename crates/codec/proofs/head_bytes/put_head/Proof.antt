@@ -12,18 +12,6 @@ use Rattle.codec.proofs.Filled.{head-put}
 use Rattle.codec.proofs.head_bytes.put_head.Statement.{statement}
 use Rattle.codec.proofs.head_bytes.put_head.Tie as tie
 
-slice-write-to : tie.Need-slice-write-to
-slice-write-to c = search needs
-
-slice-aggregate-put : tie.Need-slice-aggregate-put
-slice-aggregate-put c = search needs
-
-put-requires : tie.Need-put-requires
-put-requires c κs = search needs
-
-slice-write-to-2 : tie.Need-slice-write-to-2
-slice-write-to-2 c = search needs
-
 module _ (c : tie.After-slice-known2) where
   abbrev from : tie.Start
   from = c .before .before .before .before .before .before
@@ -49,9 +37,9 @@ pub put-head-spec : {M : Type 1} → statement M
 put-head-spec =
     tie.close
     (tie.spec
-    slice-write-to
-    slice-aggregate-put
-    put-requires
-    slice-write-to-2
+    (λ c. search needs)
+    (λ c. search needs)
+    (λ c κs. search needs)
+    (λ c. search needs)
     same-length
     returns)

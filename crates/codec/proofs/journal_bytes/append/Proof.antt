@@ -17,9 +17,6 @@ Inv-loop bytes₀ at n items k₀ bytes k = Writing bytes₀ at items n bytes k
 abbrev μ-loop : tie.MeasureT-loop
 μ-loop bytes₀ at n items k₀ bytes k = n - k
 
-fitting-requires : tie.Need-fitting-requires Inv-loop μ-loop
-fitting-requires c κs = search needs
-
 -- seven of them, as the type says
 seven : (c : tie.Start Inv-loop μ-loop) → length (c .args .batch .items) ≡ batchLength
 seven c = simp length-map at (c .good .1 .1 .0 .1 .1 .0 .1 .0 .1)
@@ -35,12 +32,6 @@ mul-record-bytes c = omega arith
 array-copy-out-record-bytes : tie.Need-array-copy-out-record-bytes Inv-loop μ-loop
 array-copy-out-record-bytes c = omega arith
 
-record-bytes-requires : tie.Need-record-bytes-requires Inv-loop μ-loop
-record-bytes-requires c κs = search needs
-
-slice-aggregate-put : tie.Need-slice-aggregate-put Inv-loop μ-loop
-slice-aggregate-put c = search needs
-
 add-put : tie.Need-add-put Inv-loop μ-loop
 add-put c =
     let l = c .before .before .before .before .before in
@@ -50,9 +41,6 @@ mul-put : tie.Need-mul-put Inv-loop μ-loop
 mul-put c =
     let l = c .before .before .before .before .before in
     omega (arith, l .loop .inv .room (l .loop .k) (omega arith))
-
-put-requires : tie.Need-put-requires Inv-loop μ-loop
-put-requires c κs = search needs
 
 add-k : tie.Need-add-k Inv-loop μ-loop
 add-k c = omega arith
@@ -82,15 +70,15 @@ append-spec =
     (tie.spec
     Inv-loop
     μ-loop
-    fitting-requires
+    (λ c κs. search needs)
     loop-holds
     mul-record-bytes
     array-copy-out-record-bytes
-    record-bytes-requires
-    slice-aggregate-put
+    (λ c κs. search needs)
+    (λ c. search needs)
     add-put
     mul-put
-    put-requires
+    (λ c κs. search needs)
     add-k
     loop-less
     loop-again

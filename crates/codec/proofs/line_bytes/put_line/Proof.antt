@@ -27,20 +27,11 @@ mul-route-ends c = omega arith
 element-copy-out-route-ends : tie.Need-element-copy-out-route-ends Inv-loop μ-loop
 element-copy-out-route-ends c = omega arith
 
-route-ends-requires : tie.Need-route-ends-requires Inv-loop μ-loop
-route-ends-requires c κs = search needs
-
-slice-aggregate-put : tie.Need-slice-aggregate-put Inv-loop μ-loop
-slice-aggregate-put c = search needs
-
 mul-put : tie.Need-mul-put Inv-loop μ-loop
 mul-put c = omega (arith, c .before .before .before .before .before .loop .inv .0)
 
 add-put : tie.Need-add-put Inv-loop μ-loop
 add-put c = omega (arith, c .before .before .before .before .before .loop .inv .0)
-
-put-requires : tie.Need-put-requires Inv-loop μ-loop
-put-requires c κs = search needs
 
 -- the line, whose lists have the lengths that its type gives them
 module _ (c : tie.Start Inv-loop μ-loop) where
@@ -64,8 +55,8 @@ loop-holds c =
     let ten = head-length (l .posts) (l .tracks) (l .trains) (eight s) in
     let size = line-length l (eight s) (six s) in (
       omega arith,
-      begun (now (s .args .to)) (s .pre ∙ sym size) (c .before .before .put-head .ensures) (line-head l (eight s) (six s))
-          (omega arith) headLength (sym ten),
+      begun (now (s .args .to)) (s .pre ∙ sym size) (c .before .before .put-head .ensures)
+          (line-head l (eight s) (six s)) (omega arith) headLength (sym ten),
     )
 
 loop-again : tie.Need-loop-again Inv-loop μ-loop
@@ -105,11 +96,11 @@ put-line-spec =
     loop-holds
     mul-route-ends
     element-copy-out-route-ends
-    route-ends-requires
-    slice-aggregate-put
+    (λ c κs. search needs)
+    (λ c. search needs)
     mul-put
     add-put
-    put-requires
+    (λ c κs. search needs)
     add-t
     loop-less
     loop-again

@@ -40,9 +40,6 @@ add-encodes-status-2 c = omega arith
 shared-slice-read-encodes-status-2 : tie.Need-shared-slice-read-encodes-status-2 Inv-loop μ-loop
 shared-slice-read-encodes-status-2 c = let size = c .before .before .before .before .if1 .left in omega arith
 
-encodes-status-requires : tie.Need-encodes-status-requires Inv-loop μ-loop
-encodes-status-requires c κs = search needs
-
 returns-2 : tie.Need-returns-2 Inv-loop μ-loop
 returns-2 c =
     let l = c .before .before .before .before .before in
@@ -79,7 +76,7 @@ encodes-state-spec =
     shared-slice-read-encodes-status
     add-encodes-status-2
     shared-slice-read-encodes-status-2
-    encodes-status-requires
+    (λ c κs. search needs)
     returns-2
     add-t
     loop-less

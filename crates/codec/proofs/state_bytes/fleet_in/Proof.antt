@@ -18,9 +18,6 @@ Inv-loop bytes fleet₀ t₀ fleet t =
 abbrev μ-loop : tie.MeasureT-loop
 μ-loop bytes fleet₀ t₀ fleet t = 6 - t
 
-train-in-requires : tie.Need-train-in-requires Inv-loop μ-loop
-train-in-requires c κs = search needs
-
 loop-holds : tie.Need-loop-holds Inv-loop μ-loop
 loop-holds c = (omega arith, rw (c .train-in .ensures) (padded-none 6 _ _))
 
@@ -61,7 +58,7 @@ fleet-in-spec =
     (tie.spec
     Inv-loop
     μ-loop
-    train-in-requires
+    (λ c κs. search needs)
     loop-holds
     mul-train-in
     add-train-in

@@ -27,20 +27,11 @@ mul-train-bytes c = omega arith
 element-copy-out-train-bytes : tie.Need-element-copy-out-train-bytes Inv-loop μ-loop
 element-copy-out-train-bytes c = omega arith
 
-train-bytes-requires : tie.Need-train-bytes-requires Inv-loop μ-loop
-train-bytes-requires c κs = search needs
-
-slice-aggregate-put : tie.Need-slice-aggregate-put Inv-loop μ-loop
-slice-aggregate-put c = search needs
-
 mul-put : tie.Need-mul-put Inv-loop μ-loop
 mul-put c = omega (arith, c .before .before .before .before .before .loop .inv .0)
 
 add-put : tie.Need-add-put Inv-loop μ-loop
 add-put c = omega (arith, c .before .before .before .before .before .loop .inv .0)
-
-put-requires : tie.Need-put-requires Inv-loop μ-loop
-put-requires c κs = search needs
 
 -- the state, whose lists have the lengths that its type gives them
 module _ (c : tie.Start Inv-loop μ-loop) where
@@ -64,8 +55,8 @@ loop-holds c =
     let ten = head-length (v .posts) (v .tracks) (v .trains) (eight s) in
     let size = state-length v (eight s) (six s) in (
       omega arith,
-      begun (now (s .args .to)) (s .pre ∙ sym size) (c .before .before .put-head .ensures) (state-head v (eight s) (six s))
-          (omega arith) headLength (sym ten),
+      begun (now (s .args .to)) (s .pre ∙ sym size) (c .before .before .put-head .ensures)
+          (state-head v (eight s) (six s)) (omega arith) headLength (sym ten),
     )
 
 loop-again : tie.Need-loop-again Inv-loop μ-loop
@@ -115,11 +106,11 @@ put-state-spec =
     loop-holds
     mul-train-bytes
     element-copy-out-train-bytes
-    train-bytes-requires
-    slice-aggregate-put
+    (λ c κs. search needs)
+    (λ c. search needs)
     mul-put
     add-put
-    put-requires
+    (λ c κs. search needs)
     add-t
     loop-less
     loop-again

@@ -4,12 +4,9 @@ use borrow.Author.Needs.{needs}
 use Rattle.codec.proofs.unit_bytes.bytes_of.Statement.{statement}
 use Rattle.codec.proofs.unit_bytes.bytes_of.Tie as tie
 
-phase-number-requires : tie.Need-phase-number-requires
-phase-number-requires c κs = search needs
-
 returns : tie.Need-returns
 unfolding unitBytes
 returns c = rw (c .phase-number .ensures)
 
 pub bytes-of-spec : {M : Type 1} → statement M
-bytes-of-spec = tie.close (tie.spec phase-number-requires returns)
+bytes-of-spec = tie.close (tie.spec (λ c κs. search needs) returns)

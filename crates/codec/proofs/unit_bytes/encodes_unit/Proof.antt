@@ -7,11 +7,8 @@ use Rattle.codec.proofs.unit_bytes.encodes_unit.Tie as tie
 returns : tie.Need-returns
 returns c = other-length _ (c .if1 .taken)
 
-shared-slice-read-result : tie.Need-shared-slice-read-result
-shared-slice-read-result c = search needs
-
 returns-2 : tie.Need-returns-2
 returns-2 c = by-phase _ (c .before .if1 .left)
 
 pub encodes-unit-spec : {M : Type 1} → statement M
-encodes-unit-spec = tie.close (tie.spec returns shared-slice-read-result returns-2)
+encodes-unit-spec = tie.close (tie.spec returns (λ c. search needs) returns-2)

@@ -5,18 +5,6 @@ use borrow.Author.Needs.{needs}
 use Rattle.codec.proofs.unit_bytes.put_unit.Statement.{statement}
 use Rattle.codec.proofs.unit_bytes.put_unit.Tie as tie
 
-bytes-of-requires : tie.Need-bytes-of-requires
-bytes-of-requires c κs = search needs
-
-slice-aggregate-put : tie.Need-slice-aggregate-put
-slice-aggregate-put c = search needs
-
-put-requires : tie.Need-put-requires
-put-requires c κs = search needs
-
-same-length : tie.Need-same-length
-same-length c = search needs
-
 returns : tie.Need-returns
 unfolding unitBytes
 returns c =
@@ -25,4 +13,4 @@ returns c =
 
 pub put-unit-spec : {M : Type 1} → statement M
 put-unit-spec =
-    tie.close (tie.spec bytes-of-requires slice-aggregate-put put-requires same-length returns)
+    tie.close (tie.spec (λ c κs. search needs) (λ c. search needs) (λ c κs. search needs) (λ c. search needs) returns)

@@ -13,9 +13,6 @@ use borrow.Author.Needs.{needs}
 use Rattle.quangevit.proofs.cab.press_refusal.Statement.{statement}
 use Rattle.quangevit.proofs.cab.press_refusal.Tie as tie
 
-encodes-unit-requires : tie.Need-encodes-unit-requires
-encodes-unit-requires c κs = search needs
-
 returns : tie.Need-returns
 returns c =
     let a = c .before .before .before .args in
@@ -42,9 +39,6 @@ module _ (c : tie.Else2) where
 
 unit-in-requires : tie.Need-unit-in-requires
 unit-in-requires c κs = encoded-length _ (encoded c)
-
-valid-requires : tie.Need-valid-requires
-valid-requires c κs = search needs
 
 returns-2 : tie.Need-returns-2
 returns-2 c =
@@ -75,10 +69,10 @@ pub press-refusal-spec : {M : Type 1} → statement M
 press-refusal-spec =
     tie.close
     (tie.spec
-    encodes-unit-requires
+    (λ c κs. search needs)
     returns
     unit-in-requires
-    valid-requires
+    (λ c κs. search needs)
     returns-2
     returns-3
     returns-4

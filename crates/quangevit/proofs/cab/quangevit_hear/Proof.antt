@@ -12,15 +12,6 @@ use borrow.Author.Needs.{needs}
 use Rattle.quangevit.proofs.cab.quangevit_hear.Statement.{statement}
 use Rattle.quangevit.proofs.cab.quangevit_hear.Tie as tie
 
-encodes-unit-requires : tie.Need-encodes-unit-requires
-encodes-unit-requires c κs = search needs
-
-word-of-requires : tie.Need-word-of-requires
-word-of-requires c κs = search needs
-
-same-length : tie.Need-same-length
-same-length c = search needs
-
 returns : tie.Need-returns
 returns c =
     not-heard _ _ (sym (c .before .before .encodes-unit .ensures) ∙ not-true _ (c .before .if1 .taken)) _
@@ -37,17 +28,8 @@ module _ (c : tie.Else1) where
 unit-in-requires : tie.Need-unit-in-requires
 unit-in-requires c κs = encoded-length _ (encoded (c .before))
 
-hear-requires : tie.Need-hear-requires
-hear-requires c κs = search needs
-
 put-unit-requires : tie.Need-put-unit-requires
 put-unit-requires c κs = encoded-length _ (encoded (c .before .before .before .before))
-
-word-of-requires-2 : tie.Need-word-of-requires-2
-word-of-requires-2 c κs = search needs
-
-same-length-2 : tie.Need-same-length-2
-same-length-2 c = search needs
 
 returns-2 : tie.Need-returns-2
 returns-2 c =
@@ -61,13 +43,13 @@ pub quangevit-hear-spec : {M : Type 1} → statement M
 quangevit-hear-spec =
     tie.close
     (tie.spec
-    encodes-unit-requires
-    word-of-requires
-    same-length
+    (λ c κs. search needs)
+    (λ c κs. search needs)
+    (λ c. search needs)
     returns
     unit-in-requires
-    hear-requires
+    (λ c κs. search needs)
     put-unit-requires
-    word-of-requires-2
-    same-length-2
+    (λ c κs. search needs)
+    (λ c. search needs)
     returns-2)

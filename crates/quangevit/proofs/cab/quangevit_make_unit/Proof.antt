@@ -4,23 +4,8 @@ use borrow.Author.Needs.{needs}
 use Rattle.quangevit.proofs.cab.quangevit_make_unit.Statement.{statement}
 use Rattle.quangevit.proofs.cab.quangevit_make_unit.Tie as tie
 
-word-of-requires : tie.Need-word-of-requires
-word-of-requires c κs = search needs
-
 returns : tie.Need-returns
 returns c = not-made _ _ _ _ (c .before .if1 .taken) _ (c .word-of .ensures)
-
-make-requires : tie.Need-make-requires
-make-requires c κs = search needs
-
-put-unit-requires : tie.Need-put-unit-requires
-put-unit-requires c κs = search needs
-
-word-of-requires-2 : tie.Need-word-of-requires-2
-word-of-requires-2 c κs = search needs
-
-same-length : tie.Need-same-length
-same-length c = search needs
 
 returns-2 : tie.Need-returns-2
 returns-2 c =
@@ -32,10 +17,10 @@ pub quangevit-make-unit-spec : {M : Type 1} → statement M
 quangevit-make-unit-spec =
     tie.close
     (tie.spec
-    word-of-requires
+    (λ c κs. search needs)
     returns
-    make-requires
-    put-unit-requires
-    word-of-requires-2
-    same-length
+    (λ c κs. search needs)
+    (λ c κs. search needs)
+    (λ c κs. search needs)
+    (λ c. search needs)
     returns-2)

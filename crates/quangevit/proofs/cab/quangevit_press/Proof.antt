@@ -14,15 +14,6 @@ use borrow.Author.Needs.{needs}
 use Rattle.quangevit.proofs.cab.quangevit_press.Statement.{statement}
 use Rattle.quangevit.proofs.cab.quangevit_press.Tie as tie
 
-press-refusal-requires : tie.Need-press-refusal-requires
-press-refusal-requires c κs = search needs
-
-word-of-requires : tie.Need-word-of-requires
-word-of-requires c κs = search needs
-
-same-length : tie.Need-same-length
-same-length c = search needs
-
 returns : tie.Need-returns
 returns c =
     let p = c .before .before in
@@ -53,12 +44,6 @@ module _ (c : tie.Else1) where
 unit-in-requires : tie.Need-unit-in-requires
 unit-in-requires c κs = five (c .before)
 
-button-of-requires : tie.Need-button-of-requires
-button-of-requires c κs = search needs
-
-press-requires : tie.Need-press-requires
-press-requires c κs = search needs
-
 put-unit-requires : tie.Need-put-unit-requires
 put-unit-requires c κs = five (c .before .before .before .before .before)
 
@@ -67,15 +52,6 @@ send-requires c κs =
     let p = c .before .before .before .before .before .before in
     let e = p .before .before .before .before in
     has-room (unit e) (button e) (frame e) (passed e)
-
-word-of-requires-2 : tie.Need-word-of-requires-2
-word-of-requires-2 c κs = search needs
-
-same-length-2 : tie.Need-same-length-2
-same-length-2 c = search needs
-
-same-length-3 : tie.Need-same-length-3
-same-length-3 c = search needs
 
 returns-2 : tie.Need-returns-2
 returns-2 c =
@@ -91,16 +67,16 @@ pub quangevit-press-spec : {M : Type 1} → statement M
 quangevit-press-spec =
     tie.close
     (tie.spec
-    press-refusal-requires
-    word-of-requires
-    same-length
+    (λ c κs. search needs)
+    (λ c κs. search needs)
+    (λ c. search needs)
     returns
     unit-in-requires
-    button-of-requires
-    press-requires
+    (λ c κs. search needs)
+    (λ c κs. search needs)
     put-unit-requires
     send-requires
-    word-of-requires-2
-    same-length-2
-    same-length-3
+    (λ c κs. search needs)
+    (λ c. search needs)
+    (λ c. search needs)
     returns-2)

@@ -11,12 +11,6 @@ returns c =
     let a = c .before .before .args in
     none-sent (a .sent) (now (a .frame)) (a .bytes) (not-true _ (c .if1 .taken))
 
-place-requires : tie.Need-place-requires
-place-requires c κs = search needs
-
-same-length : tie.Need-same-length
-same-length c = search needs
-
 returns-2 : tie.Need-returns-2
 returns-2 c =
     let p = c .before .before in
@@ -26,4 +20,4 @@ returns-2 c =
     (p .place .ensures .1)
 
 pub send-spec : {M : Type 1} → statement M
-send-spec = tie.close (tie.spec returns place-requires same-length returns-2)
+send-spec = tie.close (tie.spec returns (λ c κs. search needs) (λ c. search needs) returns-2)

@@ -12,15 +12,6 @@ use borrow.Author.Needs.{needs}
 use Rattle.quangevit.proofs.office.quangevit_answer.Statement.{statement}
 use Rattle.quangevit.proofs.office.quangevit_answer.Tie as tie
 
-encodes-state-requires : tie.Need-encodes-state-requires
-encodes-state-requires c κs = search needs
-
-word-of-requires : tie.Need-word-of-requires
-word-of-requires c κs = search needs
-
-same-length : tie.Need-same-length
-same-length c = search needs
-
 returns : tie.Need-returns
 returns c =
     let e = c .before .before in
@@ -38,21 +29,6 @@ module _ (c : tie.Else1) where
 
 state-in-requires : tie.Need-state-in-requires
 state-in-requires c κs = encoded-length _ (encoded (c .before))
-
-step-requires : tie.Need-step-requires
-step-requires c κs = search needs
-
-enum-known-verdict : tie.Need-enum-known-verdict
-enum-known-verdict c = search needs
-
-word-of-requires-2 : tie.Need-word-of-requires-2
-word-of-requires-2 c κs = search needs
-
-enum-known-verdict-2 : tie.Need-enum-known-verdict-2
-enum-known-verdict-2 c = search needs
-
-append-requires : tie.Need-append-requires
-append-requires c κs = search needs
 
 -- where the step was made
 module _ (c : tie.After-step) where
@@ -72,15 +48,6 @@ put-changes-requires c κs =
           (read o .state-in .ensures) _ _ (o .step .ensures),
     )
 
-word-of-requires-3 : tie.Need-word-of-requires-3
-word-of-requires-3 c κs = search needs
-
-same-length-2 : tie.Need-same-length-2
-same-length-2 c = search needs
-
-same-length-3 : tie.Need-same-length-3
-same-length-3 c = search needs
-
 returns-2 : tie.Need-returns-2
 returns-2 c =
     let v = c .before .before in
@@ -89,15 +56,6 @@ returns-2 c =
     answer-refused (now (a .state)) (now (a .table)) (now (a .journal)) (now (a .frame)) (now (a .out))
     (encoded (tested o)) _ (read o .state-in .ensures) _ _ (o .step .ensures) _ (v .verdict .given .1) _
     (c .word-of2 .ensures)
-
-same-length-4 : tie.Need-same-length-4
-same-length-4 c = search needs
-
-same-length-5 : tie.Need-same-length-5
-same-length-5 c = search needs
-
-same-length-6 : tie.Need-same-length-6
-same-length-6 c = search needs
 
 returns-3 : tie.Need-returns-3
 returns-3 c =
@@ -114,22 +72,22 @@ pub quangevit-answer-spec : {M : Type 1} → statement M
 quangevit-answer-spec =
     tie.close
     (tie.spec
-    encodes-state-requires
-    word-of-requires
-    same-length
+    (λ c κs. search needs)
+    (λ c κs. search needs)
+    (λ c. search needs)
     returns
     state-in-requires
-    step-requires
-    enum-known-verdict
-    word-of-requires-2
-    enum-known-verdict-2
-    append-requires
+    (λ c κs. search needs)
+    (λ c. search needs)
+    (λ c κs. search needs)
+    (λ c. search needs)
+    (λ c κs. search needs)
     put-changes-requires
-    word-of-requires-3
-    same-length-2
-    same-length-3
+    (λ c κs. search needs)
+    (λ c. search needs)
+    (λ c. search needs)
     returns-2
-    same-length-4
-    same-length-5
-    same-length-6
+    (λ c. search needs)
+    (λ c. search needs)
+    (λ c. search needs)
     returns-3)

@@ -5,29 +5,11 @@ use borrow.Author.Needs.{needs}
 use Rattle.quangevit.proofs.office.quangevit_open.Statement.{statement}
 use Rattle.quangevit.proofs.office.quangevit_open.Tie as tie
 
-word-of-requires : tie.Need-word-of-requires
-word-of-requires c κs = search needs
-
 returns : tie.Need-returns
 returns c =
     let a = c .before .before .before .before .before .before .args in
     not-opened (now (a .book)) (now (a .state)) (now (a .table)) (now (a .journal)) (c .before .if1 .taken) _
     (c .word-of .ensures)
-
-open-with-requires : tie.Need-open-with-requires
-open-with-requires c κs = search needs
-
-put-state-requires : tie.Need-put-state-requires
-put-state-requires c κs = search needs
-
-word-of-requires-2 : tie.Need-word-of-requires-2
-word-of-requires-2 c κs = search needs
-
-same-length : tie.Need-same-length
-same-length c = search needs
-
-same-length-2 : tie.Need-same-length-2
-same-length-2 c = search needs
 
 returns-2 : tie.Need-returns-2
 returns-2 c =
@@ -42,11 +24,11 @@ pub quangevit-open-spec : {M : Type 1} → statement M
 quangevit-open-spec =
     tie.close
     (tie.spec
-    word-of-requires
+    (λ c κs. search needs)
     returns
-    open-with-requires
-    put-state-requires
-    word-of-requires-2
-    same-length
-    same-length-2
+    (λ c κs. search needs)
+    (λ c κs. search needs)
+    (λ c κs. search needs)
+    (λ c. search needs)
+    (λ c. search needs)
     returns-2)
