@@ -1,11 +1,11 @@
 -- Laws of statuses, phases and buttons as numbers, and of a list that a loop has filled.
-use mathlib.Core.Path.{_≡_}
+use mathlib.Core.Path.{_≡_, sym}
 use mathlib.Core.Logic.{_≢_}
-use mathlib.Core.Bool.{true, false}
-use Prim.Native.Nat.{ℕ, _≤_, _<_}
+use mathlib.Core.Bool.{true, false, and-true, and-false}
+use Prim.Native.Nat.{ℕ, _≤_}
 use native.Mathlib.Omega.{arith}
-use lib.Dec.{eqb}
-use borrow.Author.Tests.{ne-eqb, le-leb, lt-leb, lt-ltb}
+use lib.Dec.{leb}
+use borrow.Author.Tests.{ne-eqb, lt-ltb}
 use Rattle.common.specs.Tabulate.{tabulate, padded}
 use Rattle.common.proofs.Tabulate.{tabulate-cong}
 use Rattle.encoding.specs.Types.{Running, Arrived, Report}
@@ -22,14 +22,14 @@ module _ (k n : ℕ) where
   unfolding statusOf
   running h = rw (ne-eqb k 0 (λ e. omega arith), ne-eqb k 1 (λ e. omega arith))
 
-  pub no-status : 2 < k → false ≡ encodesStatus k n
-  no-status h = rw (lt-leb k 2 h)
-
   pub asked-number : k ≡ 1 → true ≡ encodesStatus k n
   asked-number e = rw e
 
-  pub other-number : k ≤ 2 → k ≢ 1 → eqb n 0 ≡ encodesStatus k n
-  other-number h e = rw (le-leb k 2 h, ne-eqb k 1 e)
+  pub no-number : k ≢ 1 → n ≢ 0 → false ≡ encodesStatus k n
+  no-number h e = rw (ne-eqb k 1 h, ne-eqb n 0 e) (sym (and-false (leb k 2)))
+
+  pub other-status : k ≢ 1 → n ≡ 0 → leb k 2 ≡ encodesStatus k n
+  other-status h e = rw (ne-eqb k 1 h, e) (sym (and-true (leb k 2)))
 
 pub last-phase : (n : ℕ) → 5 ≤ n → Arrived ≡ phaseOf n
 unfolding phaseOf

@@ -2,8 +2,8 @@
 ghost use mathlib.Core.Path.{_≡_};
 ghost use Prim.Native.Nat.{_+_, _≤_};
 ghost use lib.ListN.{length};
-ghost use Rattle.rules.specs.State.{askedAs, lineOf};
-ghost use Rattle.encoding.specs.StateBytes.{statusNo, standingBytes, trainLength, trainBytes, stateLength, stateBytes};
+ghost use Rattle.rules.specs.State.{lineOf};
+ghost use Rattle.encoding.specs.StateBytes.{standingBytes, trainLength, trainBytes, stateLength, stateBytes};
 ghost use Rattle.encoding.specs.StateBytes.{encodesStatus, encodesState, statusOf, trainIn, tracksIn, fleetIn, stateIn};
 use crate::head_bytes::HEAD_LENGTH;
 use crate::head_bytes::POSTS_AT;
@@ -50,13 +50,13 @@ pub fn encodes_state(bytes: &[u8]) -> bool
 fn encodes_status(status: u8, number: u8) -> bool
     ensures { λ r. ⌜ r ≡ encodesStatus status number ⌝ }
 {
-    if 2 < status {
-        return false;
-    }
     if status == 1 {
         return true;
     }
-    number == 0
+    if number != 0 {
+        return false;
+    }
+    status <= 2
 }
 
 // The state that they encode.
@@ -176,28 +176,9 @@ fn standing_bytes(train: Train) -> [u8; STANDING_LENGTH]
     ensures { λ r. ⌜ r ≡ standingBytes train ⌝ }
 {
     let status = train.status;
-    let kind = status_number(status);
-    let number = request_number(status);
-    [train.at.0, kind, number]
-}
-
-fn status_number(status: Status) -> u8
-    ensures { λ r. ⌜ r ≡ statusNo status ⌝ }
-{
     match status {
-        Status::Free => 0,
-        Status::Asked(_) => 1,
-        Status::Running => 2,
-    }
-}
-
-// The number of an Asked train's request; 0 of another.
-fn request_number(status: Status) -> u8
-    ensures { λ r. ⌜ r ≡ askedAs status ⌝ }
-{
-    match status {
-        Status::Free => 0,
-        Status::Asked(n) => n,
-        Status::Running => 0,
+        Status::Free => [train.at.0, 0, 0],
+        Status::Asked(number) => [train.at.0, 1, number],
+        Status::Running => [train.at.0, 2, 0],
     }
 }

@@ -73,7 +73,7 @@ unit-back : (u : Unit) → unitIn (unitBytes u) ≡ u
 unfolding unitBytes
 unit-back u = rw (phase-back (u .phase))
 
-unit-only : (b : List ℕ) → encodesUnit b ≡ true → unitBytes (unitIn b) ≡ b
+pub unit-only : (b : List ℕ) → encodesUnit b ≡ true → unitBytes (unitIn b) ≡ b
 unfolding unitBytes
 unit-only b h =
     let five = units.encoded-length b h in
