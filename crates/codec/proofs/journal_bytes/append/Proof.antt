@@ -26,12 +26,6 @@ loop-holds c =
     let a = c .before .before .before in
     start (now (a .args .bytes)) (a .args .at) (a .args .batch) (seven a) _ (c .before .fitting .ensures)
 
-mul-record-bytes : tie.Need-mul-record-bytes Inv-loop μ-loop
-mul-record-bytes c = omega arith
-
-array-copy-out-record-bytes : tie.Need-array-copy-out-record-bytes Inv-loop μ-loop
-array-copy-out-record-bytes c = omega arith
-
 add-put : tie.Need-add-put Inv-loop μ-loop
 add-put c =
     let l = c .before .before .before .before .before in
@@ -41,12 +35,6 @@ mul-put : tie.Need-mul-put Inv-loop μ-loop
 mul-put c =
     let l = c .before .before .before .before .before in
     omega (arith, l .loop .inv .room (l .loop .k) (omega arith))
-
-add-k : tie.Need-add-k Inv-loop μ-loop
-add-k c = omega arith
-
-loop-less : tie.Need-loop-less Inv-loop μ-loop
-loop-less c = omega arith
 
 loop-again : tie.Need-loop-again Inv-loop μ-loop
 loop-again c =
@@ -72,15 +60,15 @@ append-spec =
     μ-loop
     (λ c κs. search needs)
     loop-holds
-    mul-record-bytes
-    array-copy-out-record-bytes
+    (λ c. omega arith)
+    (λ c. omega arith)
     (λ c κs. search needs)
     (λ c. search needs)
     add-put
     mul-put
     (λ c κs. search needs)
-    add-k
-    loop-less
+    (λ c. omega arith)
+    (λ c. omega arith)
     loop-again
     same-length
     returns)

@@ -21,12 +21,6 @@ abbrev μ-loop : tie.MeasureT-loop
 put-head-requires : tie.Need-put-head-requires Inv-loop μ-loop
 put-head-requires c κs = omega (arith, c .before .before .before .pre)
 
-mul-route-ends : tie.Need-mul-route-ends Inv-loop μ-loop
-mul-route-ends c = omega arith
-
-element-copy-out-route-ends : tie.Need-element-copy-out-route-ends Inv-loop μ-loop
-element-copy-out-route-ends c = omega arith
-
 mul-put : tie.Need-mul-put Inv-loop μ-loop
 mul-put c = omega (arith, c .before .before .before .before .before .loop .inv .0)
 
@@ -41,12 +35,6 @@ module _ (c : tie.Start Inv-loop μ-loop) where
   -- the path goes down what is known of an argument of this type
   six : length (c .args .t1 .routes) ≡ 6
   six = simp length-map at (c .good .0 .1 .1 .1 .1 .1 .0 .1 .0 .1)
-
-add-t : tie.Need-add-t Inv-loop μ-loop
-add-t c = omega arith
-
-loop-less : tie.Need-loop-less Inv-loop μ-loop
-loop-less c = omega arith
 
 loop-holds : tie.Need-loop-holds Inv-loop μ-loop
 loop-holds c =
@@ -94,15 +82,15 @@ put-line-spec =
     μ-loop
     put-head-requires
     loop-holds
-    mul-route-ends
-    element-copy-out-route-ends
+    (λ c. omega arith)
+    (λ c. omega arith)
     (λ c κs. search needs)
     (λ c. search needs)
     mul-put
     add-put
     (λ c κs. search needs)
-    add-t
-    loop-less
+    (λ c. omega arith)
+    (λ c. omega arith)
     loop-again
     same-length
     returns)

@@ -27,20 +27,8 @@ loop-holds c =
     let a = c .before .before .args in
     record { few = omega arith; room = omega arith; copied = paste-zero (a .to .now) (a .at) (a .bytes .now) }
 
-shared-slice-read-to : tie.Need-shared-slice-read-to Inv-loop μ-loop
-shared-slice-read-to c = omega arith
-
-add-to : tie.Need-add-to Inv-loop μ-loop
-add-to c = omega arith
-
 slice-write-to : tie.Need-slice-write-to Inv-loop μ-loop
 slice-write-to c = omega (arith, same-size (c .before .before .loop .inv))
-
-add-i : tie.Need-add-i Inv-loop μ-loop
-add-i c = omega arith
-
-loop-less : tie.Need-loop-less Inv-loop μ-loop
-loop-less c = omega arith
 
 loop-again : tie.Need-loop-again Inv-loop μ-loop
 loop-again c = one-more (c .before .before .loop .inv) (omega arith)
@@ -61,11 +49,11 @@ put-spec =
     (λ c. search needs)
     returns-2
     loop-holds
-    shared-slice-read-to
-    add-to
+    (λ c. omega arith)
+    (λ c. omega arith)
     slice-write-to
-    add-i
-    loop-less
+    (λ c. omega arith)
+    (λ c. omega arith)
     loop-again
     same-length
     returns-3)

@@ -22,20 +22,8 @@ returns c = other-length _ (c .if1 .taken)
 loop-holds : tie.Need-loop-holds Inv-loop μ-loop
 loop-holds c = passing-none _ _
 
-mul-i : tie.Need-mul-i Inv-loop μ-loop
-mul-i c = omega arith
-
-add-i : tie.Need-add-i Inv-loop μ-loop
-add-i c = omega arith
-
-add-encodes-status : tie.Need-add-encodes-status Inv-loop μ-loop
-add-encodes-status c = omega arith
-
 shared-slice-read-encodes-status : tie.Need-shared-slice-read-encodes-status Inv-loop μ-loop
 shared-slice-read-encodes-status c = let size = c .before .before .before .if1 .left in omega arith
-
-add-encodes-status-2 : tie.Need-add-encodes-status-2 Inv-loop μ-loop
-add-encodes-status-2 c = omega arith
 
 shared-slice-read-encodes-status-2 : tie.Need-shared-slice-read-encodes-status-2 Inv-loop μ-loop
 shared-slice-read-encodes-status-2 c = let size = c .before .before .before .before .if1 .left in omega arith
@@ -45,12 +33,6 @@ returns-2 c =
     let l = c .before .before .before .before .before in
     passing-fails (l .loop .inv) (omega arith) (sym (c .before .encodes-status .ensures) ∙ not-true _ (c .if2 .taken))
     ∙ by-trains _ (l .before .if1 .left)
-
-add-t : tie.Need-add-t Inv-loop μ-loop
-add-t c = omega arith
-
-loop-less : tie.Need-loop-less Inv-loop μ-loop
-loop-less c = omega arith
 
 loop-again : tie.Need-loop-again Inv-loop μ-loop
 loop-again c =
@@ -70,15 +52,15 @@ encodes-state-spec =
     μ-loop
     returns
     loop-holds
-    mul-i
-    add-i
-    add-encodes-status
+    (λ c. omega arith)
+    (λ c. omega arith)
+    (λ c. omega arith)
     shared-slice-read-encodes-status
-    add-encodes-status-2
+    (λ c. omega arith)
     shared-slice-read-encodes-status-2
     (λ c κs. search needs)
     returns-2
-    add-t
-    loop-less
+    (λ c. omega arith)
+    (λ c. omega arith)
     loop-again
     returns-3)

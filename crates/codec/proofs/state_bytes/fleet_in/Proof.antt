@@ -21,26 +21,8 @@ abbrev μ-loop : tie.MeasureT-loop
 loop-holds : tie.Need-loop-holds Inv-loop μ-loop
 loop-holds c = (omega arith, rw (c .train-in .ensures) (padded-none 6 _ _))
 
-mul-train-in : tie.Need-mul-train-in Inv-loop μ-loop
-mul-train-in c = omega arith
-
-add-train-in : tie.Need-add-train-in Inv-loop μ-loop
-add-train-in c = omega arith
-
 train-in-requires-2 : tie.Need-train-in-requires-2 Inv-loop μ-loop
 train-in-requires-2 c κs = let size = c .before .before .before .before .pre in omega arith
-
-mul-fleet : tie.Need-mul-fleet Inv-loop μ-loop
-mul-fleet c = omega arith
-
-array-set-from-fleet : tie.Need-array-set-from-fleet Inv-loop μ-loop
-array-set-from-fleet c = omega arith
-
-add-t : tie.Need-add-t Inv-loop μ-loop
-add-t c = omega arith
-
-loop-less : tie.Need-loop-less Inv-loop μ-loop
-loop-less c = omega arith
 
 loop-again : tie.Need-loop-again Inv-loop μ-loop
 loop-again c =
@@ -60,12 +42,12 @@ fleet-in-spec =
     μ-loop
     (λ c κs. search needs)
     loop-holds
-    mul-train-in
-    add-train-in
+    (λ c. omega arith)
+    (λ c. omega arith)
     train-in-requires-2
-    mul-fleet
-    array-set-from-fleet
-    add-t
-    loop-less
+    (λ c. omega arith)
+    (λ c. omega arith)
+    (λ c. omega arith)
+    (λ c. omega arith)
     loop-again
     returns)

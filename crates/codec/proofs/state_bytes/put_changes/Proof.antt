@@ -43,12 +43,6 @@ loop-holds c =
           (state-head v (eight s) (six s)) headLength (omega (arith, ten)),
     )
 
-mul-standing-bytes : tie.Need-mul-standing-bytes Inv-loop μ-loop
-mul-standing-bytes c = omega arith
-
-array-copy-out-standing-bytes : tie.Need-array-copy-out-standing-bytes Inv-loop μ-loop
-array-copy-out-standing-bytes c = omega arith
-
 mul-put : tie.Need-mul-put Inv-loop μ-loop
 mul-put c = omega (arith, c .before .before .before .before .before .loop .inv .0)
 
@@ -57,12 +51,6 @@ add-put c = omega (arith, c .before .before .before .before .before .loop .inv .
 
 add-put-2 : tie.Need-add-put-2 Inv-loop μ-loop
 add-put-2 c = omega (arith, c .before .before .before .before .before .loop .inv .0)
-
-add-t : tie.Need-add-t Inv-loop μ-loop
-add-t c = omega arith
-
-loop-less : tie.Need-loop-less Inv-loop μ-loop
-loop-less c = omega arith
 
 loop-again : tie.Need-loop-again Inv-loop μ-loop
 loop-again c =
@@ -107,16 +95,16 @@ put-changes-spec =
     Inv-loop
     μ-loop
     loop-holds
-    mul-standing-bytes
-    array-copy-out-standing-bytes
+    (λ c. omega arith)
+    (λ c. omega arith)
     (λ c κs. search needs)
     (λ c. search needs)
     mul-put
     add-put
     add-put-2
     (λ c κs. search needs)
-    add-t
-    loop-less
+    (λ c. omega arith)
+    (λ c. omega arith)
     loop-again
     slice-write-to
     same-length

@@ -19,20 +19,8 @@ abbrev μ-loop : tie.MeasureT-loop
 loop-holds : tie.Need-loop-holds Inv-loop μ-loop
 loop-holds c = (omega arith, padded-none 8 _ 0)
 
-add-tracks : tie.Need-add-tracks Inv-loop μ-loop
-add-tracks c = omega arith
-
 shared-slice-read-tracks : tie.Need-shared-slice-read-tracks Inv-loop μ-loop
 shared-slice-read-tracks c = let size = c .before .before .before .pre in omega arith
-
-array-write-tracks : tie.Need-array-write-tracks Inv-loop μ-loop
-array-write-tracks c = omega arith
-
-add-p : tie.Need-add-p Inv-loop μ-loop
-add-p c = omega arith
-
-loop-less : tie.Need-loop-less Inv-loop μ-loop
-loop-less c = omega arith
 
 loop-again : tie.Need-loop-again Inv-loop μ-loop
 loop-again c =
@@ -51,10 +39,10 @@ tracks-in-spec =
     Inv-loop
     μ-loop
     loop-holds
-    add-tracks
+    (λ c. omega arith)
     shared-slice-read-tracks
-    array-write-tracks
-    add-p
-    loop-less
+    (λ c. omega arith)
+    (λ c. omega arith)
+    (λ c. omega arith)
     loop-again
     returns)
