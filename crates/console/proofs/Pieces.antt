@@ -9,30 +9,30 @@ use lib.ListN.{length, take, set, getD, replicate, length-append, List·getD-app
 use lib.Seq.{take-all, take-append-seam}
 use Rattle.common.proofs.Tests.{by-order}
 use Rattle.line.specs.Claims.{longest}
-use Rattle.printout.proofs.Room.{padded-more}
+use Rattle.printout.proofs.Room.{zeroed-more}
 use Rattle.console.specs.Types.{Piece}
-use Rattle.console.specs.Piece.{pieceOf, bytesOf, withByte, bookLength, isBook}
+use Rattle.console.specs.Piece.{pieceOf, pieceBytes, pieceWith, bookLength, isBook}
 
 -- one byte more, where there is room and where there is none
 pub one-more : (p : Piece) (x : ℕ) → p .length < longest
-    → record { bytes = set (p .bytes) (p .length) x; length = p .length + 1 } ≡ withByte p x
-unfolding withByte
+    → record { bytes = set (p .bytes) (p .length) x; length = p .length + 1 } ≡ pieceWith p x
+unfolding pieceWith
 one-more p x h = rw (lt-ltb (p .length) longest h)
 
-pub none-more : (p : Piece) (x : ℕ) → longest ≤ p .length → p ≡ withByte p x
-unfolding withByte
+pub none-more : (p : Piece) (x : ℕ) → longest ≤ p .length → p ≡ pieceWith p x
+unfolding pieceWith
 none-more p x h = rw (le-ltb (p .length) longest h)
 
 -- how many bytes there are, where the length is more than the room
-pub none-past : (p : Piece) → length (p .bytes) ≡ longest → longest ≤ p .length → take longest (p .bytes) ≡ bytesOf p
+pub none-past : (p : Piece) → length (p .bytes) ≡ longest → longest ≤ p .length → take longest (p .bytes) ≡ pieceBytes p
 none-past p e h = take-all longest (p .bytes) (omega arith) ∙ sym (take-all (p .length) (p .bytes) (omega arith))
 
 -- ---- the piece of which l has come
 
-pub piece-more : (l : List ℕ) (x : ℕ) → length l < longest → withByte (pieceOf l) x ≡ pieceOf (l ++ (x ∷ []))
-piece-more l x h = sym (one-more (pieceOf l) x h) ∙ rw (padded-more longest l x h, length-append l (x ∷ []))
+pub piece-more : (l : List ℕ) (x : ℕ) → length l < longest → pieceWith (pieceOf l) x ≡ pieceOf (l ++ (x ∷ []))
+piece-more l x h = sym (one-more (pieceOf l) x h) ∙ rw (zeroed-more longest l x h, length-append l (x ∷ []))
 
-pub piece-bytes : (l : List ℕ) → bytesOf (pieceOf l) ≡ l
+pub piece-bytes : (l : List ℕ) → pieceBytes (pieceOf l) ≡ l
 piece-bytes l = take-append-seam l (replicate (longest - length l) 0)
 
 -- ---- the length of a book

@@ -10,7 +10,7 @@ use lib.ListN.{length, take, getD}
 use lib.Seq.{take-suc}
 use Rattle.rules.specs.Opening.{openingOf, opening}
 use Rattle.console.specs.Types.{State, Run, Opened, Piece, Phase, Refused, Frames, Console}
-use Rattle.console.specs.Piece.{pieceOf, bytesOf, isBook}
+use Rattle.console.specs.Piece.{pieceOf, pieceBytes, isBook}
 use Rattle.console.specs.Run.{begun, afterFrame}
 use Rattle.console.specs.Console as c
 use Rattle.console.specs.Console.{Desk, deskOf}
@@ -28,7 +28,7 @@ unfolding c.afterOpening
 refused s n r p h e = rw (e, ne-eqb n 0 h)
 
 -- with the first k bytes of the piece, which are what has come
-module _ (x : Console) (table : List ℕ) (k : ℕ) (first : take k (x .piece .bytes) ≡ bytesOf (x .piece)) where
+module _ (x : Console) (table : List ℕ) (k : ℕ) (first : take k (x .piece .bytes) ≡ pieceBytes (x .piece)) where
   pub book-opened : (after : List ℕ) (o : Opened) (next : Console)
       → openingOf o after ≡ opening (take k (x .piece .bytes)) table (x .run .log .records)
       → next ≡ c.afterOpening (o .state) (o .refusal) (x .run) → deskOf next after ≡ c.bookOpened (deskOf x table)

@@ -13,11 +13,11 @@ use Rattle.common.proofs.Tests.{by-cases, by-order}
 use Rattle.journal.specs.Log.{blankLog}
 use Rattle.rules.specs.Opening.{Opening, emptyState, opening}
 use Rattle.console.specs.Types.{Run, Piece, Phase, Book, Refused, Frames, Ended}
-use Rattle.console.specs.Piece.{pieceOf, bytesOf, withByte, isBook, bookLength}
+use Rattle.console.specs.Piece.{pieceOf, pieceBytes, pieceWith, isBook, bookLength}
 use Rattle.console.specs.Run.{begun, afterFrame}
 use Rattle.console.specs.Console.{Desk, deskOf, afterOpening, openedWith, bookOpened, awaits}
 use Rattle.console.specs.Console.{takenIn, takenByte, taken, afterEnd, lastFrame, endedDesk, finishedIn, finished}
-use Rattle.console.specs.Transcript.{bookIn, framesIn, framesAfter, blankTable, runOver}
+use Rattle.console.specs.Transcript.{bookIn, cutFrames, framesAfter, blankTable, runOver}
 use Rattle.console.specs.Transcript.{transcriptWith, transcriptOf, printed, Transcribes}
 use Rattle.console.proofs.Pieces.{piece-more, piece-bytes, piece-book, book-two, book-most, book-longer}
 use Rattle.console.proofs.Pieces.{book-exactly}
@@ -72,24 +72,24 @@ framesDesk r table p = deskOf (record { phase = Frames; piece = p; run = r }) ta
 abbrev endedWith : List ℕ → Run → Desk
 endedWith table r = deskOf (record { phase = Ended; piece = pieceOf []; run = r }) table
 
-byte-of-frame : (r : Run) (table : List ℕ) (p q : Piece) (b : ℕ) → withByte p b ≡ q → q .length < 7
+byte-of-frame : (r : Run) (table : List ℕ) (p q : Piece) (b : ℕ) → pieceWith p b ≡ q → q .length < 7
     → takenByte (framesDesk r table p) b ≡ framesDesk r table q
 unfolding takenByte
 byte-of-frame r table p q b e h = rw (e, lt-ltb (q .length) 7 h)
 
-last-of-frame : (r : Run) (table : List ℕ) (p q : Piece) (b : ℕ) → withByte p b ≡ q → 7 ≤ q .length
-    → takenByte (framesDesk r table p) b ≡ framesDesk (afterFrame r table (bytesOf q)) table (pieceOf [])
+last-of-frame : (r : Run) (table : List ℕ) (p q : Piece) (b : ℕ) → pieceWith p b ≡ q → 7 ≤ q .length
+    → takenByte (framesDesk r table p) b ≡ framesDesk (afterFrame r table (pieceBytes q)) table (pieceOf [])
 unfolding takenByte
 last-of-frame r table p q b e h = rw (e, le-ltb (q .length) 7 h)
 
 end-torn : (r : Run) (table : List ℕ) (p : Piece) → p .length ≢ 0
-    → finished (framesDesk r table p) ≡ endedWith table (afterFrame r table (bytesOf p))
+    → finished (framesDesk r table p) ≡ endedWith table (afterFrame r table (pieceBytes p))
 unfolding finished
 end-torn r table p h = rw (ne-eqb (p .length) 0 h)
 
 end-of-frames : (r : Run) (table l : List ℕ) → length l < 7
-    → finished (framesDesk r table (pieceOf l)) ≡ endedWith table (runOver table r (framesIn (length l) l))
-unfolding finished framesIn
+    → finished (framesDesk r table (pieceOf l)) ≡ endedWith table (runOver table r (cutFrames (length l) l))
+unfolding finished cutFrames
 end-of-frames r table [] h = refl
 end-of-frames r table (b ∷ l) h =
     end-torn r table (pieceOf (b ∷ l)) (λ e. omega arith)
@@ -99,7 +99,7 @@ end-of-frames r table (b ∷ l) h =
 -- the frames of l and the input after it
 frames-run : (input : List ℕ) (r : Run) (table l : List ℕ) → length l < 7
     → finished (taken (framesDesk r table (pieceOf l)) input)
-    ≡ endedWith table (runOver table r (framesIn (length (l ++ input)) (l ++ input)))
+    ≡ endedWith table (runOver table r (cutFrames (length (l ++ input)) (l ++ input)))
 frames-run [] r table l h = rw append-nil (end-of-frames r table l h)
 frames-run (b ∷ input) r table l h =
     let next = l ++ (b ∷ []) in
@@ -109,13 +109,13 @@ frames-run (b ∷ input) r table l h =
     by-order (length next) 7
     (λ short. ap (λ (d : Desk). finished (taken d input)) (byte-of-frame r table _ (pieceOf next) b piece short)
     ∙ frames-run input r table next short
-    ∙ ap (λ (m : List ℕ). endedWith table (runOver table r (framesIn (length m) m))) joined)
+    ∙ ap (λ (m : List ℕ). endedWith table (runOver table r (cutFrames (length m) m))) joined)
     (λ whole. ap (λ (d : Desk). finished (taken d input)) (last-of-frame r table _ (pieceOf next) b piece whole)
     ∙ ap (λ (f : List ℕ). finished (taken (framesDesk (afterFrame r table f) table (pieceOf [])) input))
     (piece-bytes next)
     ∙ frames-run input (afterFrame r table next) table [] (lit< tt)
     ∙ ap (λ (fs : List (List ℕ)). endedWith table (runOver table r fs)) (sym (next-frame next input (omega arith)))
-    ∙ ap (λ (m : List ℕ). endedWith table (runOver table r (framesIn (length m) m))) joined)
+    ∙ ap (λ (m : List ℕ). endedWith table (runOver table r (cutFrames (length m) m))) joined)
 
 -- ---- from a begun book on
 
@@ -129,7 +129,7 @@ endOf r o frames =
     (deskOf (record { phase = Refused (o .number); piece = pieceOf []; run = r }) (o .table))
 
 after-opening : (r : Run) (o : Opening) (input : List ℕ)
-    → finished (taken (openedWith r o) input) ≡ endOf r o (framesIn (length input) input)
+    → finished (taken (openedWith r o) input) ≡ endOf r o (cutFrames (length input) input)
 unfolding afterOpening
 after-opening r o input =
     by-cases (eqb (o .number) 0)
@@ -142,13 +142,13 @@ opened-at-end : (r : Run) (o : Opening) → endedDesk (openedWith r o) ≡ endOf
 unfolding afterOpening
 opened-at-end r o = by-cases (eqb (o .number) 0) (λ e. rw e) (λ e. rw e)
 
-byte-of-book : (r : Run) (table : List ℕ) (p q : Piece) (b : ℕ) → withByte p b ≡ q → isBook q ≡ false
+byte-of-book : (r : Run) (table : List ℕ) (p q : Piece) (b : ℕ) → pieceWith p b ≡ q → isBook q ≡ false
     → takenByte (bookDesk r table p) b ≡ bookDesk r table q
 unfolding takenByte
 byte-of-book r table p q b e h = rw (e, h)
 
-last-of-book : (r : Run) (table : List ℕ) (p q : Piece) (b : ℕ) → withByte p b ≡ q → isBook q ≡ true
-    → takenByte (bookDesk r table p) b ≡ openedWith r (opening (bytesOf q) table (r .log .records))
+last-of-book : (r : Run) (table : List ℕ) (p q : Piece) (b : ℕ) → pieceWith p b ≡ q → isBook q ≡ true
+    → takenByte (bookDesk r table p) b ≡ openedWith r (opening (pieceBytes q) table (r .log .records))
 unfolding takenByte
 last-of-book r table p q b e h = rw (e, h)
 
@@ -163,24 +163,24 @@ short-book r table l h =
     let none : drop (bookLength l) l ≡ [] = drop-of-length-le l {i = bookLength l} (omega arith) in
     sym (ap (λ (b : List ℕ). endOf r (opening b table (r .log .records)) (framesAfter l))
     (take-all (bookLength l) l (omega arith))
-    ∙ ap (λ (rest : List ℕ). endOf r (opening l table (r .log .records)) (framesIn (length rest) rest)) none
+    ∙ ap (λ (rest : List ℕ). endOf r (opening l table (r .log .records)) (cutFrames (length rest) rest)) none
     ∙ ap (endOf r (opening l table (r .log .records))) (no-frames 0))
 
 whole-book : (r : Run) (table l input : List ℕ) → length l ≡ bookLength l
-    → endOf r (opening l table (r .log .records)) (framesIn (length input) input) ≡ leaves r table (l ++ input)
+    → endOf r (opening l table (r .log .records)) (cutFrames (length input) input) ≡ leaves r table (l ++ input)
 whole-book r table l input e =
     let two = book-two l in
     let all : length l ≡ bookLength (l ++ input) = e ∙ sym (book-longer l input (omega arith)) in
     sym (ap (λ (b : List ℕ). endOf r (opening b table (r .log .records)) (framesAfter (l ++ input)))
     (take-at l input (bookLength (l ++ input)) all)
-    ∙ ap (λ (rest : List ℕ). endOf r (opening l table (r .log .records)) (framesIn (length rest) rest))
+    ∙ ap (λ (rest : List ℕ). endOf r (opening l table (r .log .records)) (cutFrames (length rest) rest))
     (drop-at l input (bookLength (l ++ input)) all))
 
 book-run : (input : List ℕ) (r : Run) (table l : List ℕ) → length l < bookLength l
     → finished (taken (bookDesk r table (pieceOf l)) input) ≡ leaves r table (l ++ input)
 unfolding finished
 book-run [] r table l h =
-    opened-at-end r (opening (bytesOf (pieceOf l)) table (r .log .records))
+    opened-at-end r (opening (pieceBytes (pieceOf l)) table (r .log .records))
     ∙ ap (λ (b : List ℕ). endOf r (opening b table (r .log .records)) []) (piece-bytes l)
     ∙ short-book r table l h
     ∙ ap (leaves r table) (sym (append-nil l))
@@ -197,8 +197,8 @@ book-run (b ∷ input) r table l h =
     (λ whole.
     let all : isBook (pieceOf next) ≡ true = piece-book next ∙ le-leb (bookLength next) (length next) whole in
     ap (λ (d : Desk). finished (taken d input)) (last-of-book r table _ (pieceOf next) b piece all)
-    ∙ after-opening r (opening (bytesOf (pieceOf next)) table (r .log .records)) input
-    ∙ ap (λ (l : List ℕ). endOf r (opening l table (r .log .records)) (framesIn (length input) input))
+    ∙ after-opening r (opening (pieceBytes (pieceOf next)) table (r .log .records)) input
+    ∙ ap (λ (l : List ℕ). endOf r (opening l table (r .log .records)) (cutFrames (length input) input))
     (piece-bytes next)
     ∙ whole-book r table next input (book-exactly l b h whole)
     ∙ ap (leaves r table) joined)

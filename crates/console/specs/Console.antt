@@ -6,7 +6,7 @@ use lib.Dec.{eqb, ltb}
 use Rattle.journal.specs.Log.{blankLog}
 use Rattle.rules.specs.Opening.{Opening, emptyState, opening}
 use Rattle.console.specs.Types.{State, Run, Phase, Book, Refused, Frames, Ended, Console}
-use Rattle.console.specs.Piece.{pieceOf, bytesOf, withByte, isBook}
+use Rattle.console.specs.Piece.{pieceOf, pieceBytes, pieceWith, isBook}
 use Rattle.console.specs.Run.{begun, afterFrame}
 
 -- the console with its lent table
@@ -35,16 +35,16 @@ openedWith r o = deskOf (afterOpening (o .state) (o .number) r) (o .table)
 abbrev pub bookOpened : Desk → Desk
 bookOpened d =
     let r = d .console .run in
-    openedWith r (opening (bytesOf (d .console .piece)) (d .table) (r .log .records))
+    openedWith r (opening (pieceBytes (d .console .piece)) (d .table) (r .log .records))
 
 abbrev pub frameAnswered : Console → List ℕ → Console
 frameAnswered c table =
-    record { phase = Frames; piece = pieceOf []; run = afterFrame (c .run) table (bytesOf (c .piece)) }
+    record { phase = Frames; piece = pieceOf []; run = afterFrame (c .run) table (pieceBytes (c .piece)) }
 
 -- ---- one byte
 
 abbrev pub withNext : Console → ℕ → Console
-withNext c b = record { phase = c .phase; piece = withByte (c .piece) b; run = c .run }
+withNext c b = record { phase = c .phase; piece = pieceWith (c .piece) b; run = c .run }
 
 -- the book is opened with its last byte
 abbrev pub bookByte : Desk → ℕ → Desk

@@ -6,20 +6,20 @@ use lib.Dec.{leb, ltb}
 use lib.ListN.{length, take, set, getD}
 use Rattle.common.specs.Word.{word}
 use Rattle.line.specs.Claims.{longest}
-use Rattle.printout.specs.Text.{padded}
+use Rattle.printout.specs.Text.{zeroed}
 use Rattle.console.specs.Types.{Piece}
 
 -- the piece of which l has come
 abbrev pub pieceOf : List ℕ → Piece
-pieceOf l = record { bytes = padded longest l; length = length l }
+pieceOf l = record { bytes = zeroed longest l; length = length l }
 
 -- what has come
-abbrev pub bytesOf : Piece → List ℕ
-bytesOf p = take (p .length) (p .bytes)
+abbrev pub pieceBytes : Piece → List ℕ
+pieceBytes p = take (p .length) (p .bytes)
 
 -- a piece with one more byte, where there is room
-unfoldable pub withByte : Piece → ℕ → Piece
-withByte p b =
+unfoldable pub pieceWith : Piece → ℕ → Piece
+pieceWith p b =
     cond (ltb (p .length) longest) (record { bytes = set (p .bytes) (p .length) b; length = p .length + 1 }) p
 
 -- "The book is two bytes and as many as they name, at most as many in all as the longest book has (25)"

@@ -27,14 +27,14 @@ abbrev pub bookIn : List ℕ → List ℕ
 bookIn input = take (bookLength input) input
 
 -- "frames of 7 bytes .. a shorter rest after whole frames is one torn frame": in at most n frames
-unfoldable pub framesIn : ℕ → List ℕ → List (List ℕ)
-framesIn zero rest = []
-framesIn (suc n) [] = []
-framesIn (suc n) (b ∷ rest) = take 7 (b ∷ rest) ∷ framesIn n (drop 7 (b ∷ rest))
+unfoldable pub cutFrames : ℕ → List ℕ → List (List ℕ)
+cutFrames zero rest = []
+cutFrames (suc n) [] = []
+cutFrames (suc n) (b ∷ rest) = take 7 (b ∷ rest) ∷ cutFrames n (drop 7 (b ∷ rest))
 
 -- what comes after the book has no more frames than bytes
 abbrev pub framesAfter : List ℕ → List (List ℕ)
-framesAfter input = let rest = drop (bookLength input) input in framesIn (length rest) rest
+framesAfter input = let rest = drop (bookLength input) input in cutFrames (length rest) rest
 
 -- a table of 0, before a book is opened
 abbrev pub blankTable : List ℕ

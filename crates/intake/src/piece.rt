@@ -5,7 +5,7 @@ ghost use Prim.Native.Nat.{_+_, _≤_, min};
 ghost use lib.ListN.{take};
 ghost use Rattle.common.specs.Word.{word};
 ghost use Rattle.line.specs.Claims.{longest};
-ghost use Rattle.console.specs.Piece.{pieceOf, bytesOf, withByte, isBook};
+ghost use Rattle.console.specs.Piece.{pieceOf, pieceBytes, pieceWith, isBook};
 use console::Piece;
 use line::LONGEST_BOOK;
 
@@ -18,7 +18,7 @@ pub fn nothing() -> Piece
 
 // The piece with one more byte; a full one stays as it is.
 pub fn with_byte(piece: Piece, byte: u8) -> Piece
-    ensures { λ r. ⌜ r ≡ withByte piece byte ⌝ }
+    ensures { λ r. ⌜ r ≡ pieceWith piece byte ⌝ }
 {
     let at = piece.length;
     if at < LONGEST_BOOK {
@@ -34,7 +34,7 @@ pub fn with_byte(piece: Piece, byte: u8) -> Piece
 
 // How many bytes there are.
 pub fn held(piece: Piece) -> usize
-    ensures { λ r. ⌜ (r ≤ longest) × (take r (piece .bytes) ≡ bytesOf piece) ⌝ }
+    ensures { λ r. ⌜ (r ≤ longest) × (take r (piece .bytes) ≡ pieceBytes piece) ⌝ }
 {
     if piece.length < LONGEST_BOOK {
         piece.length

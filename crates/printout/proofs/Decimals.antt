@@ -11,7 +11,7 @@ use borrow.Author.Tests.{lt-ltb, le-ltb}
 use Rattle.io.specs.Digits.{digits, glyph, Fewest}
 use Rattle.common.proofs.Tests.{by-cases, by-order}
 use Rattle.printout.specs.Lines.{decimalIn, decimal, kindName, recordLine, endLine, bookLine}
-use Rattle.printout.specs.Text.{recordLength, endLength}
+use Rattle.printout.specs.Text.{recordLineLength, endLineLength}
 use Rattle.printout.specs.Types.{Record}
 
 power-positive : (k : ℕ) → 0 < 10 ^ k
@@ -82,16 +82,17 @@ kind-length k =
     (λ g. by-cases (eqb k 4) (λ h. rw (e, f, g, h) (omega arith)) (λ h. rw (e, f, g, h) (omega arith)))))
 
 pub record-fits : (n : ℕ) (r : Record) → n < 2 ^ 8 → r .train .0 < 2 ^ 8 → r .from .0 < 2 ^ 8 → r .to .0 < 2 ^ 8
-    → length (recordLine n r) ≤ recordLength
+    → length (recordLine n r) ≤ recordLineLength
 record-fits n r h₀ h₁ h₂ h₃ =
     let d : (k : ℕ) → k < 2 ^ 8 → length (decimal k) ≤ 3 = λ k h. decimal-length 20 k 3 (omega arith) (lit< tt) in
     simp length-append
     (omega (arith, kind-length (r .kind), d n h₀, d (r .train .0) h₁, d (r .from .0) h₂, d (r .to .0) h₃))
 
-pub end-fits : (logged refused : ℕ) → logged < 2 ^ 8 → refused < 2 ^ 64 → length (endLine logged refused) ≤ endLength
+pub end-fits : (logged refused : ℕ) → logged < 2 ^ 8 → refused < 2 ^ 64
+    → length (endLine logged refused) ≤ endLineLength
 end-fits n m h k =
     simp length-append
     (omega (arith, decimal-length 20 n 3 (omega arith) (lit< tt), decimal-length 20 m 20 (omega arith) (lit< tt)))
 
-pub book-fits : (n : ℕ) → n < 2 ^ 8 → length (bookLine n) ≤ endLength
+pub book-fits : (n : ℕ) → n < 2 ^ 8 → length (bookLine n) ≤ endLineLength
 book-fits n h = simp length-append (omega (arith, decimal-length 20 n 3 (omega arith) (lit< tt)))

@@ -7,14 +7,14 @@ use native.Mathlib.Numerals.{add-one}
 use lib.ListN.{length, length-append}
 use Rattle.journal.specs.Journal.{recordAt}
 use Rattle.printout.specs.Types.{Record, Text}
-use Rattle.printout.specs.Text.{recordLength, endLength, textLength, textOf, followed}
+use Rattle.printout.specs.Text.{recordLineLength, endLineLength, textLength, textOf, followed}
 use Rattle.printout.specs.Lines.{recordLine, endLine, recordLines, runLines}
 use Rattle.printout.proofs.Room.{held, fits}
 
 -- the text t holds the lines of the first i records of j, each as long as a record's line can be
 pub record Printed (j : List Record) (i : ℕ) (t : Text) : Type 0 where
   pub lines : t ≡ textOf (recordLines i j)
-  pub short : length (recordLines i j) ≤ recordLength * i
+  pub short : length (recordLines i j) ≤ recordLineLength * i
 
 pub none-printed : (j : List Record) (t : Text) → t ≡ textOf [] → Printed j 0 t
 unfolding recordLines
@@ -22,7 +22,7 @@ none-printed j t e = record { lines = e; short = omega arith }
 
 -- the next record
 pub printed-next : (j : List Record) (i : ℕ) (t after : Text) (r : Record) → i < 255 → Printed j i t → r ≡ recordAt j i
-    → after ≡ followed t (recordLine i r) → length (recordLine i r) ≤ recordLength → Printed j (i + 1) after
+    → after ≡ followed t (recordLine i r) → length (recordLine i r) ≤ recordLineLength → Printed j (i + 1) after
 unfolding recordLines
 printed-next j i t after r b p e f h =
     let line = recordLine i r in
@@ -36,7 +36,7 @@ printed-next j i t after r b p e f h =
 
 -- the end line
 pub printed-whole : (j : List Record) (n m : ℕ) (t after : Text) → n < 256 → Printed j n t
-    → after ≡ followed t (endLine n m) → length (endLine n m) ≤ endLength
+    → after ≡ followed t (endLine n m) → length (endLine n m) ≤ endLineLength
     → (after .length ≤ textLength) × (after ≡ textOf (runLines j n m))
 printed-whole j n m t after b p f h =
     let room : length (recordLines n j) + length (endLine n m) ≤ textLength = omega (arith, p .short) in

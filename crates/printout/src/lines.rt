@@ -2,7 +2,7 @@
 ghost use mathlib.Core.Path.{_≡_};
 ghost use Prim.Native.Nat.{_≤_};
 ghost use lib.ListN.{length};
-ghost use Rattle.printout.specs.Text.{recordLength, endLength, followed};
+ghost use Rattle.printout.specs.Text.{recordLineLength, endLineLength, followed};
 ghost use Rattle.printout.specs.Lines.{spaced, kindName, recordLine, endLine, bookLine};
 use crate::text::Text;
 use crate::text::with_number;
@@ -16,7 +16,7 @@ use journal::Record;
 // 01: "each journal record (number, kind, train, from, to)".
 pub fn with_record(text: Text, number: u8, entry: Record) -> Text
     ensures { λ r. ⌜ r ≡ followed text (recordLine number entry) ⌝ }
-    ensures { λ r. ⌜ length (recordLine number entry) ≤ recordLength ⌝ }
+    ensures { λ r. ⌜ length (recordLine number entry) ≤ recordLineLength ⌝ }
 {
     let text = with_number(text, number as u64);
     let text = with_kind(text, entry.kind);
@@ -29,7 +29,7 @@ pub fn with_record(text: Text, number: u8, entry: Record) -> Text
 // 01: "then `end`, the record count and the count of refused frames".
 pub fn with_end(text: Text, logged: u8, refused: u64) -> Text
     ensures { λ r. ⌜ r ≡ followed text (endLine logged refused) ⌝ }
-    ensures { λ r. ⌜ length (endLine logged refused) ≤ endLength ⌝ }
+    ensures { λ r. ⌜ length (endLine logged refused) ≤ endLineLength ⌝ }
 {
     let text = with_word(text, b"end");
     let text = with_spaced(text, logged as u64);
@@ -40,7 +40,7 @@ pub fn with_end(text: Text, logged: u8, refused: u64) -> Text
 // 01: "for a refused book only `book` and the number".
 pub fn with_book(text: Text, refusal: u8) -> Text
     ensures { λ r. ⌜ r ≡ followed text (bookLine refusal) ⌝ }
-    ensures { λ r. ⌜ length (bookLine refusal) ≤ endLength ⌝ }
+    ensures { λ r. ⌜ length (bookLine refusal) ≤ endLineLength ⌝ }
 {
     let text = with_word(text, b"book");
     let text = with_spaced(text, refusal as u64);

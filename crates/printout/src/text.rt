@@ -1,11 +1,16 @@
 // A text by value. What does not fit any more is left out; all that is printed fits.
 ghost use mathlib.Core.Path.{_≡_};
 ghost use mathlib.Core.List.{[]};
-ghost use Rattle.printout.specs.Text.{textOf, withByte, followed};
+ghost use Rattle.printout.specs.Text.{textOf, textWith, followed};
 ghost use Rattle.printout.specs.Lines.{decimal};
 
-// The longest text: 255 lines of records, of 20 bytes at most, and the end line of 29.
-pub const TEXT_LENGTH: usize = 5129;
+// The longest line of a record, and the longest end line.
+const RECORD_LINE_LENGTH: usize = 20;
+
+const END_LINE_LENGTH: usize = 29;
+
+// The longest text: 255 lines of records and the end line.
+pub const TEXT_LENGTH: usize = 255 * RECORD_LINE_LENGTH + END_LINE_LENGTH;
 
 // The first `length` bytes are the text.
 pub struct Text {
@@ -22,7 +27,7 @@ pub fn empty() -> Text
 
 // The text with one more byte.
 fn with_byte(text: Text, byte: u8) -> Text
-    ensures { λ r. ⌜ r ≡ withByte text byte ⌝ }
+    ensures { λ r. ⌜ r ≡ textWith text byte ⌝ }
 {
     let at = text.length;
     if at < TEXT_LENGTH {

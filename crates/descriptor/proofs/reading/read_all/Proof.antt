@@ -16,32 +16,14 @@ Inv-loop fd table₀ console₀ more₀ turns₀ table console more turns =
 abbrev μ-loop : tie.MeasureT-loop
 μ-loop fd table₀ console₀ more₀ turns₀ table console more turns = turns
 
-fresh-requires : tie.Need-fresh-requires Inv-loop μ-loop
-fresh-requires c κs = search needs
-
 loop-holds : tie.Need-loop-holds Inv-loop μ-loop
 loop-holds c = (refl, takes-none _)
-
-read-some-requires : tie.Need-read-some-requires Inv-loop μ-loop
-read-some-requires c κs = search needs
-
-sub-turns : tie.Need-sub-turns Inv-loop μ-loop
-sub-turns c = omega arith
-
-loop-less : tie.Need-loop-less Inv-loop μ-loop
-loop-less c = omega arith
 
 loop-again : tie.Need-loop-again Inv-loop μ-loop
 loop-again c =
     let reads = c .before .before .before in
     let a = reads .before .before .before .before .loop in
     (search needs, takes-more _ _ _ (a .inv .1) (reads .read-some .ensures))
-
-finish-requires : tie.Need-finish-requires Inv-loop μ-loop
-finish-requires c κs = search needs
-
-same-length : tie.Need-same-length Inv-loop μ-loop
-same-length c = search needs
 
 returns : tie.Need-returns Inv-loop μ-loop
 returns c =
@@ -55,12 +37,12 @@ read-all-spec =
     (tie.spec
     Inv-loop
     μ-loop
-    fresh-requires
+    (λ c κs. search needs)
     loop-holds
-    read-some-requires
-    sub-turns
-    loop-less
+    (λ c κs. search needs)
+    (λ c. omega arith)
+    (λ c. omega arith)
     loop-again
-    finish-requires
-    same-length
+    (λ c κs. search needs)
+    (λ c. search needs)
     returns)

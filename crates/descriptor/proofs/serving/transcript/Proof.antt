@@ -4,15 +4,6 @@ use borrow.Author.Needs.{needs}
 use Rattle.descriptor.proofs.serving.transcript.Statement.{statement}
 use Rattle.descriptor.proofs.serving.transcript.Tie as tie
 
-slice-aggregate-read-all : tie.Need-slice-aggregate-read-all
-slice-aggregate-read-all c = search needs
-
-read-all-requires : tie.Need-read-all-requires
-read-all-requires c κs = search needs
-
-printed-requires : tie.Need-printed-requires
-printed-requires c κs = search needs
-
 returns : tie.Need-returns
 returns c =
     let prints = c .printed .ensures in
@@ -20,4 +11,4 @@ returns c =
 
 pub transcript-spec : {M : Type 1} → statement M
 transcript-spec =
-    tie.close (tie.spec slice-aggregate-read-all read-all-requires printed-requires returns)
+    tie.close (tie.spec (λ c. search needs) (λ c κs. search needs) (λ c κs. search needs) returns)

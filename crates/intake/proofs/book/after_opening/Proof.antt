@@ -4,12 +4,6 @@ use borrow.Author.Needs.{needs}
 use Rattle.intake.proofs.book.after_opening.Statement.{statement}
 use Rattle.intake.proofs.book.after_opening.Tie as tie
 
-nothing-requires : tie.Need-nothing-requires
-nothing-requires c κs = search needs
-
-begun-requires : tie.Need-begun-requires
-begun-requires c κs = search needs
-
 returns : tie.Need-returns
 returns c =
     let begins = c .before .before .before in
@@ -23,4 +17,4 @@ returns-2 c =
     refused (a .opened .state) (a .opened .refusal) (a .run) _ (c .if1 .left) (c .before .before .nothing .ensures)
 
 pub after-opening-spec : {M : Type 1} → statement M
-after-opening-spec = tie.close (tie.spec nothing-requires begun-requires returns returns-2)
+after-opening-spec = tie.close (tie.spec (λ c κs. search needs) (λ c κs. search needs) returns returns-2)

@@ -4,18 +4,6 @@ use borrow.Author.Needs.{needs}
 use Rattle.intake.proofs.book.with_book.Statement.{statement}
 use Rattle.intake.proofs.book.with_book.Tie as tie
 
-held-requires : tie.Need-held-requires
-held-requires c κs = search needs
-
-open-requires : tie.Need-open-requires
-open-requires c κs = search needs
-
-after-opening-requires : tie.Need-after-opening-requires
-after-opening-requires c κs = search needs
-
-same-length : tie.Need-same-length
-same-length c = search needs
-
 returns : tie.Need-returns
 returns c =
     let opens = c .before .before .before in
@@ -26,4 +14,10 @@ returns c =
 
 pub with-book-spec : {M : Type 1} → statement M
 with-book-spec =
-    tie.close (tie.spec held-requires open-requires after-opening-requires same-length returns)
+    tie.close
+    (tie.spec
+    (λ c κs. search needs)
+    (λ c κs. search needs)
+    (λ c κs. search needs)
+    (λ c. search needs)
+    returns)

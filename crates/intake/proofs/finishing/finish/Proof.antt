@@ -8,33 +8,6 @@ use borrow.Author.Needs.{needs}
 use Rattle.intake.proofs.finishing.finish.Statement.{statement}
 use Rattle.intake.proofs.finishing.finish.Tie as tie
 
-enum-told : tie.Need-enum-told
-enum-told c = search needs
-
-with-book-requires : tie.Need-with-book-requires
-with-book-requires c κs = search needs
-
-ended-requires : tie.Need-ended-requires
-ended-requires c κs = search needs
-
-enum-told-2 : tie.Need-enum-told-2
-enum-told-2 c = search needs
-
-last-frame-requires : tie.Need-last-frame-requires
-last-frame-requires c κs = search needs
-
-ended-requires-2 : tie.Need-ended-requires-2
-ended-requires-2 c κs = search needs
-
-enum-told-3 : tie.Need-enum-told-3
-enum-told-3 c = search needs
-
-enum-told-4 : tie.Need-enum-told-4
-enum-told-4 c = search needs
-
-same-length : tie.Need-same-length
-same-length c = search needs
-
 returns : tie.Need-returns
 returns c =
     let told = c .before .before .before .before .before in
@@ -42,9 +15,6 @@ returns c =
     let opens = c .before .before .before in
     book-at-end (deskOf (a .console) (a .table .now)) _ _ _ (opens .with-book .ensures) (c .ended .ensures)
     ∙ finished-in (deskOf (a .console) _) Book (told .enum-told .given .1)
-
-same-length-2 : tie.Need-same-length-2
-same-length-2 c = search needs
 
 returns-2 : tie.Need-returns-2
 returns-2 c =
@@ -69,17 +39,17 @@ pub finish-spec : {M : Type 1} → statement M
 finish-spec =
     tie.close
     (tie.spec
-    enum-told
-    with-book-requires
-    ended-requires
-    enum-told-2
-    last-frame-requires
-    ended-requires-2
-    enum-told-3
-    enum-told-4
-    same-length
+    (λ c. search needs)
+    (λ c κs. search needs)
+    (λ c κs. search needs)
+    (λ c. search needs)
+    (λ c κs. search needs)
+    (λ c κs. search needs)
+    (λ c. search needs)
+    (λ c. search needs)
+    (λ c. search needs)
     returns
-    same-length-2
+    (λ c. search needs)
     returns-2
     returns-3
     returns-4)

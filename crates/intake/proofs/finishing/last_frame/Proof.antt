@@ -7,11 +7,8 @@ use Rattle.intake.proofs.finishing.last_frame.Tie as tie
 returns : tie.Need-returns
 returns c = no-rest _ _ (c .if1 .taken)
 
-with-frame-requires : tie.Need-with-frame-requires
-with-frame-requires c κs = search needs
-
 returns-2 : tie.Need-returns-2
 returns-2 c = torn _ _ _ (c .before .if1 .left) (c .with-frame .ensures)
 
 pub last-frame-spec : {M : Type 1} → statement M
-last-frame-spec = tie.close (tie.spec returns with-frame-requires returns-2)
+last-frame-spec = tie.close (tie.spec returns (λ c κs. search needs) returns-2)

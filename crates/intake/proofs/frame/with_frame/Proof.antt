@@ -4,15 +4,6 @@ use borrow.Author.Needs.{needs}
 use Rattle.intake.proofs.frame.with_frame.Statement.{statement}
 use Rattle.intake.proofs.frame.with_frame.Tie as tie
 
-held-requires : tie.Need-held-requires
-held-requires c κs = search needs
-
-after-frame-requires : tie.Need-after-frame-requires
-after-frame-requires c κs = search needs
-
-nothing-requires : tie.Need-nothing-requires
-nothing-requires c κs = search needs
-
 returns : tie.Need-returns
 returns c =
     let answers = c .before in
@@ -22,4 +13,4 @@ returns c =
     (c .nothing .ensures)
 
 pub with-frame-spec : {M : Type 1} → statement M
-with-frame-spec = tie.close (tie.spec held-requires after-frame-requires nothing-requires returns)
+with-frame-spec = tie.close (tie.spec (λ c κs. search needs) (λ c κs. search needs) (λ c κs. search needs) returns)

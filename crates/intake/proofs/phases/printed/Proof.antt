@@ -7,30 +7,6 @@ use borrow.Author.Needs.{needs}
 use Rattle.intake.proofs.phases.printed.Statement.{statement}
 use Rattle.intake.proofs.phases.printed.Tie as tie
 
-enum-known-phase : tie.Need-enum-known-phase
-enum-known-phase c = search needs
-
-book-text-requires : tie.Need-book-text-requires
-book-text-requires c κs = search needs
-
-enum-told : tie.Need-enum-told
-enum-told c = search needs
-
-run-text-requires : tie.Need-run-text-requires
-run-text-requires c κs = search needs
-
-enum-told-2 : tie.Need-enum-told-2
-enum-told-2 c = search needs
-
-run-text-requires-2 : tie.Need-run-text-requires-2
-run-text-requires-2 c κs = search needs
-
-enum-told-3 : tie.Need-enum-told-3
-enum-told-3 c = search needs
-
-run-text-requires-3 : tie.Need-run-text-requires-3
-run-text-requires-3 c κs = search needs
-
 returns : tie.Need-returns
 returns c =
     let told = c .before .before .phase .given .1 in
@@ -59,14 +35,14 @@ pub printed-spec : {M : Type 1} → statement M
 printed-spec =
     tie.close
     (tie.spec
-    enum-known-phase
-    book-text-requires
-    enum-told
-    run-text-requires
-    enum-told-2
-    run-text-requires-2
-    enum-told-3
-    run-text-requires-3
+    (λ c. search needs)
+    (λ c κs. search needs)
+    (λ c. search needs)
+    (λ c κs. search needs)
+    (λ c. search needs)
+    (λ c κs. search needs)
+    (λ c. search needs)
+    (λ c κs. search needs)
     returns
     returns-2
     returns-3

@@ -14,11 +14,8 @@ use Rattle.intake.proofs.piece.held.Lts as lts
 full : (c : lts.Start reads.Pre reads.Post) → length (c .args .piece .bytes) ≡ longest
 full c = simp length-map at (c .good .0 .1 .1 .0 .1 .0 .1)
 
-returns : tie.Need-returns
-returns c = search needs
-
 returns-2 : tie.Need-returns-2
 returns-2 c = (omega arith, none-past _ (full (c .before .before)) (c .if1 .left))
 
 pub held-spec : {M : Type 1} → statement M
-held-spec = tie.close (tie.spec returns returns-2)
+held-spec = tie.close (tie.spec (λ c. search needs) returns-2)

@@ -7,15 +7,6 @@ use borrow.Author.Needs.{needs}
 use Rattle.intake.proofs.piece.is_book.Statement.{statement}
 use Rattle.intake.proofs.piece.is_book.Tie as tie
 
-array-read-book-length : tie.Need-array-read-book-length
-array-read-book-length c = search needs
-
-array-read-book-length-2 : tie.Need-array-read-book-length-2
-array-read-book-length-2 c = search needs
-
-book-length-requires : tie.Need-book-length-requires
-book-length-requires c κs = search needs
-
 returns : tie.Need-returns
 unfolding isBook bookLength
 returns c =
@@ -25,4 +16,4 @@ returns c =
 pub is-book-spec : {M : Type 1} → statement M
 is-book-spec =
     tie.close
-    (tie.spec array-read-book-length array-read-book-length-2 book-length-requires returns)
+    (tie.spec (λ c. search needs) (λ c. search needs) (λ c κs. search needs) returns)

@@ -4,12 +4,6 @@ use borrow.Author.Needs.{needs}
 use Rattle.intake.proofs.piece.with_byte.Statement.{statement}
 use Rattle.intake.proofs.piece.with_byte.Tie as tie
 
-array-write-bytes : tie.Need-array-write-bytes
-array-write-bytes c = search needs
-
-add-t9 : tie.Need-add-t9
-add-t9 c = search needs
-
 returns : tie.Need-returns
 returns c = one-more _ _ (c .before .if1 .taken)
 
@@ -17,4 +11,4 @@ returns-2 : tie.Need-returns-2
 returns-2 c = none-more _ _ (c .if1 .left)
 
 pub with-byte-spec : {M : Type 1} → statement M
-with-byte-spec = tie.close (tie.spec array-write-bytes add-t9 returns returns-2)
+with-byte-spec = tie.close (tie.spec (λ c. search needs) (λ c. search needs) returns returns-2)

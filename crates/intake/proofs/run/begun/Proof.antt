@@ -3,8 +3,5 @@ use borrow.Author.Needs.{needs}
 use Rattle.intake.proofs.run.begun.Statement.{statement}
 use Rattle.intake.proofs.run.begun.Tie as tie
 
-returns : tie.Need-returns
-returns c = search needs
-
 pub begun-spec : {M : Type 1} → statement M
-begun-spec = tie.close (tie.spec returns)
+begun-spec = tie.close (tie.spec (λ c. search needs))

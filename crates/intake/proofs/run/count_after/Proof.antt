@@ -6,15 +6,6 @@ use borrow.Author.Needs.{needs}
 use Rattle.intake.proofs.run.count_after.Statement.{statement}
 use Rattle.intake.proofs.run.count_after.Tie as tie
 
-enum-told : tie.Need-enum-told
-enum-told c = search needs
-
-add-result : tie.Need-add-result
-add-result c = search needs
-
-enum-told-2 : tie.Need-enum-told-2
-enum-told-2 c = search needs
-
 returns : tie.Need-returns
 returns c =
     let n = c .before .before .before .args .refused in
@@ -25,9 +16,13 @@ returns-2 c =
     let n = c .before .before .before .args .refused in
     sym (ap (countAfter n) (c .before .enum-told .given .1) ∙ rw (le-ltb n most (c .if1 .left)))
 
-returns-3 : tie.Need-returns-3
-returns-3 c = search needs
-
 pub count-after-spec : {M : Type 1} → statement M
 count-after-spec =
-    tie.close (tie.spec enum-told add-result enum-told-2 returns returns-2 returns-3)
+    tie.close
+    (tie.spec
+    (λ c. search needs)
+    (λ c. search needs)
+    (λ c. search needs)
+    returns
+    returns-2
+    (λ c. search needs))

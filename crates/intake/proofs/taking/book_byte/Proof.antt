@@ -5,18 +5,6 @@ use borrow.Author.Needs.{needs}
 use Rattle.intake.proofs.taking.book_byte.Statement.{statement}
 use Rattle.intake.proofs.taking.book_byte.Tie as tie
 
-with-next-requires : tie.Need-with-next-requires
-with-next-requires c κs = search needs
-
-is-book-requires : tie.Need-is-book-requires
-is-book-requires c κs = search needs
-
-with-book-requires : tie.Need-with-book-requires
-with-book-requires c κs = search needs
-
-same-length : tie.Need-same-length
-same-length c = search needs
-
 returns : tie.Need-returns
 returns c =
     let opens = c .before .before in
@@ -36,4 +24,10 @@ returns-2 c =
 pub book-byte-spec : {M : Type 1} → statement M
 book-byte-spec =
     tie.close
-    (tie.spec with-next-requires is-book-requires with-book-requires same-length returns returns-2)
+    (tie.spec
+    (λ c κs. search needs)
+    (λ c κs. search needs)
+    (λ c κs. search needs)
+    (λ c. search needs)
+    returns
+    returns-2)

@@ -8,35 +8,11 @@ use borrow.Author.Needs.{needs}
 use Rattle.intake.proofs.taking.take_byte.Statement.{statement}
 use Rattle.intake.proofs.taking.take_byte.Tie as tie
 
-enum-told : tie.Need-enum-told
-enum-told c = search needs
-
-book-byte-requires : tie.Need-book-byte-requires
-book-byte-requires c κs = search needs
-
-enum-told-2 : tie.Need-enum-told-2
-enum-told-2 c = search needs
-
-frame-byte-requires : tie.Need-frame-byte-requires
-frame-byte-requires c κs = search needs
-
-enum-told-3 : tie.Need-enum-told-3
-enum-told-3 c = search needs
-
-enum-told-4 : tie.Need-enum-told-4
-enum-told-4 c = search needs
-
-same-length : tie.Need-same-length
-same-length c = search needs
-
 returns : tie.Need-returns
 returns c =
     let told = c .before .before .before .before in
     let a = told .before .before .before .args in
     c .before .before .book-byte .ensures ∙ taken-in (deskOf (a .console) _) (a .byte) Book (told .enum-told .given .1)
-
-same-length-2 : tie.Need-same-length-2
-same-length-2 c = search needs
 
 returns-2 : tie.Need-returns-2
 returns-2 c =
@@ -61,15 +37,15 @@ pub take-byte-spec : {M : Type 1} → statement M
 take-byte-spec =
     tie.close
     (tie.spec
-    enum-told
-    book-byte-requires
-    enum-told-2
-    frame-byte-requires
-    enum-told-3
-    enum-told-4
-    same-length
+    (λ c. search needs)
+    (λ c κs. search needs)
+    (λ c. search needs)
+    (λ c κs. search needs)
+    (λ c. search needs)
+    (λ c. search needs)
+    (λ c. search needs)
     returns
-    same-length-2
+    (λ c. search needs)
     returns-2
     returns-3
     returns-4)

@@ -7,24 +7,6 @@ use borrow.Author.Needs.{needs}
 use Rattle.printout.proofs.lines.with_end.Statement.{statement}
 use Rattle.printout.proofs.lines.with_end.Tie as tie
 
-slice-aggregate-with-word : tie.Need-slice-aggregate-with-word
-slice-aggregate-with-word c = search needs
-
-with-word-requires : tie.Need-with-word-requires
-with-word-requires c κs = search needs
-
-with-spaced-requires : tie.Need-with-spaced-requires
-with-spaced-requires c κs = search needs
-
-with-spaced-requires-2 : tie.Need-with-spaced-requires-2
-with-spaced-requires-2 c κs = search needs
-
-slice-aggregate-with-word-2 : tie.Need-slice-aggregate-with-word-2
-slice-aggregate-with-word-2 c = search needs
-
-with-word-requires-2 : tie.Need-with-word-requires-2
-with-word-requires-2 c κs = search needs
-
 returns : tie.Need-returns
 returns c =
     let refused = c .before .before in
@@ -43,10 +25,10 @@ pub with-end-spec : {M : Type 1} → statement M
 with-end-spec =
     tie.close
     (tie.spec
-    slice-aggregate-with-word
-    with-word-requires
-    with-spaced-requires
-    with-spaced-requires-2
-    slice-aggregate-with-word-2
-    with-word-requires-2
+    (λ c. search needs)
+    (λ c κs. search needs)
+    (λ c κs. search needs)
+    (λ c κs. search needs)
+    (λ c. search needs)
+    (λ c κs. search needs)
     returns)

@@ -22,36 +22,6 @@ no-kind : (k : ℕ) → k ≢ 1 → k ≢ 2 → k ≢ 3 → k ≢ 4 → 32 ∷ 6
 unfolding kindName
 no-kind k h₁ h₂ h₃ h₄ = rw (ne-eqb k 1 h₁, ne-eqb k 2 h₂, ne-eqb k 3 h₃, ne-eqb k 4 h₄)
 
-slice-aggregate-with-word : tie.Need-slice-aggregate-with-word
-slice-aggregate-with-word c = search needs
-
-with-word-requires : tie.Need-with-word-requires
-with-word-requires c κs = search needs
-
-slice-aggregate-with-word-2 : tie.Need-slice-aggregate-with-word-2
-slice-aggregate-with-word-2 c = search needs
-
-with-word-requires-2 : tie.Need-with-word-requires-2
-with-word-requires-2 c κs = search needs
-
-slice-aggregate-with-word-3 : tie.Need-slice-aggregate-with-word-3
-slice-aggregate-with-word-3 c = search needs
-
-with-word-requires-3 : tie.Need-with-word-requires-3
-with-word-requires-3 c κs = search needs
-
-slice-aggregate-with-word-4 : tie.Need-slice-aggregate-with-word-4
-slice-aggregate-with-word-4 c = search needs
-
-with-word-requires-4 : tie.Need-with-word-requires-4
-with-word-requires-4 c κs = search needs
-
-slice-aggregate-with-word-5 : tie.Need-slice-aggregate-with-word-5
-slice-aggregate-with-word-5 c = search needs
-
-with-word-requires-5 : tie.Need-with-word-requires-5
-with-word-requires-5 c κs = search needs
-
 returns : tie.Need-returns
 unfolding kindName
 returns c =
@@ -82,16 +52,16 @@ pub with-kind-spec : {M : Type 1} → statement M
 with-kind-spec =
     tie.close
     (tie.spec
-    slice-aggregate-with-word
-    with-word-requires
-    slice-aggregate-with-word-2
-    with-word-requires-2
-    slice-aggregate-with-word-3
-    with-word-requires-3
-    slice-aggregate-with-word-4
-    with-word-requires-4
-    slice-aggregate-with-word-5
-    with-word-requires-5
+    (λ c. search needs)
+    (λ c κs. search needs)
+    (λ c. search needs)
+    (λ c κs. search needs)
+    (λ c. search needs)
+    (λ c κs. search needs)
+    (λ c. search needs)
+    (λ c κs. search needs)
+    (λ c. search needs)
+    (λ c κs. search needs)
     returns
     returns-2
     returns-3

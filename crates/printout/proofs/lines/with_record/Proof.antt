@@ -6,36 +6,6 @@ use borrow.Author.Needs.{needs}
 use Rattle.printout.proofs.lines.with_record.Statement.{statement}
 use Rattle.printout.proofs.lines.with_record.Tie as tie
 
-with-number-requires : tie.Need-with-number-requires
-with-number-requires c κs = search needs
-
-with-kind-requires : tie.Need-with-kind-requires
-with-kind-requires c κs = search needs
-
-cast-with-spaced : tie.Need-cast-with-spaced
-cast-with-spaced c = search needs
-
-with-spaced-requires : tie.Need-with-spaced-requires
-with-spaced-requires c κs = search needs
-
-cast-with-spaced-2 : tie.Need-cast-with-spaced-2
-cast-with-spaced-2 c = search needs
-
-with-spaced-requires-2 : tie.Need-with-spaced-requires-2
-with-spaced-requires-2 c κs = search needs
-
-cast-with-spaced-3 : tie.Need-cast-with-spaced-3
-cast-with-spaced-3 c = search needs
-
-with-spaced-requires-3 : tie.Need-with-spaced-requires-3
-with-spaced-requires-3 c κs = search needs
-
-slice-aggregate-with-word : tie.Need-slice-aggregate-with-word
-slice-aggregate-with-word c = search needs
-
-with-word-requires : tie.Need-with-word-requires
-with-word-requires c κs = search needs
-
 returns : tie.Need-returns
 returns c =
     let to = c .before .before in
@@ -60,14 +30,14 @@ pub with-record-spec : {M : Type 1} → statement M
 with-record-spec =
     tie.close
     (tie.spec
-    with-number-requires
-    with-kind-requires
-    cast-with-spaced
-    with-spaced-requires
-    cast-with-spaced-2
-    with-spaced-requires-2
-    cast-with-spaced-3
-    with-spaced-requires-3
-    slice-aggregate-with-word
-    with-word-requires
+    (λ c κs. search needs)
+    (λ c κs. search needs)
+    (λ c. search needs)
+    (λ c κs. search needs)
+    (λ c. search needs)
+    (λ c κs. search needs)
+    (λ c. search needs)
+    (λ c κs. search needs)
+    (λ c. search needs)
+    (λ c κs. search needs)
     returns)

@@ -6,15 +6,6 @@ use borrow.Author.Needs.{needs}
 use Rattle.printout.proofs.lines.with_spaced.Statement.{statement}
 use Rattle.printout.proofs.lines.with_spaced.Tie as tie
 
-slice-aggregate-with-word : tie.Need-slice-aggregate-with-word
-slice-aggregate-with-word c = search needs
-
-with-word-requires : tie.Need-with-word-requires
-with-word-requires c κs = search needs
-
-with-number-requires : tie.Need-with-number-requires
-with-number-requires c κs = search needs
-
 returns : tie.Need-returns
 returns c =
     let a = c .before .before .before .args in
@@ -24,4 +15,4 @@ returns c =
 
 pub with-spaced-spec : {M : Type 1} → statement M
 with-spaced-spec =
-    tie.close (tie.spec slice-aggregate-with-word with-word-requires with-number-requires returns)
+    tie.close (tie.spec (λ c. search needs) (λ c κs. search needs) (λ c κs. search needs) returns)

@@ -12,12 +12,6 @@ use borrow.Author.Needs.{needs}
 use Rattle.printout.proofs.printing.book_text.Statement.{statement}
 use Rattle.printout.proofs.printing.book_text.Tie as tie
 
-empty-requires : tie.Need-empty-requires
-empty-requires c κs = search needs
-
-with-book-requires : tie.Need-with-book-requires
-with-book-requires c κs = search needs
-
 returns : tie.Need-returns
 returns c =
     let n = c .before .before .args .refusal in
@@ -27,4 +21,4 @@ returns c =
     ∙ held [] (bookLine n) (omega arith))
 
 pub book-text-spec : {M : Type 1} → statement M
-book-text-spec = tie.close (tie.spec empty-requires with-book-requires returns)
+book-text-spec = tie.close (tie.spec (λ c κs. search needs) (λ c κs. search needs) returns)

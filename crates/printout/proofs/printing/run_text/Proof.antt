@@ -13,26 +13,8 @@ Inv-loop log logged refused text₀ i₀ text i = (i ≤ logged) × Printed (log
 abbrev μ-loop : tie.MeasureT-loop
 μ-loop log logged refused text₀ i₀ text i = logged - i
 
-empty-requires : tie.Need-empty-requires Inv-loop μ-loop
-empty-requires c κs = search needs
-
 loop-holds : tie.Need-loop-holds Inv-loop μ-loop
 loop-holds c = (omega arith, none-printed _ _ (c .empty .ensures))
-
-cast-log-at : tie.Need-cast-log-at Inv-loop μ-loop
-cast-log-at c = search needs
-
-log-at-requires : tie.Need-log-at-requires Inv-loop μ-loop
-log-at-requires c κs = search needs
-
-with-record-requires : tie.Need-with-record-requires Inv-loop μ-loop
-with-record-requires c κs = search needs
-
-add-i : tie.Need-add-i Inv-loop μ-loop
-add-i c = omega arith
-
-loop-less : tie.Need-loop-less Inv-loop μ-loop
-loop-less c = omega arith
 
 loop-again : tie.Need-loop-again Inv-loop μ-loop
 loop-again c =
@@ -40,9 +22,6 @@ loop-again c =
     let a = c .before .before .before .loop in
     let entry = c .before .log-at .ensures in
     (omega arith, printed-next _ _ _ _ _ (omega arith) (a .inv .1) entry (printed .0) (printed .1))
-
-with-end-requires : tie.Need-with-end-requires Inv-loop μ-loop
-with-end-requires c κs = search needs
 
 returns : tie.Need-returns Inv-loop μ-loop
 returns c =
@@ -58,13 +37,13 @@ run-text-spec =
     (tie.spec
     Inv-loop
     μ-loop
-    empty-requires
+    (λ c κs. search needs)
     loop-holds
-    cast-log-at
-    log-at-requires
-    with-record-requires
-    add-i
-    loop-less
+    (λ c. search needs)
+    (λ c κs. search needs)
+    (λ c κs. search needs)
+    (λ c. omega arith)
+    (λ c. omega arith)
     loop-again
-    with-end-requires
+    (λ c κs. search needs)
     returns)

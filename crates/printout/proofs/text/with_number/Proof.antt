@@ -6,18 +6,6 @@ use borrow.Author.Needs.{needs}
 use Rattle.printout.proofs.text.with_number.Statement.{statement}
 use Rattle.printout.proofs.text.with_number.Tie as tie
 
-decimal-requires : tie.Need-decimal-requires
-decimal-requires c κs = search needs
-
-array-share-prefix-digits : tie.Need-array-share-prefix-digits
-array-share-prefix-digits c = search needs
-
-slice-aggregate-with-word : tie.Need-slice-aggregate-with-word
-slice-aggregate-with-word c = search needs
-
-with-word-requires : tie.Need-with-word-requires
-with-word-requires c κs = search needs
-
 returns : tie.Need-returns
 returns c =
     let a = c .before .before .before .before .args in
@@ -29,8 +17,8 @@ pub with-number-spec : {M : Type 1} → statement M
 with-number-spec =
     tie.close
     (tie.spec
-    decimal-requires
-    array-share-prefix-digits
-    slice-aggregate-with-word
-    with-word-requires
+    (λ c κs. search needs)
+    (λ c. search needs)
+    (λ c. search needs)
+    (λ c κs. search needs)
     returns)
