@@ -1,0 +1,94 @@
+-- Each claim, by its proof.
+use Rattle.line.proofs.Claims.{line-book}
+use Rattle.frame.proofs.RoundTrip.{round-trip as frames-read-back}
+use Rattle.journal.proofs.Records.{logged-as-sent}
+use Rattle.journal.proofs.Appended.{only-appended}
+use Rattle.completion.proofs.Standing.{standing}
+use Rattle.completion.proofs.Rule.{table-rule, unique-codes}
+use Rattle.completion.proofs.Agreement.{first-move}
+use Rattle.driver.proofs.Validity.{validity}
+use Rattle.driver.proofs.Refusals.{refusals as unit-refusals}
+use Rattle.driver.proofs.History.{history}
+use Rattle.rules.proofs.Refusals.{refusals}
+use Rattle.assurance.proofs.WholeList.{whole-list}
+use Rattle.assurance.proofs.OneFrame.{valid-kept, refusals-change-nothing, at-most-six, bit-in-table}
+use Rattle.assurance.proofs.OneFrame.{exact-grant, oldest-first, right-grant}
+use Rattle.assurance.proofs.Unread.{unread, left-alone}
+use Rattle.assurance.proofs.Replies.{all-replies}
+use Rattle.assurance.proofs.NeverRefused.{never-refused-in-runs}
+use Rattle.assurance.proofs.Homecoming.{homecoming}
+use Rattle.assurance.proofs.Waiting.{no-needless-wait}
+use Rattle.assurance.proofs.Arrival.{arrival-of-all}
+use Rattle.assurance.proofs.Turns.{turn-by-turn}
+use Rattle.assurance.proofs.Recorded.{journal-told}
+use Rattle.encoding.proofs.RoundTrip.{round-trip as bytes-read-back}
+use Rattle.calls.proofs.HandedOn.{handed-on}
+use Rattle.calls.proofs.CallRuns.{call-runs}
+use Rattle.console.proofs.Transcript.{transcribes}
+use Rattle.examples.proofs.Examples.{examples, printed-run}
+use Rattle.examples.proofs.Books.{books}
+use Rattle.examples.proofs.Further.{older-then, stores, full-post, parked, six-trains, both-home, precedence}
+use Rattle.promises.specs.Claims.{Parts, Cab, OneFrame, WholeLists, InUse, Evaluated}
+
+pub parts : Parts
+parts = record {
+  book = line-book;
+  frames = frames-read-back;
+  records = logged-as-sent;
+  appended = only-appended;
+  standing = standing;
+  table = table-rule;
+  codes = unique-codes;
+  first-move = first-move;
+}
+
+pub cab : Cab
+cab = record { validity = validity; numbers = unit-refusals; history = history }
+
+pub one-frame : OneFrame
+one-frame = record {
+  numbers = refusals;
+  refusals = refusals-change-nothing;
+  valid = valid-kept;
+  unread = unread;
+  left-alone = left-alone;
+  exact = exact-grant;
+  oldest = oldest-first;
+  right = right-grant;
+  bit = bit-in-table;
+  at-most-six = at-most-six;
+  replies = all-replies;
+}
+
+pub whole-lists : WholeLists
+whole-lists = record {
+  whole-list = whole-list;
+  never-refused = never-refused-in-runs;
+  homecoming = homecoming;
+  arrival = arrival-of-all;
+  no-needless-wait = no-needless-wait;
+  turns = turn-by-turn;
+  journal = journal-told;
+}
+
+pub in-use : InUse
+in-use = record {
+  bytes = bytes-read-back;
+  handed-on = handed-on;
+  runs = call-runs;
+  transcript = transcribes;
+}
+
+pub evaluated : Evaluated
+evaluated = record {
+  a-to-l = examples;
+  printed-run = printed-run;
+  books = books;
+  older-then = older-then;
+  stores = stores;
+  full-post = full-post;
+  parked = parked;
+  six-trains = six-trains;
+  both-home = both-home;
+  precedence = precedence;
+}

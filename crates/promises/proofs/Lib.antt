@@ -1,0 +1,3 @@
+-- Each promise, by its proof.
+pub mod Contracts
+pub mod Claims

@@ -1,0 +1,104 @@
+-- Each claim over the definitions that the contracts cite, by name. It is stated in the file that its `use` line names.
+use Rattle.line.specs.Claims.{LineBook}
+use Rattle.frame.specs.RoundTrip.{FramesReadBack}
+use Rattle.journal.specs.Journal.{LoggedAsSent, OnlyAppended}
+use Rattle.completion.specs.Configuration.{Standing}
+use Rattle.completion.specs.Table.{TableRule, UniqueCodes, FirstMove}
+use Rattle.driver.specs.Validity.{Validity}
+use Rattle.driver.specs.Refusals.{UnitRefusals}
+use Rattle.driver.specs.History.{History}
+use Rattle.rules.specs.Refusals.{Refusals}
+use Rattle.assurance.specs.WholeList.{WholeList}
+use Rattle.assurance.specs.OneFrame.{ValidKept, RefusalsChangeNothing, AtMostSix, BitInTable}
+use Rattle.assurance.specs.OneFrame.{ExactGrant, OldestFirst, RightGrant}
+use Rattle.assurance.specs.Unread.{Unread, LeftAlone}
+use Rattle.assurance.specs.Replies.{Replies}
+use Rattle.assurance.specs.Homecoming.{NeverRefused, Homecoming}
+use Rattle.assurance.specs.Waiting.{NoNeedlessWait}
+use Rattle.assurance.specs.Arrival.{Arrival}
+use Rattle.assurance.specs.Turns.{TurnByTurn}
+use Rattle.assurance.specs.Recorded.{JournalTold}
+use Rattle.encoding.specs.RoundTrip.{BytesReadBack}
+use Rattle.calls.specs.HandedOn.{HandedOn}
+use Rattle.calls.specs.CallRuns.{CallRuns}
+use Rattle.console.specs.Transcript.{Transcribes}
+use Rattle.examples.specs.Examples.{Examples, PrintedRun}
+use Rattle.examples.specs.Books.{Books}
+use Rattle.examples.specs.Further.{OlderThen, Stores, FullPost, Parked, SixTrains, BothHome, Precedence}
+
+-- any book, frame, record, table
+pub record Parts : Type 0 where
+  -- a book is read as one line or refused, and only the bytes of a line are read as it
+  pub book : LineBook
+  -- demand 2: frames read back as written, and only such frames are read
+  pub frames : FramesReadBack
+  -- a record has the bytes of its frame; appending touches no other record
+  pub records : LoggedAsSent
+  pub appended : OnlyAppended
+  -- before their first moves trains stand at their starts, after their last at their ends
+  pub standing : Standing
+  -- the table's bit is set exactly for configurations with a way through; from each of these there is a first move
+  pub table : TableRule
+  pub codes : UniqueCodes
+  pub first-move : FirstMove
+
+-- the unit: any press and any frame, and any list of them
+pub record Cab : Type 0 where
+  -- a unit that is made is valid and stays so; which number refuses a press or a frame
+  pub validity : Validity
+  pub numbers : UnitRefusals
+  -- it asks once for each move, goes by its authority, and moves one post at a time
+  pub history : History
+
+-- the box: any frame, in any valid state, with any table
+pub record OneFrame : Type 0 where
+  -- which number refuses a frame, and that a refusal changes nothing
+  pub numbers : Refusals
+  pub refusals : RefusalsChangeNothing
+  -- a valid state stays valid; what is past the posts and trains is neither read nor written
+  pub valid : ValidKept
+  pub unread : Unread
+  pub left-alone : LeftAlone
+  -- demand 2: a train is granted exactly if it can be, the oldest first
+  pub exact : ExactGrant
+  pub oldest : OldestFirst
+  pub right : RightGrant
+  pub bit : BitInTable
+  -- what is sent
+  pub at-most-six : AtMostSix
+  pub replies : Replies
+
+-- the box: every book that it opens and every list of frames
+pub record WholeLists : Type 0 where
+  -- demand 3
+  pub whole-list : WholeList
+  -- no frame of a run is refused by 1 or 13
+  pub never-refused : NeverRefused
+  -- the trains can all get home, and any train that runs can arrive
+  pub homecoming : Homecoming
+  pub arrival : Arrival
+  -- nobody waits who could go, and each gets its turn
+  pub no-needless-wait : NoNeedlessWait
+  pub turns : TurnByTurn
+  -- the journal is what was heard and sent
+  pub journal : JournalTold
+
+-- the ends in use: calls from C, and the desk's program
+pub record InUse : Type 0 where
+  pub bytes : BytesReadBack
+  pub handed-on : HandedOn
+  pub runs : CallRuns
+  pub transcript : Transcribes
+
+-- the paper's examples A to L and its printed run, and further ones: what the definitions say, evaluated
+pub record Evaluated : Type 0 where
+  pub a-to-l : Examples
+  pub printed-run : PrintedRun
+  pub books : Books
+  pub older-then : OlderThen
+  pub stores : Stores
+  pub full-post : FullPost
+  pub parked : Parked
+  pub six-trains : SixTrains
+  pub both-home : BothHome
+  pub precedence : Precedence
