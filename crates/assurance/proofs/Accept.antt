@@ -26,7 +26,7 @@ use Rattle.rules.proofs.Grants.{askedCount, Turn, grants-keep, granted-fewer}
 use Rattle.rules.proofs.Settling.{settled-settles}
 use Rattle.rules.proofs.Acceptance.{Taken, request, arrival}
 use Rattle.assurance.specs.Types.{Line, Move, Message, Fa, Fe, Afe, Am, Record, State}
-use Rattle.assurance.specs.Observer.{Observer, hearFrame, hearAnswer, hearAnswers}
+use Rattle.assurance.specs.Observer.{Observer, noteFrame, noteAnswer, noteAnswers}
 use Rattle.assurance.specs.WholeList.{Requested}
 use Rattle.assurance.proofs.Invariant.{Invariant}
 use Rattle.assurance.proofs.Logging.{replaced-one, later-set, requested-later, heard-more}
@@ -39,7 +39,7 @@ Room w = w .state .logged + askedCount (w .state) ≤ journalLength
 -- the work so far on a frame that found n records in the journal j; o is the observer once it has heard the frame
 pub record Worked (table : List ℕ) (n : ℕ) (j : List Record) (o : Observer) (w : Work) : Type 0 where
   pub counted : w .state .logged ≡ n + length (w .logged)
-  pub kept : Invariant table (w .state) (replaced j n (w .logged)) (hearAnswers o (w .sent))
+  pub kept : Invariant table (w .state) (replaced j n (w .logged)) (noteAnswers o (w .sent))
   pub requested : (m : Move) → List·Memᴰ (Fe m) (w .sent) → Requested (w .state .logged) (replaced j n (w .logged)) m
 
 -- the FE of a grant has its request
@@ -70,7 +70,7 @@ module _ (table : List ℕ) (n : ℕ) (j : List Record) (o : Observer) (long : j
   worked-more : (w : Work) → Worked table n j o w → (s : State) (r : Record) (a : Message)
       → s .logged ≡ w .state .logged → w .state .logged < journalLength
       → (let after = set (replaced j n (w .logged)) (w .state .logged) r in
-      Invariant table (oneLogged s) after (hearAnswer (hearAnswers o (w .sent)) a)
+      Invariant table (oneLogged s) after (noteAnswer (noteAnswers o (w .sent)) a)
       → ((m : Move) → Fe m ≡ a → Requested (s .logged + 1) after m)
       → Worked table n j o (sends s w r a))
   worked-more w k s r a same space inv own =
@@ -111,7 +111,7 @@ module _ (table : List ℕ) (n : ℕ) (j : List Record) (o : Observer) (long : j
 
   pub begun-worked : (s : State) (r : Record) → s .logged ≡ n → n + mostLogged ≤ journalLength
       → Invariant table (oneLogged s) (set j n r) o → Worked table n j o (begun s r) × Room (begun s r)
-  unfolding hearAnswers
+  unfolding noteAnswers
   begun-worked s r same space inv =
       let few = count-le (s .trains) (λ t. isAsked (trainOf s t .status)) in (
         record {
@@ -138,17 +138,17 @@ module _ (table : List ℕ) (n : ℕ) (j : List Record) (o : Observer) (long : j
 
 pub accepted-worked : (table : List ℕ) (s : State) (j : List Record) (o : Observer) → Invariant table s j o
     → (a : Message) → Taken s a
-    → Worked table (s .logged) j (hearFrame o a) (accepted table s a)
+    → Worked table (s .logged) j (noteFrame o a) (accepted table s a)
 unfolding accepted
 accepted-worked table s j o inv a (request m q free idle) =
     let w = taken s (Fa m) (withStatus (trainOf s (m .train .0)) (Asked (s .logged))) in
-    let k = settled-worked table (s .logged) j (hearFrame o (Fa m)) (inv .room) w
-    (begun-worked table (s .logged) j (hearFrame o (Fa m)) (inv .room) _ _ refl (q .space)
+    let k = settled-worked table (s .logged) j (noteFrame o (Fa m)) (inv .room) w
+    (begun-worked table (s .logged) j (noteFrame o (Fa m)) (inv .room) _ _ refl (q .space)
     (request-kept table s j o inv m q idle)) in
     let known : m .train .0 < settled table w .state .trains =
     rw (ap (λ (l : Line). l .trains) (settled-settles table w .line)) (q .known) in
-    declined-worked table (s .logged) j (hearFrame o (Fa m)) (inv .room) m (settled table w) known k
+    declined-worked table (s .logged) j (noteFrame o (Fa m)) (inv .room) m (settled table w) known k
 accepted-worked table s j o inv a (arrival m q runs) =
-    settled-worked table (s .logged) j (hearFrame o (Am m)) (inv .room) _
-    (begun-worked table (s .logged) j (hearFrame o (Am m)) (inv .room) _ _ refl (q .space)
+    settled-worked table (s .logged) j (noteFrame o (Am m)) (inv .room) _
+    (begun-worked table (s .logged) j (noteFrame o (Am m)) (inv .room) _ _ refl (q .space)
     (arrival-kept table s j o inv m q runs)) .0

@@ -11,7 +11,7 @@ use Rattle.common.proofs.Tests.{by-equality}
 use Rattle.common.proofs.Check.{accepts}
 use Rattle.common.proofs.Sums.{sum-le}
 use Rattle.line.specs.Line.{routeOf}
-use Rattle.line.specs.Book.{lineOf as lineIn}
+use Rattle.line.specs.Book.{lineIn}
 use Rattle.frame.specs.Frame.{readFrame, bytesOf}
 use Rattle.frame.proofs.RoundTrip.{round-trip}
 use Rattle.completion.specs.Table.{tableLength, filled}

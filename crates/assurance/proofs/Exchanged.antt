@@ -22,7 +22,7 @@ use Rattle.rules.proofs.Oldest.{Nobody}
 use Rattle.rules.proofs.Frames.{bytes-length}
 use Rattle.rules.proofs.Acceptance.{Passed, by-verdict, accepted-facts, accepted-nobody}
 use Rattle.assurance.specs.Types.{Move, Message, Fe, Record, State}
-use Rattle.assurance.specs.Observer.{Observer, readFrames, answersOf, hearBy}
+use Rattle.assurance.specs.Observer.{Observer, readFrames, answersOf, noteBy}
 use Rattle.assurance.specs.WholeList.{Requested}
 use Rattle.assurance.proofs.Invariant.{Invariant}
 use Rattle.assurance.proofs.Logging.{Later, later-same}
@@ -71,7 +71,7 @@ module _ {table : List ℕ} {s : State} {j : List Record} {o : Observer} (k : Se
 -- what the answer to a frame leaves
 pub record Exchanged (table : List ℕ) (s : State) (j : List Record) (o : Observer) (frame : List ℕ) (a : Answer)
     : Type 0 where
-  pub after : Settled table (a .state) (a .journal) (hearBy o frame (a .verdict) (a .out))
+  pub after : Settled table (a .state) (a .journal) (noteBy o frame (a .verdict) (a .out))
   pub line : lineOf (a .state) ≡ lineOf s
   pub requested : (m : Move) → List·Memᴰ (Fe m) (answersOf (a .verdict) (a .out))
       → Requested (a .state .logged) (a .journal) m

@@ -13,7 +13,7 @@ use Rattle.common.proofs.Tests.{clash, by-cases, not-passed}
 use Rattle.common.proofs.Below.{any-below, below-any}
 use Rattle.common.proofs.Check.{accepts}
 use Rattle.line.specs.Line.{routeOf}
-use Rattle.line.specs.Book.{lineOf as lineIn}
+use Rattle.line.specs.Book.{lineIn}
 use Rattle.frame.specs.Frame.{readFrame, bytesOf}
 use Rattle.frame.specs.RoundTrip.{IsMessage}
 use Rattle.frame.proofs.RoundTrip.{round-trip}

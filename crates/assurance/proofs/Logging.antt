@@ -12,7 +12,7 @@ use Rattle.common.specs.Part.{replaced}
 use Rattle.common.proofs.Part.{replaced-none, replaced-more}
 use Rattle.journal.specs.Journal.{blank, frameOf, recordAt}
 use Rattle.assurance.specs.Types.{Move, Message, Record}
-use Rattle.assurance.specs.Observer.{Observer, hearAnswer, hearAnswers}
+use Rattle.assurance.specs.Observer.{Observer, noteAnswer, noteAnswers}
 use Rattle.assurance.specs.WholeList.{Requested}
 
 -- ---- a list with one element more
@@ -69,7 +69,7 @@ requested-later l q = record {
 -- ---- the observer
 
 pub heard-more : (o : Observer) (l : List Message) (a : Message)
-    → hearAnswers o (l ++ a ∷ []) ≡ hearAnswer (hearAnswers o l) a
-unfolding hearAnswers
+    → noteAnswers o (l ++ a ∷ []) ≡ noteAnswer (noteAnswers o l) a
+unfolding noteAnswers
 heard-more o [] a = refl
-heard-more o (b ∷ l) a = heard-more (hearAnswer o b) l a
+heard-more o (b ∷ l) a = heard-more (noteAnswer o b) l a

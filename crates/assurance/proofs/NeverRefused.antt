@@ -13,7 +13,7 @@ use Rattle.common.proofs.Tests.{and-both}
 use Rattle.common.proofs.Check.{clear, not-given}
 use Rattle.frame.specs.Frame.{readFrame}
 use Rattle.line.specs.Refusal.{strangeState, journalFull}
-use Rattle.line.specs.Book.{lineOf as lineIn}
+use Rattle.line.specs.Book.{lineIn}
 use Rattle.journal.specs.Journal.{journalLength}
 use Rattle.rules.specs.Answer.{mostLogged, hasRoom, frameChecks, answer}
 use Rattle.rules.specs.Opening.{opening}

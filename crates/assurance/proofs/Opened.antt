@@ -18,7 +18,7 @@ use Rattle.common.proofs.Check.{passed-by, accepts, refuses}
 use Rattle.line.specs.Refusal.{shortStore, posts, tracks, trains, offTheLine, overfull, noWayThrough}
 use Rattle.line.specs.Line.{routeOf}
 use Rattle.line.specs.Holding.{holdsPost, holdsSection}
-use Rattle.line.specs.Book.{lineOf as lineIn}
+use Rattle.line.specs.Book.{lineIn}
 use Rattle.line.proofs.Travel.{start-between, post-start}
 use Rattle.line.proofs.WellFormed.{WellFormed, well-formed-parts, well-formed}
 use Rattle.journal.specs.Journal.{journalLength}

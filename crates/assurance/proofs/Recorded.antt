@@ -9,7 +9,7 @@ use Rattle.common.specs.Part.{replaced}
 use Rattle.frame.specs.Frame.{readFrame}
 use Rattle.journal.specs.Journal.{recordOf}
 use Rattle.completion.specs.Table.{filled}
-use Rattle.line.specs.Book.{lineOf as lineIn}
+use Rattle.line.specs.Book.{lineIn}
 use Rattle.rules.specs.Answer.{accepted, framesOf, answered, answer}
 use Rattle.rules.specs.Opening.{Opening, openedState}
 use Rattle.rules.proofs.Acceptance.{Passed, by-verdict, accepted-facts, taken-space}

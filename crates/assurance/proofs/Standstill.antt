@@ -12,7 +12,7 @@ use Rattle.common.proofs.Tests.{clash, by-cases, not-passed, and-left, and-righ
 use Rattle.common.proofs.Below.{count-none, count-cong, count-change, any-below, below-any}
 use Rattle.common.proofs.Update.{update-own, update-other}
 use Rattle.line.specs.Line.{routeOf, tracksAt}
-use Rattle.line.specs.Route.{sectionOf, routeLength, postAfter}
+use Rattle.line.specs.Route.{sectionOf, routeDistance, postAfter}
 use Rattle.line.specs.Holding.{Whereabouts, holdsPost, holdsSection, postHolders, sectionHolders}
 use Rattle.line.proofs.Travel.{post-travelled, post-next, next-other, next-within}
 use Rattle.completion.specs.Configuration.{Arrived, Completable, whereabouts, moved}
@@ -48,7 +48,7 @@ module _ (table : List ℕ) (s : State) (d : Valid s) (right : Right (lineOf s) 
 
     short-of : (t : ℕ) → t < s .trains → Short s t → Arrived (lineOf s) (reached s) → ⊥
     short-of t k short e =
-        let far : reached s t ≡ routeLength (trainOf s t .route) = e t k ∙ rw (route-of s t) in
+        let far : reached s t ≡ routeDistance (trainOf s t .route) = e t k ∙ rw (route-of s t) in
         omega (arith, next-within _ _ _ (d .each t k .inside) short, reached-idle s t (idle t k))
 
     -- ---- the first move of a completion can be granted
@@ -59,8 +59,8 @@ module _ (table : List ℕ) (s : State) (d : Valid s) (right : Right (lineOf s) 
 
       away : Short s (m .train)
       away e =
-          let far : reached s (m .train) < routeLength (mover .route) = rw (route-of s (m .train)) at (m .short) in
-          let here : reached s (m .train) ≡ routeLength (mover .route) =
+          let far : reached s (m .train) < routeDistance (mover .route) = rw (route-of s (m .train)) at (m .short) in
+          let here : reached s (m .train) ≡ routeDistance (mover .route) =
           reached-idle s (m .train) (idle (m .train) (m .known)) ∙ rw e in
           omega arith
 

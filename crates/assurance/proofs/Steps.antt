@@ -26,8 +26,8 @@ use Rattle.rules.proofs.Changes.{grantable-facts, short-place, valid-logged, va
 use Rattle.rules.proofs.Acceptance.{NextMove}
 use Rattle.rules.proofs.Reached.{moved-within}
 use Rattle.assurance.specs.Types.{Move, Message, Fa, Fe, Afe, Am, Record, State}
-use Rattle.assurance.specs.Observer.{Claim, nothing, asked, authority, Seen, Observer, isFor, hearFrame}
-use Rattle.assurance.specs.Observer.{hearAnswer}
+use Rattle.assurance.specs.Observer.{Claim, nothing, asked, authority, Seen, Observer, isFor, noteFrame}
+use Rattle.assurance.specs.Observer.{noteAnswer}
 use Rattle.assurance.specs.WholeList.{isFeOf}
 use Rattle.assurance.proofs.Invariant.{given, given-more, Invariant, changed-kept}
 
@@ -47,7 +47,7 @@ module _ (table : List ℕ) (s : State) (j : List Record) (o : Observer) (inv : 
   pub grant-kept : grantable table s t ≡ true
       → let x = withStatus (trainOf s t) Running in
       let a = Fe (nextMove s t) in
-      Invariant table (oneLogged (withTrain s t x)) (set j (s .logged) (recordOf a)) (hearAnswer o a)
+      Invariant table (oneLogged (withTrain s t x)) (set j (s .logged) (recordOf a)) (noteAnswer o a)
   grant-kept e =
       let g = grantable-facts table s t e in
       let d = inv .valid-state in
@@ -55,7 +55,7 @@ module _ (table : List ℕ) (s : State) (j : List Record) (o : Observer) (inv : 
       let idle = asked-idle (trainOf s t .status) (g .asks) in
       let permit = authority (trainOf s t .at .0) (nextOf (trainOf s t)) in
       let further : reachedBy x ≡ reached s t + 1 = rw idle (omega arith) in
-      changed-kept table s j o (hearAnswer o (Fe (nextMove s t))) t (Fe (nextMove s t)) x inv refl space
+      changed-kept table s j o (noteAnswer o (Fe (nextMove s t))) t (Fe (nextMove s t)) x inv refl space
       (λ u h. update-other o t _ u h)
       (in-fleet s t (λ y. isAsked (y .status)) refl (g .asks)) refl (valid-grant s d t known table e)
       (record {
@@ -94,12 +94,12 @@ module _ (table : List ℕ) (s : State) (j : List Record) (o : Observer) (inv : 
     pub request-kept : isRunning (trainOf s (m .train .0) .status) ≡ false
         → let x = withStatus (trainOf s (m .train .0)) (Asked (s .logged)) in
         Invariant table (oneLogged (withTrain s (m .train .0) x)) (set j (s .logged) (recordOf (Fa m)))
-        (hearFrame o (Fa m))
+        (noteFrame o (Fa m))
     unfolding recordOf
     request-kept idle =
         let t = m .train .0 in
         let x = withStatus (trainOf s t) (Asked (s .logged)) in
-        changed-kept table s j o (hearFrame o (Fa m)) t (Fa m) x inv refl space (λ u h. update-other o t _ u h)
+        changed-kept table s j o (noteFrame o (Fa m)) t (Fa m) x inv refl space (λ u h. update-other o t _ u h)
         place refl (valid-request s (inv .valid-state) t (n .known) (n .short) idle)
         (record {
           seen = update-own o t _ ∙ ap (λ (y : Seen). seenWith (y .post) asked) (inv .each t (n .known) .seen);
@@ -112,7 +112,7 @@ module _ (table : List ℕ) (s : State) (j : List Record) (o : Observer) (inv : 
     pub arrival-kept : isRunning (trainOf s (m .train .0) .status) ≡ true
         → let x = arrivedNext (trainOf s (m .train .0)) in
         Invariant table (oneLogged (withTrain s (m .train .0) x)) (set j (s .logged) (recordOf (Am m)))
-        (hearFrame o (Am m))
+        (noteFrame o (Am m))
     unfolding recordOf
     arrival-kept runs =
         let t = m .train .0 in
@@ -130,7 +130,7 @@ module _ (table : List ℕ) (s : State) (j : List Record) (o : Observer) (inv : 
           eq-eqb (trainOf s t .at .0) _ refl,
           eq-eqb (nextOf (trainOf s t)) _ refl,
         ) in
-        let heard : hearFrame o (Am m) ≡ arrived = rw authorised in
+        let heard : noteFrame o (Am m) ≡ arrived = rw authorised in
         rw heard (changed-kept table s j o arrived t (Am m) x inv refl space (λ u h. update-other o t _ u h) place refl
         (valid-arrival s (inv .valid-state) t (n .known) (n .short) runs)
         (record {
@@ -142,7 +142,7 @@ module _ (table : List ℕ) (s : State) (j : List Record) (o : Observer) (inv : 
 
   pub decline-kept : (m : Move) → m .train .0 < s .trains → isAsked (trainOf s (m .train .0) .status) ≡ true
       → s .logged < journalLength
-      → Invariant table (oneLogged s) (set j (s .logged) (recordOf (Afe m))) (hearAnswer o (Afe m))
+      → Invariant table (oneLogged s) (set j (s .logged) (recordOf (Afe m))) (noteAnswer o (Afe m))
   unfolding recordOf
   decline-kept m known asks room =
       let t = m .train .0 in

@@ -19,7 +19,7 @@ use Rattle.rules.proofs.Trains.{route-of}
 use Rattle.rules.proofs.Validity.{one-holder}
 use Rattle.assurance.specs.Types.{Record, State}
 use Rattle.assurance.specs.Run.{Ran}
-use Rattle.assurance.specs.Observer.{nothing, authority, Seen, Observer, locatedBy, located, hasAuthority}
+use Rattle.assurance.specs.Observer.{nothing, authority, Seen, Observer, locatedBy, locatedTold, hasAuthority}
 use Rattle.assurance.specs.Observer.{hasAsked, nextTold, reachedTold}
 use Rattle.assurance.specs.WholeList.{ShortOfEnd, Unhindered, Assured}
 use Rattle.assurance.proofs.Invariant.{claimOf, seenOf, Invariant}
@@ -65,7 +65,7 @@ module _ (table : List ℕ) (s : State) (j : List Record) (o : Observer) (inv : 
   pub seen : o t ≡ seenOf x
   seen = inv .each t kt .seen
 
-  pub told : located o t ≡ recorded s t
+  pub told : locatedTold o t ≡ recorded s t
   told = rw seen (located-as (x .status) (at (x .at .0)) (x .at .0) (nextOf x))
 
   pub at-post : o t .post ≡ x .at .0
@@ -88,12 +88,12 @@ module _ (table : List ℕ) (s : State) (j : List Record) (o : Observer) (inv : 
 -- ---- who holds
 
 module _ (table : List ℕ) (s : State) (j : List Record) (o : Observer) (inv : Invariant table s j o) where
-  pub sections-told : (i : ℕ) → sectionHolders (s .trains) (located o) i ≡ sectionHolders (s .trains) (recorded s) i
-  sections-told i = count-cong (s .trains) (λ u. holdsSection (located o u) i) (λ u. holdsSection (recorded s u) i)
+  pub sections-told : (i : ℕ) → sectionHolders (s .trains) (locatedTold o) i ≡ sectionHolders (s .trains) (recorded s) i
+  sections-told i = count-cong (s .trains) (λ u. holdsSection (locatedTold o u) i) (λ u. holdsSection (recorded s u) i)
       (λ u ku. ap (λ (w : Whereabouts). holdsSection w i) (told table s j o inv u ku))
 
-  pub posts-told : (p : ℕ) → postHolders (s .trains) (located o) p ≡ postHolders (s .trains) (recorded s) p
-  posts-told p = count-cong (s .trains) (λ u. holdsPost (located o u) p) (λ u. holdsPost (recorded s u) p)
+  pub posts-told : (p : ℕ) → postHolders (s .trains) (locatedTold o) p ≡ postHolders (s .trains) (recorded s) p
+  posts-told p = count-cong (s .trains) (λ u. holdsPost (locatedTold o u) p) (λ u. holdsPost (recorded s u) p)
       (λ u ku. ap (λ (w : Whereabouts). holdsPost w p) (told table s j o inv u ku))
 
 -- ---- the claim over a list

@@ -11,7 +11,7 @@ use lib.ListN.{length, length-append}
 use Rattle.common.specs.Part.{replaced}
 use Rattle.common.specs.Update.{update}
 use Rattle.common.proofs.Tests.{clash, by-cases}
-use Rattle.line.specs.Book.{lineOf as lineIn}
+use Rattle.line.specs.Book.{lineIn}
 use Rattle.frame.specs.Frame.{readFrame}
 use Rattle.journal.specs.Journal.{journalLength}
 use Rattle.completion.specs.Table.{filled}
@@ -27,7 +27,7 @@ use Rattle.rules.proofs.Grants.{Turn, grants-keep, granted-place, granted-line}
 use Rattle.rules.proofs.Acceptance.{Taken, request, arrival, by-verdict, accepted-facts}
 use Rattle.assurance.specs.Types.{Line, Move, Message, Fa, Fe, Afe, Am, Record, State}
 use Rattle.assurance.specs.Run.{Input, run}
-use Rattle.assurance.specs.Observer.{Observer, atOpening, hearFrame, hearAnswers, answersOf, observe}
+use Rattle.assurance.specs.Observer.{Observer, atOpening, noteFrame, noteAnswers, answersOf, observe}
 use Rattle.assurance.specs.Turns.{Turns, turnBy, turnIn, turnsFrom, turns, InTurn, TurnByTurn}
 use Rattle.assurance.proofs.Invariant.{Invariant}
 use Rattle.assurance.proofs.Order.{InOrder, no-more-asked, asks-last}
@@ -45,11 +45,11 @@ use Rattle.assurance.proofs.WholeList.{opened-run}
 -- each FE among the answers goes to the train whose turn it is; o is the observer once it has heard the frame
 abbrev GivenInTurn : Line → Turns → Observer → List Message → Type 0
 GivenInTurn l k o answers = (said : List Message) (m : Move) (rest : List Message) → answers ≡ said ++ Fe m ∷ rest
-    → InTurn l k (hearAnswers o said) m
+    → InTurn l k (noteAnswers o said) m
 
 -- one answer more
 given-more : (l : Line) (k : Turns) (o : Observer) (answers : List Message) (a : Message) → GivenInTurn l k o answers
-    → ((m : Move) → Fe m ≡ a → InTurn l k (hearAnswers o answers) m) → GivenInTurn l k o (answers ++ a ∷ [])
+    → ((m : Move) → Fe m ≡ a → InTurn l k (noteAnswers o answers) m) → GivenInTurn l k o (answers ++ a ∷ [])
 given-more l k o answers a given own said m rest e = ⊎-elim
     (λ h. rw (h .0) (own m (h .1)))
     (λ h. given said m (h .0) (h .1))
@@ -71,10 +71,10 @@ module _ (table : List ℕ) (c : ℕ) (j : List Record) (o : Observer) (long : j
     abbrev s : State
     s = w .state
 
-    inv : Invariant table s (replaced j c (w .logged)) (hearAnswers o (w .sent))
+    inv : Invariant table s (replaced j c (w .logged)) (noteAnswers o (w .sent))
     inv = h .worked .0 .kept
 
-    turn : InTurn (lineOf s) k (hearAnswers o (w .sent)) (nextMove s t)
+    turn : InTurn (lineOf s) k (noteAnswers o (w .sent)) (nextMove s t)
     turn = record {
       known = f .known;
       next = rw (next-told table s _ _ inv t (f .known), at-post table s _ _ inv t (f .known));
@@ -94,7 +94,7 @@ module _ (table : List ℕ) (c : ℕ) (j : List Record) (o : Observer) (long : j
           refl (h .ordered);
       given = given-more l k o (w .sent) (Fe (nextMove s t)) (h .given) (λ m e.
           let same : m ≡ nextMove s t = cc in
-          rw same (subst (λ (z : Line). InTurn z k (hearAnswers o (w .sent)) (nextMove s t)) (h .line) turn));
+          rw same (subst (λ (z : Line). InTurn z k (noteAnswers o (w .sent)) (nextMove s t)) (h .line) turn));
     }
 
   settled-turned : (w : Work) → Turned w → Turned (settled table w)
@@ -120,20 +120,20 @@ declined-kept table c j o long l n k m w h = by-cases (isAsked (trainOf (w .stat
 module _ (table : List ℕ) (s : State) (j : List Record) (o : Observer) (inv : Invariant table s j o) (n : ℕ) (k : Turns)
     (h : InOrder s n k) where
   accepted-turned : (a : Message) → Taken s a
-      → Kept (lineOf s) (n + 1) (turnBy n k a) (hearFrame o a) (accepted table s a)
-  unfolding accepted hearAnswers
+      → Kept (lineOf s) (n + 1) (turnBy n k a) (noteFrame o a) (accepted table s a)
+  unfolding accepted noteAnswers
   accepted-turned a (request m q free idle) =
       let t = m .train .0 in
       let x = withStatus (trainOf s t) (Asked (s .logged)) in
       let w = taken s (Fa m) x in
-      declined-kept table (s .logged) j (hearFrame o (Fa m)) (inv .room) (lineOf s) (n + 1) (update k t n) m
+      declined-kept table (s .logged) j (noteFrame o (Fa m)) (inv .room) (lineOf s) (n + 1) (update k t n) m
       (settled table w)
-      (settled-turned table (s .logged) j (hearFrame o (Fa m)) (inv .room) (lineOf s) (n + 1) (update k t n) w (record {
-        worked = begun-worked table (s .logged) j (hearFrame o (Fa m)) (inv .room) _ _ refl (q .space)
+      (settled-turned table (s .logged) j (noteFrame o (Fa m)) (inv .room) (lineOf s) (n + 1) (update k t n) w (record {
+        worked = begun-worked table (s .logged) j (noteFrame o (Fa m)) (inv .room) _ _ refl (q .space)
             (request-kept table s j o inv m q idle);
         line = changed-line s t x (s .logged + 1) refl;
         ordered = asks-last s (inv .valid-state) t (s .logged + 1) n k (short-place s t (q .short)) h;
-        given = given-none (lineOf s) (update k t n) (hearFrame o (Fa m));
+        given = given-none (lineOf s) (update k t n) (noteFrame o (Fa m));
       }))
   accepted-turned a (arrival m q runs) =
       let t = m .train .0 in
@@ -142,12 +142,12 @@ module _ (table : List ℕ) (s : State) (j : List Record) (o : Observer) (inv : 
       let later : InOrder s (n + 1) k =
       record { before = λ u ku e. omega (arith, h .before u ku e); order = h .order } in
       let v =
-      settled-turned table (s .logged) j (hearFrame o (Am m)) (inv .room) (lineOf s) (n + 1) k w (record {
-        worked = begun-worked table (s .logged) j (hearFrame o (Am m)) (inv .room) _ _ refl (q .space)
+      settled-turned table (s .logged) j (noteFrame o (Am m)) (inv .room) (lineOf s) (n + 1) k w (record {
+        worked = begun-worked table (s .logged) j (noteFrame o (Am m)) (inv .room) _ _ refl (q .space)
             (arrival-kept table s j o inv m q runs);
         line = changed-line s t x (s .logged + 1) refl;
         ordered = no-more-asked s t x (s .logged + 1) (n + 1) k (short-place s t (q .short)) refl later;
-        given = given-none (lineOf s) k (hearFrame o (Am m));
+        given = given-none (lineOf s) k (noteFrame o (Am m));
       }) in
       record { ordered = v .ordered; given = v .given }
 
@@ -155,7 +155,7 @@ module _ (table : List ℕ) (s : State) (j : List Record) (o : Observer) (inv : 
 
 record Exchanges (s : State) (o : Observer) (n : ℕ) (k : Turns) (frame : List ℕ) (a : Answer) : Type 0 where
   ordered : InOrder (a .state) (n + 1) (turnIn n k frame (a .verdict))
-  given : GivenInTurn (lineOf s) (turnIn n k frame (a .verdict)) (hearFrame o (readFrame frame))
+  given : GivenInTurn (lineOf s) (turnIn n k frame (a .verdict)) (noteFrame o (readFrame frame))
       (answersOf (a .verdict) (a .out))
 
 answer-turned : (table : List ℕ) (s : State) (j : List Record) (o : Observer) → Invariant table s j o → (n : ℕ)
@@ -163,7 +163,7 @@ answer-turned : (table : List ℕ) (s : State) (j : List Record) (o : Observer) 
 answer-turned table s j o inv n k h frame out = by-verdict s table j frame out (Exchanges s o n k frame)
     (λ c e. record {
       ordered = record { before = λ u ku e. omega (arith, h .before u ku e); order = h .order };
-      given = given-none (lineOf s) k (hearFrame o (readFrame frame));
+      given = given-none (lineOf s) k (noteFrame o (readFrame frame));
     })
     (λ p.
     let v = accepted-turned table s j o inv n k h (readFrame frame) (p .message) in
@@ -208,7 +208,7 @@ turn-by-turn book table journal inputs e =
     subst
     (λ (z : Line).
     GivenInTurn z (turnIn (length inputs) (turns (r .exchanges)) (i .frame) (a .verdict))
-    (hearFrame o (readFrame (i .frame))) (answersOf (a .verdict) (a .out)))
+    (noteFrame o (readFrame (i .frame))) (answersOf (a .verdict) (a .out)))
     (after .line ∙ opened-line book)
     (answer-turned (filled l table) (r .state) (r .journal) o (after .after .kept) (length inputs)
     (turns (r .exchanges)) now (i .frame) (i .out) .given))

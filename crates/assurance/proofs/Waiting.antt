@@ -6,7 +6,7 @@ use mathlib.Core.List.{List}
 use Prim.Native.Nat.{ℕ, _<_}
 use Rattle.common.proofs.Tests.{clash}
 use Rattle.line.specs.Route.{sectionOf}
-use Rattle.line.specs.Book.{lineOf as lineIn}
+use Rattle.line.specs.Book.{lineIn}
 use Rattle.completion.specs.Configuration.{Agree, moved}
 use Rattle.completion.specs.Table.{filled}
 use Rattle.completion.proofs.Agreement.{completable-cong, moved-cong}

@@ -3,7 +3,7 @@
 use mathlib.Core.Path.{_≡_, sym, subst, _∙_}
 use mathlib.Core.List.{List}
 use Prim.Native.Nat.{ℕ}
-use Rattle.line.specs.Book.{lineOf as lineIn}
+use Rattle.line.specs.Book.{lineIn}
 use Rattle.completion.specs.Table.{filled}
 use Rattle.rules.specs.Opening.{Opening, openedState, opening}
 use Rattle.assurance.specs.Types.{Line, Record}

@@ -6,7 +6,7 @@ use mathlib.Core.List.{List, [], _∷_}
 use Prim.Native.Nat.{ℕ, _+_, _*_, _≤_}
 use lib.ListN.{length}
 use Rattle.common.specs.Below.{ofBool, sumBelow}
-use Rattle.line.specs.Book.{lineOf}
+use Rattle.line.specs.Book.{lineIn}
 use Rattle.frame.specs.Frame.{moveOf, bytesOf}
 use Rattle.completion.specs.Configuration.{distanceOf}
 use Rattle.rules.specs.Answer.{outLength}
@@ -67,6 +67,6 @@ abbrev pub Arrival : Type 0
 Arrival = (book table : List ℕ) (journal : List Record) (inputs : List Input)
     → let o = opening book table journal in
     o .number ≡ 0
-    → let l = lineOf book in
+    → let l = lineIn book in
     let r = run (o .table) (o .state) journal inputs in
     Arrives (o .table) l r (observe (atOpening l) (r .exchanges))

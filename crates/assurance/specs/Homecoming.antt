@@ -5,7 +5,7 @@ use mathlib.Core.List.{List, _++_, List·Memᴰ}
 use Prim.Native.Nat.{ℕ, _<_}
 use Rattle.line.specs.Refusal.{strangeState, journalFull}
 use Rattle.line.specs.Line.{routeOf}
-use Rattle.line.specs.Book.{lineOf}
+use Rattle.line.specs.Book.{lineIn}
 use Rattle.rules.specs.Opening.{opening}
 use Rattle.assurance.specs.Types.{Line, Record, RefusedBy}
 use Rattle.assurance.specs.Run.{Input, Exchange, run}
@@ -31,5 +31,5 @@ abbrev pub Homecoming : Type 0
 Homecoming = (book table : List ℕ) (journal : List Record) (inputs : List Input)
     → let o = opening book table journal in
     o .number ≡ 0 → (further : List Input)
-    × (let l = lineOf book in let r = run (o .table) (o .state) journal (inputs ++ further) in
+    × (let l = lineIn book in let r = run (o .table) (o .state) journal (inputs ++ further) in
     AllAtEnds l (observe (atOpening l) (r .exchanges)))

@@ -39,29 +39,29 @@ isFor (authority a b) p q = eqb a p && eqb b q
 
 -- an accepted frame: "An accepted FA makes its train asked. An accepted AM for the move its train has an authority for
 -- puts the train at that move's to post, with nothing. .. All else changes nothing."
-abbrev pub hearFrame : Observer → Message → Observer
-hearFrame o (Fa m) = update o (m .train .0) (record { post = o (m .train .0) .post; claim = asked })
-hearFrame o (Am m) =
+abbrev pub noteFrame : Observer → Message → Observer
+noteFrame o (Fa m) = update o (m .train .0) (record { post = o (m .train .0) .post; claim = asked })
+noteFrame o (Am m) =
     cond (isFor (o (m .train .0) .claim) (m .from .0) (m .to .0))
     (update o (m .train .0) (record { post = m .to .0; claim = nothing }))
     o
-hearFrame o (Fe m) = o
-hearFrame o (Afe m) = o
-hearFrame o (Refused n) = o
+noteFrame o (Fe m) = o
+noteFrame o (Afe m) = o
+noteFrame o (Refused n) = o
 
 -- an answer: "Then each FE among the answers, in order of writing, gives its train the authority for the move it
 -- names."
-abbrev pub hearAnswer : Observer → Message → Observer
-hearAnswer o (Fe m) = update o (m .train .0)
+abbrev pub noteAnswer : Observer → Message → Observer
+noteAnswer o (Fe m) = update o (m .train .0)
     (record { post = o (m .train .0) .post; claim = authority (m .from .0) (m .to .0) })
-hearAnswer o (Fa m) = o
-hearAnswer o (Afe m) = o
-hearAnswer o (Am m) = o
-hearAnswer o (Refused n) = o
+noteAnswer o (Fa m) = o
+noteAnswer o (Afe m) = o
+noteAnswer o (Am m) = o
+noteAnswer o (Refused n) = o
 
-unfoldable pub hearAnswers : Observer → List Message → Observer
-hearAnswers o [] = o
-hearAnswers o (a ∷ l) = hearAnswers (hearAnswer o a) l
+unfoldable pub noteAnswers : Observer → List Message → Observer
+noteAnswers o [] = o
+noteAnswers o (a ∷ l) = noteAnswers (noteAnswer o a) l
 
 -- the answers are read from the out buffer: its first n frames
 unfoldable pub readFrames : ℕ → List ℕ → List Message
@@ -74,17 +74,17 @@ answersOf (RefusedBy n) out = []
 answersOf (Sent n) out = readFrames n out
 
 -- one exchange: "A refused frame changes nothing in it."
-abbrev pub hearBy : Observer → List ℕ → Verdict → List ℕ → Observer
-hearBy o frame (RefusedBy n) out = o
-hearBy o frame (Sent n) out = hearAnswers (hearFrame o (readFrame frame)) (readFrames n out)
+abbrev pub noteBy : Observer → List ℕ → Verdict → List ℕ → Observer
+noteBy o frame (RefusedBy n) out = o
+noteBy o frame (Sent n) out = noteAnswers (noteFrame o (readFrame frame)) (readFrames n out)
 
-abbrev pub hear : Observer → Exchange → Observer
-hear o e = hearBy o (e .frame) (e .verdict) (e .out)
+abbrev pub note : Observer → Exchange → Observer
+note o e = noteBy o (e .frame) (e .verdict) (e .out)
 
 -- a whole list of them
 unfoldable pub observe : Observer → List Exchange → Observer
 observe o [] = o
-observe o (e ∷ es) = observe (hear o e) es
+observe o (e ∷ es) = observe (note o e) es
 
 -- ---- what is told of a train
 
@@ -95,8 +95,8 @@ locatedBy here nothing = here
 locatedBy here asked = here
 locatedBy here (authority p q) = moving p q
 
-abbrev pub located : Observer → ℕ → Whereabouts
-located o t = locatedBy (at (o t .post)) (o t .claim)
+abbrev pub locatedTold : Observer → ℕ → Whereabouts
+locatedTold o t = locatedBy (at (o t .post)) (o t .claim)
 
 abbrev pub hasAuthority : Claim → Bool
 hasAuthority nothing = false

@@ -6,12 +6,12 @@ use mathlib.Core.List.{List, [], _∷_, _++_}
 use Prim.Native.Nat.{ℕ, _+_, _<_}
 use lib.ListN.{length}
 use Rattle.common.specs.Update.{update}
-use Rattle.line.specs.Book.{lineOf}
+use Rattle.line.specs.Book.{lineIn}
 use Rattle.frame.specs.Frame.{moveOf, readFrame}
 use Rattle.rules.specs.Opening.{opening}
 use Rattle.assurance.specs.Types.{Line, Move, Message, Fa, Fe, Afe, Am, Refused, Record, Verdict, Sent, RefusedBy}
 use Rattle.assurance.specs.Run.{Input, Exchange, run, answerAfter}
-use Rattle.assurance.specs.Observer.{Observer, atOpening, hearFrame, hearAnswers, answersOf, observe, nextTold}
+use Rattle.assurance.specs.Observer.{Observer, atOpening, noteFrame, noteAnswers, answersOf, observe, nextTold}
 use Rattle.assurance.specs.Waiting.{CouldGo}
 
 -- by train: the number in the list of its last accepted FA
@@ -53,10 +53,10 @@ abbrev pub TurnByTurn : Type 0
 TurnByTurn = (book table : List ℕ) (journal : List Record) (inputs : List Input)
     → let o = opening book table journal in
     o .number ≡ 0 → (i : Input)
-    → let l = lineOf book in
+    → let l = lineIn book in
     let r = run (o .table) (o .state) journal inputs in
     let a = answerAfter (o .table) r (i .frame) (i .out) in
-    let heard = hearFrame (observe (atOpening l) (r .exchanges)) (readFrame (i .frame)) in
+    let heard = noteFrame (observe (atOpening l) (r .exchanges)) (readFrame (i .frame)) in
     (said : List Message) (m : Move) (rest : List Message)
     → answersOf (a .verdict) (a .out) ≡ said ++ Fe m ∷ rest
-    → InTurn l (turnIn (length inputs) (turns (r .exchanges)) (i .frame) (a .verdict)) (hearAnswers heard said) m
+    → InTurn l (turnIn (length inputs) (turns (r .exchanges)) (i .frame) (a .verdict)) (noteAnswers heard said) m

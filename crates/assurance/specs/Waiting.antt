@@ -6,18 +6,18 @@ use Prim.Native.Nat.{ℕ, _<_}
 use Rattle.line.specs.Route.{sectionOf}
 use Rattle.line.specs.Line.{tracksAt}
 use Rattle.line.specs.Holding.{postHolders, sectionHolders}
-use Rattle.line.specs.Book.{lineOf}
+use Rattle.line.specs.Book.{lineIn}
 use Rattle.completion.specs.Configuration.{Completable, moved}
 use Rattle.rules.specs.Opening.{opening}
 use Rattle.assurance.specs.Types.{Line, Record}
 use Rattle.assurance.specs.Run.{Input, run}
-use Rattle.assurance.specs.Observer.{Observer, atOpening, observe, located, hasAsked, nextTold, reachedTold}
+use Rattle.assurance.specs.Observer.{Observer, atOpening, observe, locatedTold, hasAsked, nextTold, reachedTold}
 
 -- train t has asked, "the section is free, the next post has a free track, and all trains could still reach their ends"
 pub record CouldGo (l : Line) (o : Observer) (t : ℕ) : Type 0 where
   pub asks : hasAsked (o t .claim) ≡ true
-  pub section : sectionHolders (l .trains) (located o) (sectionOf (o t .post) (nextTold l o t)) ≡ 0
-  pub post : postHolders (l .trains) (located o) (nextTold l o t) < tracksAt l (nextTold l o t)
+  pub section : sectionHolders (l .trains) (locatedTold o) (sectionOf (o t .post) (nextTold l o t)) ≡ 0
+  pub post : postHolders (l .trains) (locatedTold o) (nextTold l o t) < tracksAt l (nextTold l o t)
   pub completable : Completable l (moved (reachedTold l o) t)
 
 pub record Waiting (l : Line) (o : Observer) : Type 0 where
@@ -31,6 +31,6 @@ abbrev pub NoNeedlessWait : Type 0
 NoNeedlessWait = (book table : List ℕ) (journal : List Record) (inputs : List Input)
     → let o = opening book table journal in
     o .number ≡ 0
-    → let l = lineOf book in
+    → let l = lineIn book in
     let r = run (o .table) (o .state) journal inputs in
     Waiting l (observe (atOpening l) (r .exchanges))

@@ -10,7 +10,7 @@ use lib.Dec.{eqb}
 use Rattle.common.specs.Below.{countBelow}
 use Rattle.line.specs.Line.{routeOf, tracksAt}
 use Rattle.line.specs.Holding.{holdsSection, postHolders}
-use Rattle.line.specs.Book.{lineOf}
+use Rattle.line.specs.Book.{lineIn}
 use Rattle.frame.specs.Frame.{FE, bytesOf}
 use Rattle.journal.specs.Journal.{frameOf, recordAt}
 use Rattle.rules.specs.State.{reached}
@@ -18,7 +18,7 @@ use Rattle.rules.specs.Valid.{valid}
 use Rattle.rules.specs.Opening.{opening}
 use Rattle.assurance.specs.Types.{Line, Move, Fa, Fe, Record}
 use Rattle.assurance.specs.Run.{Input, Exchange, Ran, run}
-use Rattle.assurance.specs.Observer.{nothing, authority, Observer, atOpening, answersOf, observe, located}
+use Rattle.assurance.specs.Observer.{nothing, authority, Observer, atOpening, answersOf, observe, locatedTold}
 use Rattle.assurance.specs.Observer.{hasAsked, nextTold, reachedTold}
 
 -- "An authority written, that is an FE, has its logged request if, below the journal count, the journal has that FE
@@ -51,10 +51,10 @@ pub record Unhindered (l : Line) (o : Observer) : Type 0 where
 
 pub record Assured (l : Line) (r : Ran) (o : Observer) : Type 0 where
   -- "no section has two holders"
-  pub sections : (i t u : ℕ) → t < l .trains → u < l .trains → holdsSection (located o t) i ≡ true
-      → holdsSection (located o u) i ≡ true → t ≡ u
+  pub sections : (i t u : ℕ) → t < l .trains → u < l .trains → holdsSection (locatedTold o t) i ≡ true
+      → holdsSection (locatedTold o u) i ≡ true → t ≡ u
   -- "no post is held by more trains than it has tracks"
-  pub posts : (p : ℕ) → p < l .posts → postHolders (l .trains) (located o) p ≤ tracksAt l p
+  pub posts : (p : ℕ) → p < l .posts → postHolders (l .trains) (locatedTold o) p ≤ tracksAt l p
   -- an authority is for the move from the train's post to its next one, so that the section between them is one
   pub moves : (t p q : ℕ) → t < l .trains → o t .claim ≡ authority p q
       → (p ≡ o t .post) × (q ≡ nextTold l o t)
@@ -78,6 +78,6 @@ abbrev pub WholeList : Type 0
 WholeList = (book table : List ℕ) (journal : List Record) (inputs : List Input)
     → let o = opening book table journal in
     o .number ≡ 0
-    → let l = lineOf book in
+    → let l = lineIn book in
     let r = run (o .table) (o .state) journal inputs in
     Assured l r (observe (atOpening l) (r .exchanges))

@@ -12,8 +12,8 @@ use Rattle.common.proofs.Check.{passed-by, second-part, first-part, accepts, re
 use Rattle.line.specs.Refusal as number
 use Rattle.line.specs.declared.line.Line.{Line}
 use Rattle.line.specs.Line.{noRoute}
-use Rattle.line.specs.Book.{countAt, trainsAt, total, byteAt, postsOf, trainsIn, trainsOf, routeIn, lineOf}
-use Rattle.line.specs.Book.{postsChecks, tracksChecks, trainsChecks, routesChecks, bookChecks, accepted, refusedBy}
+use Rattle.line.specs.Book.{countAt, trainsAt, total, byteAt, postsOf, trainsIn, trainsOf, routeIn, lineIn}
+use Rattle.line.specs.Book.{postsChecks, tracksChecks, trainsChecks, routesChecks, bookChecks, acceptedBook, refusedBy}
 use Rattle.line.specs.Book.{readBook}
 use Rattle.line.proofs.WellFormed.{high, line-is}
 use Rattle.book.specs.Stages.{Stage, Passed, Stopped, stageOf, numberOf, postsStage, tracksStage, trainsStage}
@@ -47,10 +47,10 @@ abbrev pub Left : List ℕ → List Check → Type 0
 Left b cs = refusal (bookChecks b) ≡ refusal cs
 
 abbrev pub afterTracks : List ℕ → List Check
-afterTracks b = trainsChecks b ++ routesChecks (lineOf b)
+afterTracks b = trainsChecks b ++ routesChecks (lineIn b)
 
 abbrev pub afterPosts : List ℕ → List Check
-afterPosts b = tracksChecks (lineOf b) ++ afterTracks b
+afterPosts b = tracksChecks (lineIn b) ++ afterTracks b
 
 -- n posts were read
 pub record PostsRead (b : List ℕ) (n : ℕ) : Type 0 where
@@ -65,7 +65,7 @@ pub record TrainsRead (b : List ℕ) (a t : ℕ) : Type 0 where
   pub is : t ≡ trainsOf b
   pub few : t ≤ 6
   pub whole : length b ≡ total a t
-  pub left : Left b (routesChecks (lineOf b))
+  pub left : Left b (routesChecks (lineIn b))
 
 module _ (b : List ℕ) where
   -- a stage whose checks are the next of the book
@@ -76,7 +76,7 @@ module _ (b : List ℕ) where
       let k = stopped-of cs v e p in
       let some : 0 < refusal cs = rw (k .0) (k .1) in
       let n : refusal (bookChecks b) ≡ m = left ∙ first-part cs ds some ∙ k .0 in
-      rw (p, n) (sym (refuses (accepted (lineOf b)) refusedBy (k .1)))
+      rw (p, n) (sym (refuses (acceptedBook (lineIn b)) refusedBy (k .1)))
 
   pub posts-refused : {s : Stage} {m : ℕ} → s ≡ postsStage b → s ≡ Stopped m → refusedBy (numberOf s) ≡ readBook b
   unfolding postsStage
@@ -100,25 +100,25 @@ module _ (b : List ℕ) where
   module _ {n : ℕ} (posts : PostsRead b n) where
     -- a line that has the posts and tracks of the book
     module _ (l : Line) (same : l .posts ≡ n) (counts : l .tracks ≡ padded 8 n (λ p. byteAt b (countAt p)) 0) where
-      tracks-same : tracksStage l ≡ tracksStage (lineOf b)
+      tracks-same : tracksStage l ≡ tracksStage (lineIn b)
       unfolding tracksStage
       tracks-same = rw (counts, same, posts .is)
 
       pub tracks-refused : {s : Stage} {m : ℕ} → s ≡ tracksStage l → s ≡ Stopped m → refusedBy (numberOf s) ≡ readBook b
       unfolding tracksStage
       tracks-refused e p =
-          stop-at (tracksChecks (lineOf b)) (afterTracks b) _ (posts .left) (e ∙ tracks-same) p
+          stop-at (tracksChecks (lineIn b)) (afterTracks b) _ (posts .left) (e ∙ tracks-same) p
 
       pub tracks-read : {s : Stage} {m : ℕ} → s ≡ tracksStage l → s ≡ Passed m → Left b (afterTracks b)
       unfolding tracksStage
       tracks-read e p =
-          let k = passed-of (tracksChecks (lineOf b)) _ (e ∙ tracks-same) p in
-          posts .left ∙ second-part (tracksChecks (lineOf b)) (afterTracks b) refl (k .0)
+          let k = passed-of (tracksChecks (lineIn b)) _ (e ∙ tracks-same) p in
+          posts .left ∙ second-part (tracksChecks (lineIn b)) (afterTracks b) refl (k .0)
 
     module _ (left : Left b (afterTracks b)) where
       pub trains-refused : {s : Stage} {m : ℕ} → s ≡ trainsStage b → s ≡ Stopped m → refusedBy (numberOf s) ≡ readBook b
       unfolding trainsStage
-      trains-refused e p = stop-at (trainsChecks b) (routesChecks (lineOf b)) _ left e p
+      trains-refused e p = stop-at (trainsChecks b) (routesChecks (lineIn b)) _ left e p
 
       pub trains-read : {s : Stage} {t : ℕ} → s ≡ trainsStage b → s ≡ Passed t → (a : ℕ) → a ≡ trainsIn b
           → TrainsRead b a t
@@ -134,15 +134,15 @@ module _ (b : List ℕ) where
             is = k .1;
             few = omega arith;
             whole = omega arith;
-            left = left ∙ second-part (trainsChecks b) (routesChecks (lineOf b)) refl (k .0);
+            left = left ∙ second-part (trainsChecks b) (routesChecks (lineIn b)) refl (k .0);
           }
 
     -- a line that has all that the book says
     module _ {a t : ℕ} (trains : TrainsRead b a t) (l : Line) (same : l .posts ≡ n)
         (counts : l .tracks ≡ padded 8 n (λ p. byteAt b (countAt p)) 0)
         (amount : l .trains ≡ t) (ends : l .routes ≡ padded 6 t (routeIn b a) noRoute) where
-      line-same : l ≡ lineOf b
-      line-same = line-is l (lineOf b)
+      line-same : l ≡ lineIn b
+      line-same = line-is l (lineIn b)
           (rw (same, posts .is))
           (rw (counts, posts .is))
           (rw (amount, trains .is))
@@ -150,10 +150,10 @@ module _ (b : List ℕ) where
 
       pub routes-refused : {s : Stage} {m : ℕ} → s ≡ routesStage l → s ≡ Stopped m → refusedBy (numberOf s) ≡ readBook b
       unfolding routesStage
-      routes-refused e p = stop-at (routesChecks (lineOf b)) [] _ (trains .left) (e ∙ ap routesStage line-same) p
+      routes-refused e p = stop-at (routesChecks (lineIn b)) [] _ (trains .left) (e ∙ ap routesStage line-same) p
 
-      pub routes-read : {s : Stage} {m : ℕ} → s ≡ routesStage l → s ≡ Passed m → accepted l ≡ readBook b
+      pub routes-read : {s : Stage} {m : ℕ} → s ≡ routesStage l → s ≡ Passed m → acceptedBook l ≡ readBook b
       unfolding routesStage readBook
       routes-read e p =
-          let k = passed-of (routesChecks (lineOf b)) _ (e ∙ ap routesStage line-same) p in
-          rw line-same (sym (accepts (accepted (lineOf b)) refusedBy (trains .left ∙ k .0)))
+          let k = passed-of (routesChecks (lineIn b)) _ (e ∙ ap routesStage line-same) p in
+          rw line-same (sym (accepts (acceptedBook (lineIn b)) refusedBy (trains .left ∙ k .0)))

@@ -13,7 +13,7 @@ use Rattle.common.proofs.Check.{Refuses, none, stop, pass, refusal-is}
 use Rattle.line.specs.Refusal as number
 use Rattle.line.specs.declared.line.Line.{Line}
 use Rattle.line.specs.Line.{inRange, tracksInRange, routesOnLine}
-use Rattle.line.specs.Book.{versionAt, total, byteAt, named, postsOf, trainsIn}
+use Rattle.line.specs.Book.{versionAt, total, byteAt, namedLength, postsOf, trainsIn}
 use Rattle.book.specs.Stages.{Passed, Stopped, stageOf, postsStage, tracksStage, trainsStage, routesStage}
 
 passes : {cs : List Check} (v : ℕ) → Refuses cs 0 → Passed v ≡ stageOf cs v
@@ -31,13 +31,13 @@ module _ (b : List ℕ) where
   unfolding postsStage
   posts-short h = stops _ (stop (rw (lt-leb 4 (length b) h)))
 
-  pub posts-torn : named b ≢ length b → Stopped number.tornBook ≡ postsStage b
+  pub posts-torn : namedLength b ≢ length b → Stopped number.tornBook ≡ postsStage b
   unfolding postsStage
-  posts-torn h = stops _ (stop (rw (ne-eqb (named b) (length b) h) (and-false (leb 4 (length b)))))
+  posts-torn h = stops _ (stop (rw (ne-eqb (namedLength b) (length b) h) (and-false (leb 4 (length b)))))
 
-  module _ (long : 4 ≤ length b) (right : named b ≡ length b) where
-    whole : leb 4 (length b) && eqb (named b) (length b) ≡ true
-    whole = and-both _ _ (le-leb 4 (length b) long) (eq-eqb (named b) (length b) right)
+  module _ (long : 4 ≤ length b) (right : namedLength b ≡ length b) where
+    whole : leb 4 (length b) && eqb (namedLength b) (length b) ≡ true
+    whole = and-both _ _ (le-leb 4 (length b) long) (eq-eqb (namedLength b) (length b) right)
 
     pub posts-edition : byteAt b versionAt ≢ 1 → Stopped number.otherEdition ≡ postsStage b
     unfolding postsStage

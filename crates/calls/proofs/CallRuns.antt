@@ -15,7 +15,7 @@ use Rattle.common.proofs.Tests.{by-cases, by-equality, and-left, and-right}
 use Rattle.common.proofs.Check.{accepts, refuses}
 use Rattle.line.specs.Refusal.{strangeState}
 use Rattle.line.specs.Line.{wellFormed}
-use Rattle.line.specs.Book.{lineOf}
+use Rattle.line.specs.Book.{lineIn}
 use Rattle.frame.specs.Frame.{readFrame}
 use Rattle.rules.specs.Answer.{frameChecks, accepted, answered, refused, answer}
 use Rattle.rules.specs.Valid.{consistent, valid}
@@ -30,8 +30,8 @@ use Rattle.encoding.specs.JournalBytes.{recordCount, recordsIn, withRecords}
 use Rattle.encoding.proofs.Journals.{record-count, own-records, with-again}
 use Rattle.calls.specs.Types.{Record, State, Verdict, Sent, RefusedBy}
 use Rattle.calls.specs.Word.{wordOf}
-use Rattle.calls.specs.BoxCalls.{OpenCall, openCall, AnswerCall, answerCallOf, answerAfter, answerCall}
-use Rattle.calls.specs.HandedOn.{ReadAs, ruled}
+use Rattle.calls.specs.BoxCalls.{OpenCall, openCall, AnswerCall, answerCallOf, answerLeft, answerCall}
+use Rattle.calls.specs.HandedOn.{StateReadAs, ruled}
 use Rattle.calls.specs.CallRuns.{verdictIn, exchangeOf, calls, decoded, AsRun, CallRuns}
 use Rattle.calls.proofs.HandedOn.{either, answer-records, handed-on}
 use Rattle.calls.proofs.BoxSteps.{not-opened, not-answered}
@@ -75,7 +75,7 @@ verdict-read s table journal frame out =
 -- ---- call by call
 
 module _ (state table journal frame out : List ℕ) (h : encodesState state ≡ true) where
-  call-is : answerCall state table journal frame out ≡ answerAfter journal (ruled state table journal frame out)
+  call-is : answerCall state table journal frame out ≡ answerLeft journal (ruled state table journal frame out)
   unfolding answerCall
   call-is = rw h
 
@@ -146,7 +146,7 @@ module _ (book state table journal : List ℕ) (e : openCall book state table jo
   unfolding openCall
   same-table = rw (eq-eqb (length state) stateLength sized, record-count journal)
 
-  read : ReadAs (openCall book state table journal .state) (opening book table (recordsIn journal) .state)
+  read : StateReadAs (openCall book state table journal .state) (opening book table (recordsIn journal) .state)
   read = rw (record-count journal) (handed-on .opened book state table journal sized)
 
   same-run : (inputs : List Input)
@@ -164,7 +164,7 @@ opened : (book state table journal : List ℕ) (inputs : List Input)
     → let o = openCall book state table journal in
     o .answer ≡ 0 → AsRun book table journal inputs (calls (o .table) (o .state) journal inputs)
 opened book state table journal inputs e =
-    let l = lineOf book in
+    let l = lineIn book in
     let start = read book state table journal e .encodes in
     let same = same-run book state table journal e inputs in
     record {

@@ -32,14 +32,14 @@ use Rattle.encoding.specs.StateBytes.{stateLength, stateBytes, encodesState, st
 use Rattle.encoding.specs.JournalBytes.{recordCount, recordsIn}
 use Rattle.calls.specs.BoxCalls.{openCall, answerCallOf, answerCall}
 use Rattle.encoding.specs.RoundTrip.{Shaped}
-use Rattle.calls.specs.HandedOn.{ReadAs, LeftAs, ReadAsUnit, ruled, HandedOn}
+use Rattle.calls.specs.HandedOn.{StateReadAs, LeftAs, UnitReadAs, ruled, HandedOn}
 use Rattle.calls.proofs.UnitSteps.{is-unit}
 use Rattle.encoding.proofs.Journals.{record-count, own-records}
 use Rattle.encoding.proofs.RoundTrip.{unit-only, state-back, state-encoded, state-only, records-back, round-trip}
 
 -- ---- the state
 
-read-back : (s : State) → Shaped s → ReadAs (stateBytes s) s
+read-back : (s : State) → Shaped s → StateReadAs (stateBytes s) s
 read-back s h = record { encodes = state-encoded s h; is = state-back s h }
 
 read-shaped : (b : List ℕ) → Shaped (stateIn b)
@@ -86,7 +86,8 @@ module _ (s : State) (table : List ℕ) (journal : List Record) (frame out : Lis
 -- ---- the claims
 
 opened : (book state table journal : List ℕ) → length state ≡ stateLength
-    → ReadAs (openCall book state table journal .state) (openingWith book table (recordCount (length journal)) .state)
+    → StateReadAs (openCall book state table journal .state)
+    (openingWith book table (recordCount (length journal)) .state)
 unfolding openCall
 opened book state table journal h =
     rw (eq-eqb (length state) stateLength h) (read-back _ (opened-shaped book table (recordCount (length journal))))
@@ -110,21 +111,21 @@ module _ (state table journal frame out : List ℕ) (h : encodesState state ≡ 
 
 -- ---- units
 
-unit-read : (u : Unit) → ReadAsUnit (unitBytes u) u
+unit-read : (u : Unit) → UnitReadAs (unitBytes u) u
 unit-read u = record { encodes = round-trip .unit-encoded u; is = round-trip .unit-back u }
 
 unit-made : (train start end : ℕ) (unit : List ℕ) → length unit ≡ unitLength
-    → ReadAsUnit (makeUnitCall train start end unit .unit) (makeUnit train start end .unit)
+    → UnitReadAs (makeUnitCall train start end unit .unit) (makeUnit train start end .unit)
 unfolding makeUnitCall
 unit-made train start end unit h = rw (eq-eqb (length unit) unitLength h) (unit-read _)
 
 unit-heard : (unit frame : List ℕ) → encodesUnit unit ≡ true
-    → ReadAsUnit (hearCall unit frame .unit) (hearFrame (unitIn unit) frame .unit)
+    → UnitReadAs (hearCall unit frame .unit) (hearFrame (unitIn unit) frame .unit)
 unfolding hearCall
 unit-heard unit frame h = rw h (unit-read _)
 
 unit-pressed : (unit : List ℕ) (button : ℕ) (frame : List ℕ) → refusal (pressCallChecks unit button (length frame)) ≡ 0
-    → ReadAsUnit (pressCall unit button frame .unit) (pressButton (unitIn unit) (buttonOf button) .unit)
+    → UnitReadAs (pressCall unit button frame .unit) (pressButton (unitIn unit) (buttonOf button) .unit)
 unfolding pressCall
 unit-pressed unit button frame e =
     rw (accepts (pressAfter (pressButton (unitIn unit) (buttonOf button)) frame)

@@ -63,13 +63,13 @@ answerCallOf answer state journal out = record { answer = answer; state = state;
 
 -- what the rules give: the number of the refusal and of the frames written as a word, the bytes of the state, the
 -- journal's records with the bytes past them, and the out buffer
-abbrev pub answerAfter : List ℕ → Answer → AnswerCall
-answerAfter journal a =
+abbrev pub answerLeft : List ℕ → Answer → AnswerCall
+answerLeft journal a =
     answerCallOf (wordOf (a .number) (a .frames)) (stateBytes (a .state)) (withRecords journal (a .journal)) (a .out)
 
 -- bytes that encode no state are 1, nothing changed. Else as 01; a refusal changes nothing.
 unfoldable pub answerCall : List ℕ → List ℕ → List ℕ → List ℕ → List ℕ → AnswerCall
 answerCall state table journal frame out =
     cond (encodesState state)
-    (answerAfter journal (answer (stateIn state) table (recordsIn journal) frame out))
+    (answerLeft journal (answer (stateIn state) table (recordsIn journal) frame out))
     (answerCallOf (wordOf strangeState 0) state journal out)

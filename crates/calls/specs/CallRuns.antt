@@ -9,7 +9,7 @@ use mathlib.Core.List.{List, [], _∷_}
 use Prim.Native.Nat.{ℕ, _/_}
 use lib.Dec.{eqb}
 use Rattle.line.specs.Refusal.{strangeState}
-use Rattle.line.specs.Book.{lineOf}
+use Rattle.line.specs.Book.{lineIn}
 use Rattle.rules.specs.Opening.{opening}
 use Rattle.assurance.specs.Run.{Input, Exchange, Ran, run}
 use Rattle.assurance.specs.Observer.{atOpening, observe}
@@ -56,7 +56,7 @@ pub record AsRun (book table journal : List ℕ) (inputs : List Input) (c : Call
   -- the bytes past the journal's last whole record are those that were lent
   pub rest : c .journal ≡ withRecords journal (recordsIn (c .journal))
   -- so that demand 3 holds of it
-  pub assured : let l = lineOf book in Assured l (decoded c) (observe (atOpening l) (c .exchanges))
+  pub assured : let l = lineIn book in Assured l (decoded c) (observe (atOpening l) (c .exchanges))
 
 pub record CallRuns : Type 0 where
   -- quangevit_open that answers 0, then any list of calls

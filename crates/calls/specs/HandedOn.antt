@@ -21,17 +21,17 @@ use Rattle.calls.specs.UnitCalls.{makeUnitCall, hearCall, pressed, press
 use Rattle.calls.specs.BoxCalls.{AnswerCall, openCall, answerCallOf, answerCall}
 
 -- the bytes are read as the state s
-pub record ReadAs (b : List ℕ) (s : State) : Type 0 where
+pub record StateReadAs (b : List ℕ) (s : State) : Type 0 where
   pub encodes : encodesState b ≡ true
   pub is : stateIn b ≡ s
 
 -- what the call c leaves is read as what the rules' answer a has
 pub record LeftAs (c : AnswerCall) (a : Answer) : Type 0 where
-  pub state : ReadAs (c .state) (a .state)
+  pub state : StateReadAs (c .state) (a .state)
   pub journal : recordsIn (c .journal) ≡ a .journal
 
 -- the bytes are read as the unit u
-pub record ReadAsUnit (b : List ℕ) (u : Unit) : Type 0 where
+pub record UnitReadAs (b : List ℕ) (u : Unit) : Type 0 where
   pub encodes : encodesUnit b ≡ true
   pub is : unitIn b ≡ u
 
@@ -41,7 +41,8 @@ ruled state table journal frame out = answer (stateIn state) table (recordsIn jo
 
 pub record HandedOn : Type 0 where
   pub opened : (book state table journal : List ℕ) → length state ≡ stateLength
-      → ReadAs (openCall book state table journal .state) (openingWith book table (recordCount (length journal)) .state)
+      → StateReadAs (openCall book state table journal .state)
+      (openingWith book table (recordCount (length journal)) .state)
   pub answered : (state table journal frame out : List ℕ) → encodesState state ≡ true
       → LeftAs (answerCall state table journal frame out) (ruled state table journal frame out)
   -- a refusal changes nothing
@@ -50,12 +51,12 @@ pub record HandedOn : Type 0 where
       → answerCall state table journal frame out ≡ answerCallOf (wordOf n 0) state journal out
   -- the same of a unit: the bytes that a call leaves are read as the unit that the rules give
   pub unit-made : (train start end : ℕ) (unit : List ℕ) → length unit ≡ unitLength
-      → ReadAsUnit (makeUnitCall train start end unit .unit) (makeUnit train start end .unit)
+      → UnitReadAs (makeUnitCall train start end unit .unit) (makeUnit train start end .unit)
   pub unit-heard : (unit frame : List ℕ) → encodesUnit unit ≡ true
-      → ReadAsUnit (hearCall unit frame .unit) (hearFrame (unitIn unit) frame .unit)
+      → UnitReadAs (hearCall unit frame .unit) (hearFrame (unitIn unit) frame .unit)
   pub unit-pressed : (unit : List ℕ) (button : ℕ) (frame : List ℕ)
       → refusal (pressCallChecks unit button (length frame)) ≡ 0
-      → ReadAsUnit (pressCall unit button frame .unit) (pressButton (unitIn unit) (buttonOf button) .unit)
+      → UnitReadAs (pressCall unit button frame .unit) (pressButton (unitIn unit) (buttonOf button) .unit)
   -- and a refusal, which is a low byte other than 0, changes nothing
   pub hearing-refused : (unit frame : List ℕ) → refusalIn (hearCall unit frame .answer) ≢ 0
       → hearCall unit frame .unit ≡ unit

@@ -9,7 +9,7 @@ use lib.Seq.{length-take-le, getD-append-add, getD-drop, getD-set-same, getD-set
 use Rattle.common.specs.Part.{replaced, replacedIfRoom}
 use Rattle.common.proofs.Part.{length-replaced, replaced-if, replaced-before}
 use Rattle.common.proofs.Tests.{by-order, by-equality}
-use Rattle.encoding.specs.Parts.{headBytes, postsAt, tracksAt, trainsAt, headLength}
+use Rattle.encoding.specs.Parts.{headBytes, postsByte, tracksByte, trainsByte, headLength}
 use Rattle.encoding.proofs.Parts.{At, same-place}
 use Rattle.encoding.proofs.Fields.{head-length, posts-at, tracks-at, trains-at}
 
@@ -111,8 +111,8 @@ begun e {s} {b} {p} size is y h n q =
 module _ (posts : ℕ) (tracks : List ℕ) (trains : ℕ) (eight : length tracks ≡ 8) where
   -- as the code writes it: a byte, the tracks at once, a byte
   pub head-put : (s : List ℕ) {after : List ℕ} → headLength ≤ length s
-      → after ≡ replacedIfRoom (set s postsAt posts) tracksAt tracks
-      → set after trainsAt trains ≡ replaced s 0 (headBytes posts tracks trains)
+      → after ≡ replacedIfRoom (set s postsByte posts) tracksByte tracks
+      → set after trainsByte trains ≡ replaced s 0 (headBytes posts tracks trains)
   head-put s {after} room e =
       let head = headBytes posts tracks trains in
       let ten = head-length posts tracks trains eight in
@@ -123,8 +123,8 @@ module _ (posts : ℕ) (tracks : List ℕ) (trains : ℕ) (eight : length tracks
       let last = trains-at posts tracks trains eight there .byte 0 (omega arith) in
       let one = byte-more (none-filled {s = s} {b = b} (sym size)) posts first (omega arith) in
       let nine =
-      part-more one (tracks-at posts tracks trains eight there) refl e (omega arith) trainsAt (omega arith) in
+      part-more one (tracks-at posts tracks trains eight there) refl e (omega arith) trainsByte (omega arith) in
       let all = byte-more nine trains last (omega arith) in
-      ext-getD 0 (set after trainsAt trains) b (all .size)
+      ext-getD 0 (set after trainsByte trains) b (all .size)
       (λ k h. by-order k headLength (all .first k)
       (λ l. all .rest k l ∙ sym (replaced-after s 0 head (omega arith) k (omega arith))))

@@ -11,13 +11,13 @@ use lib.Seq.{take-suc}
 use Rattle.rules.specs.Opening.{openingOf, opening}
 use Rattle.console.specs.Types.{State, Run, Opened, Piece, Phase, Refused, Frames, Console}
 use Rattle.console.specs.Piece.{pieceOf, pieceBytes, isBook}
-use Rattle.console.specs.Run.{begun, afterFrame}
+use Rattle.console.specs.Run.{freshRun, afterFrame}
 use Rattle.console.specs.Console as c
 use Rattle.console.specs.Console.{Desk, deskOf}
 
 -- ---- the book and the frame that have come
 
-pub accepted : (s : State) (n : ℕ) (r next : Run) (p : Piece) → n ≡ 0 → p ≡ pieceOf [] → next ≡ begun s (r .log)
+pub accepted : (s : State) (n : ℕ) (r next : Run) (p : Piece) → n ≡ 0 → p ≡ pieceOf [] → next ≡ freshRun s (r .log)
     → record { phase = Frames; piece = p; run = next } ≡ c.afterOpening s n r
 unfolding c.afterOpening
 accepted s n r next p h e f = rw (e, f, eq-eqb n 0 h)
@@ -51,8 +51,8 @@ module _ (before x : Console) (table : List ℕ) (b : ℕ) (next : x ≡ c.withN
 
   pub book-begun : isBook (x .piece) ≡ false → deskOf x table ≡ c.bookByte (deskOf before table) b
   book-begun h =
-      let begun : isBook (c.withNext before b .piece) ≡ false = rw next at h in
-      ap (λ (x : Console). deskOf x table) next ∙ rw begun
+      let freshRun : isBook (c.withNext before b .piece) ≡ false = rw next at h in
+      ap (λ (x : Console). deskOf x table) next ∙ rw freshRun
 
   pub frame-whole : (r : Console) → 7 ≤ x .piece .length → r ≡ c.frameAnswered x table → r ≡ c.frameByte before table b
   frame-whole r h e =
@@ -61,16 +61,17 @@ module _ (before x : Console) (table : List ℕ) (b : ℕ) (next : x ≡ c.withN
 
   pub frame-begun : x .piece .length < 7 → x ≡ c.frameByte before table b
   frame-begun h =
-      let begun : c.withNext before b .piece .length < 7 = rw next at h in
-      next ∙ rw (lt-ltb (c.withNext before b .piece .length) 7 begun)
+      let freshRun : c.withNext before b .piece .length < 7 = rw next at h in
+      next ∙ rw (lt-ltb (c.withNext before b .piece .length) 7 freshRun)
 
 pub taken-in : (d : Desk) (b : ℕ) (p : Phase) → d .console .phase ≡ p → c.takenIn p d b ≡ c.takenByte d b
 unfolding c.takenByte
 taken-in d b p e = rw e
 
 -- the next of some bytes
-pub taken-next : (d before after : Desk) (bytes : List ℕ) (i : ℕ) → i < length bytes → before ≡ c.taken d (take i bytes)
-    → after ≡ c.takenByte before (getD bytes i 0) → after ≡ c.taken d (take (i + 1) bytes)
+pub taken-next : (d before after : Desk) (bytes : List ℕ) (i : ℕ) → i < length bytes
+    → before ≡ c.takenBytes d (take i bytes) → after ≡ c.takenByte before (getD bytes i 0)
+    → after ≡ c.takenBytes d (take (i + 1) bytes)
 taken-next d before after bytes i h e f =
     f ∙ ap (λ (d : Desk). c.takenByte d (getD bytes i 0)) e
     ∙ rw (add-one, take-suc bytes i 0 h, foldl-append c.takenByte d (take i bytes) (getD bytes i 0 ∷ []))
@@ -84,7 +85,7 @@ pub torn : (x r : Console) (table : List ℕ) → x .piece .length ≢ 0 → r �
     → r ≡ c.lastFrame x table
 torn x r table h e = e ∙ rw (ne-eqb (x .piece .length) 0 h)
 
-pub book-at-end : (d : Desk) (x r : Console) (after : List ℕ) → deskOf x after ≡ c.bookOpened d → r ≡ c.ended x
+pub book-at-end : (d : Desk) (x r : Console) (after : List ℕ) → deskOf x after ≡ c.bookOpened d → r ≡ c.endedConsole x
     → deskOf r after ≡ c.endedDesk (c.bookOpened d)
 book-at-end d x r after e f = ap (λ (r : Console). deskOf r after) f ∙ ap c.endedDesk e
 

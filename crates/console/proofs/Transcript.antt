@@ -14,9 +14,10 @@ use Rattle.journal.specs.Log.{blankLog}
 use Rattle.rules.specs.Opening.{Opening, emptyState, opening}
 use Rattle.console.specs.Types.{Run, Piece, Phase, Book, Refused, Frames, Ended}
 use Rattle.console.specs.Piece.{pieceOf, pieceBytes, pieceWith, isBook, bookLength}
-use Rattle.console.specs.Run.{begun, afterFrame}
+use Rattle.console.specs.Run.{freshRun, afterFrame}
 use Rattle.console.specs.Console.{Desk, deskOf, afterOpening, openedWith, bookOpened, awaits}
-use Rattle.console.specs.Console.{takenIn, takenByte, taken, afterEnd, lastFrame, endedDesk, finishedIn, finished}
+use Rattle.console.specs.Console.{takenIn, takenByte, takenBytes, afterEnd, lastFrame, endedDesk, finishedIn}
+use Rattle.console.specs.Console.{finished}
 use Rattle.console.specs.Transcript.{bookIn, cutFrames, framesAfter, blankTable, runOver}
 use Rattle.console.specs.Transcript.{transcriptWith, transcriptOf, printed, Transcribes}
 use Rattle.console.proofs.Pieces.{piece-more, piece-bytes, piece-book, book-two, book-most, book-longer}
@@ -37,11 +38,11 @@ finished-in-stopped Frames d h = absurd (true≢false h)
 finished-in-stopped (Refused n) d h = refl
 finished-in-stopped Ended d h = refl
 
-taken-stopped : (d : Desk) (more : List ℕ) → awaits (d .console .phase) ≡ false → taken d more ≡ d
+taken-stopped : (d : Desk) (more : List ℕ) → awaits (d .console .phase) ≡ false → takenBytes d more ≡ d
 unfolding takenByte
 taken-stopped d [] h = refl
 taken-stopped d (b ∷ more) h =
-    ap (λ (d : Desk). taken d more) (taken-in-stopped (d .console .phase) d b h) ∙ taken-stopped d more h
+    ap (λ (d : Desk). takenBytes d more) (taken-in-stopped (d .console .phase) d b h) ∙ taken-stopped d more h
 
 finished-stopped : (d : Desk) → awaits (d .console .phase) ≡ false → finished d ≡ d
 unfolding finished
@@ -98,7 +99,7 @@ end-of-frames r table (b ∷ l) h =
 
 -- the frames of l and the input after it
 frames-run : (input : List ℕ) (r : Run) (table l : List ℕ) → length l < 7
-    → finished (taken (framesDesk r table (pieceOf l)) input)
+    → finished (takenBytes (framesDesk r table (pieceOf l)) input)
     ≡ endedWith table (runOver table r (cutFrames (length (l ++ input)) (l ++ input)))
 frames-run [] r table l h = rw append-nil (end-of-frames r table l h)
 frames-run (b ∷ input) r table l h =
@@ -107,11 +108,11 @@ frames-run (b ∷ input) r table l h =
     let piece = piece-more l b (omega arith) in
     let joined = append-assoc l (b ∷ []) input in
     by-order (length next) 7
-    (λ short. ap (λ (d : Desk). finished (taken d input)) (byte-of-frame r table _ (pieceOf next) b piece short)
+    (λ short. ap (λ (d : Desk). finished (takenBytes d input)) (byte-of-frame r table _ (pieceOf next) b piece short)
     ∙ frames-run input r table next short
     ∙ ap (λ (m : List ℕ). endedWith table (runOver table r (cutFrames (length m) m))) joined)
-    (λ whole. ap (λ (d : Desk). finished (taken d input)) (last-of-frame r table _ (pieceOf next) b piece whole)
-    ∙ ap (λ (f : List ℕ). finished (taken (framesDesk (afterFrame r table f) table (pieceOf [])) input))
+    (λ whole. ap (λ (d : Desk). finished (takenBytes d input)) (last-of-frame r table _ (pieceOf next) b piece whole)
+    ∙ ap (λ (f : List ℕ). finished (takenBytes (framesDesk (afterFrame r table f) table (pieceOf [])) input))
     (piece-bytes next)
     ∙ frames-run input (afterFrame r table next) table [] (lit< tt)
     ∙ ap (λ (fs : List (List ℕ)). endedWith table (runOver table r fs)) (sym (next-frame next input (omega arith)))
@@ -125,15 +126,15 @@ bookDesk r table p = deskOf (record { phase = Book; piece = p; run = r }) table
 -- what an opening leaves in the end, with these frames after it
 abbrev endOf : Run → Opening → List (List ℕ) → Desk
 endOf r o frames =
-    cond (eqb (o .number) 0) (endedWith (o .table) (runOver (o .table) (begun (o .state) (r .log)) frames))
+    cond (eqb (o .number) 0) (endedWith (o .table) (runOver (o .table) (freshRun (o .state) (r .log)) frames))
     (deskOf (record { phase = Refused (o .number); piece = pieceOf []; run = r }) (o .table))
 
 after-opening : (r : Run) (o : Opening) (input : List ℕ)
-    → finished (taken (openedWith r o) input) ≡ endOf r o (cutFrames (length input) input)
+    → finished (takenBytes (openedWith r o) input) ≡ endOf r o (cutFrames (length input) input)
 unfolding afterOpening
 after-opening r o input =
     by-cases (eqb (o .number) 0)
-    (λ e. rw e (frames-run input (begun (o .state) (r .log)) (o .table) [] (lit< tt)))
+    (λ e. rw e (frames-run input (freshRun (o .state) (r .log)) (o .table) [] (lit< tt)))
     (λ e.
     let d = deskOf (record { phase = Refused (o .number); piece = pieceOf []; run = r }) (o .table) in
     rw e (ap finished (taken-stopped d input refl) ∙ finished-stopped d refl))
@@ -177,7 +178,7 @@ whole-book r table l input e =
     (drop-at l input (bookLength (l ++ input)) all))
 
 book-run : (input : List ℕ) (r : Run) (table l : List ℕ) → length l < bookLength l
-    → finished (taken (bookDesk r table (pieceOf l)) input) ≡ leaves r table (l ++ input)
+    → finished (takenBytes (bookDesk r table (pieceOf l)) input) ≡ leaves r table (l ++ input)
 unfolding finished
 book-run [] r table l h =
     opened-at-end r (opening (pieceBytes (pieceOf l)) table (r .log .records))
@@ -191,12 +192,12 @@ book-run (b ∷ input) r table l h =
     let joined = append-assoc l (b ∷ []) input in
     by-order (length next) (bookLength next)
     (λ short.
-    let begun : isBook (pieceOf next) ≡ false = piece-book next ∙ lt-leb (bookLength next) (length next) short in
-    ap (λ (d : Desk). finished (taken d input)) (byte-of-book r table _ (pieceOf next) b piece begun)
+    let freshRun : isBook (pieceOf next) ≡ false = piece-book next ∙ lt-leb (bookLength next) (length next) short in
+    ap (λ (d : Desk). finished (takenBytes d input)) (byte-of-book r table _ (pieceOf next) b piece freshRun)
     ∙ book-run input r table next short ∙ ap (leaves r table) joined)
     (λ whole.
     let all : isBook (pieceOf next) ≡ true = piece-book next ∙ le-leb (bookLength next) (length next) whole in
-    ap (λ (d : Desk). finished (taken d input)) (last-of-book r table _ (pieceOf next) b piece all)
+    ap (λ (d : Desk). finished (takenBytes d input)) (last-of-book r table _ (pieceOf next) b piece all)
     ∙ after-opening r (opening (pieceBytes (pieceOf next)) table (r .log .records)) input
     ∙ ap (λ (l : List ℕ). endOf r (opening l table (r .log .records)) (cutFrames (length input) input))
     (piece-bytes next)
@@ -206,7 +207,7 @@ book-run (b ∷ input) r table l h =
 -- ---- the claim
 
 printed-of : (o : Opening) (frames : List (List ℕ))
-    → printed (endOf (begun emptyState blankLog) o frames .console) ≡ transcriptWith o frames
+    → printed (endOf (freshRun emptyState blankLog) o frames .console) ≡ transcriptWith o frames
 printed-of o frames = by-cases (eqb (o .number) 0) (λ e. rw e) (λ e. rw e)
 
 pub transcribes : Transcribes
@@ -214,7 +215,7 @@ unfolding transcriptOf
 transcribes = record {
   all = λ input.
       ap (λ (d : Desk). printed (d .console))
-      (book-run input (begun emptyState blankLog) blankTable [] (omega (arith, book-two [])))
+      (book-run input (freshRun emptyState blankLog) blankTable [] (omega (arith, book-two [])))
       ∙ printed-of (opening (bookIn input) blankTable (blankLog .records)) (framesAfter input);
   parts = λ d a b. foldl-append takenByte d a b;
   over = λ d more. taken-stopped (finished d) more (finish-stops d);

@@ -7,7 +7,7 @@ use Rattle.journal.specs.Log.{blankLog}
 use Rattle.rules.specs.Opening.{Opening, emptyState, opening}
 use Rattle.console.specs.Types.{State, Run, Phase, Book, Refused, Frames, Ended, Console}
 use Rattle.console.specs.Piece.{pieceOf, pieceBytes, pieceWith, isBook}
-use Rattle.console.specs.Run.{begun, afterFrame}
+use Rattle.console.specs.Run.{freshRun, afterFrame}
 
 -- the console with its lent table
 pub record Desk : Type 0 where
@@ -18,15 +18,15 @@ abbrev pub deskOf : Console → List ℕ → Desk
 deskOf c table = record { console = c; table = table }
 
 -- the console before any byte
-abbrev pub fresh : Console
-fresh = record { phase = Book; piece = pieceOf []; run = begun emptyState blankLog }
+abbrev pub freshConsole : Console
+freshConsole = record { phase = Book; piece = pieceOf []; run = freshRun emptyState blankLog }
 
 -- ---- the book and the frame that have come
 
 -- frames are awaited if the book was accepted
 unfoldable pub afterOpening : State → ℕ → Run → Console
 afterOpening s number r =
-    cond (eqb number 0) (record { phase = Frames; piece = pieceOf []; run = begun s (r .log) })
+    cond (eqb number 0) (record { phase = Frames; piece = pieceOf []; run = freshRun s (r .log) })
     (record { phase = Refused number; piece = pieceOf []; run = r })
 
 abbrev pub openedWith : Run → Opening → Desk
@@ -75,8 +75,8 @@ unfoldable pub takenByte : Desk → ℕ → Desk
 takenByte d b = takenIn (d .console .phase) d b
 
 -- some bytes, one after the other
-abbrev pub taken : Desk → List ℕ → Desk
-taken d bytes = foldl takenByte d bytes
+abbrev pub takenBytes : Desk → List ℕ → Desk
+takenBytes d bytes = foldl takenByte d bytes
 
 -- ---- the end of the input
 
@@ -86,20 +86,20 @@ afterEnd Frames = Ended
 afterEnd (Refused n) = Refused n
 afterEnd Ended = Ended
 
-abbrev pub ended : Console → Console
-ended c = record { phase = afterEnd (c .phase); piece = c .piece; run = c .run }
+abbrev pub endedConsole : Console → Console
+endedConsole c = record { phase = afterEnd (c .phase); piece = c .piece; run = c .run }
 
 -- "a shorter rest after whole frames is one torn frame"
 abbrev pub lastFrame : Console → List ℕ → Console
 lastFrame c table = cond (eqb (c .piece .length) 0) c (frameAnswered c table)
 
 abbrev pub endedDesk : Desk → Desk
-endedDesk d = deskOf (ended (d .console)) (d .table)
+endedDesk d = deskOf (endedConsole (d .console)) (d .table)
 
 abbrev pub finishedIn : Phase → Desk → Desk
 -- "or what there is if input ends"
 finishedIn Book d = endedDesk (bookOpened d)
-finishedIn Frames d = deskOf (ended (lastFrame (d .console) (d .table))) (d .table)
+finishedIn Frames d = deskOf (endedConsole (lastFrame (d .console) (d .table))) (d .table)
 finishedIn (Refused n) d = d
 finishedIn Ended d = d
 

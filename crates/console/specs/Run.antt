@@ -8,8 +8,8 @@ use Rattle.rules.specs.Answer.{Answer, outLength, answer}
 use Rattle.console.specs.Types.{Verdict, Sent, RefusedBy, State, Log, Run}
 
 -- the run before its first frame
-abbrev pub begun : State → Log → Run
-begun s log = record { state = s; log = log; refused = 0 }
+abbrev pub freshRun : State → Log → Run
+freshRun s log = record { state = s; log = log; refused = 0 }
 
 -- the greatest number of 64 bits
 abbrev pub most : ℕ

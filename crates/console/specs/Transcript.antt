@@ -11,9 +11,9 @@ use Rattle.completion.specs.Table.{tableLength}
 use Rattle.rules.specs.Opening.{Opening, opening}
 use Rattle.printout.specs.Lines.{runLines, bookLine}
 use Rattle.console.specs.Types.{Run, Phase, Book, Refused, Frames, Ended, Console}
-use Rattle.console.specs.Run.{begun, afterFrame}
+use Rattle.console.specs.Run.{freshRun, afterFrame}
 use Rattle.console.specs.Piece.{bookLength}
-use Rattle.console.specs.Console.{Desk, deskOf, fresh, taken, finished}
+use Rattle.console.specs.Console.{Desk, deskOf, freshConsole, takenBytes, finished}
 
 -- "It prints each journal record .., then `end`, the record count and the count of refused frames"
 abbrev pub runPrinted : Run → List ℕ
@@ -47,7 +47,8 @@ runOver table r frames = foldl (λ r frame. afterFrame r table frame) r frames
 -- "for a refused book only `book` and the number"
 abbrev pub transcriptWith : Opening → List (List ℕ) → List ℕ
 transcriptWith o frames =
-    cond (eqb (o .number) 0) (runPrinted (runOver (o .table) (begun (o .state) blankLog) frames)) (bookLine (o .number))
+    cond (eqb (o .number) 0) (runPrinted (runOver (o .table) (freshRun (o .state) blankLog) frames))
+    (bookLine (o .number))
 
 unfoldable pub transcriptOf : List ℕ → List ℕ
 transcriptOf input = transcriptWith (opening (bookIn input) blankTable (blankLog .records)) (framesAfter input)
@@ -65,13 +66,13 @@ printed c = printedIn (c .phase) (c .run)
 
 -- the desk before any byte
 abbrev pub freshDesk : Desk
-freshDesk = deskOf fresh blankTable
+freshDesk = deskOf freshConsole blankTable
 
 pub record Transcribes : Type 0 where
   -- every input is printed as the paper has it
-  pub all : (input : List ℕ) → printed (finished (taken freshDesk input) .console) ≡ transcriptOf input
+  pub all : (input : List ℕ) → printed (finished (takenBytes freshDesk input) .console) ≡ transcriptOf input
   -- the sizes of the parts in which it comes do not matter
-  pub parts : (d : Desk) (a b : List ℕ) → taken d (a ++ b) ≡ taken (taken d a) b
+  pub parts : (d : Desk) (a b : List ℕ) → takenBytes d (a ++ b) ≡ takenBytes (takenBytes d a) b
   -- what ended stays so
-  pub over : (d : Desk) (more : List ℕ) → taken (finished d) more ≡ finished d
+  pub over : (d : Desk) (more : List ℕ) → takenBytes (finished d) more ≡ finished d
   pub once : (d : Desk) → finished (finished d) ≡ finished d

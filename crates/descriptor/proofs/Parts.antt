@@ -5,7 +5,7 @@ use Prim.Native.Nat.{ℕ}
 use Rattle.printout.specs.declared.text.Text.{Text}
 use Rattle.printout.specs.Text.{textOf}
 use Rattle.console.specs.declared.console.Console.{Console}
-use Rattle.console.specs.Console.{Desk, deskOf, fresh, taken, finished}
+use Rattle.console.specs.Console.{Desk, deskOf, freshConsole, takenBytes, finished}
 use Rattle.console.specs.Transcript.{freshDesk, printed}
 use Rattle.console.proofs.Transcript.{transcribes}
 use Rattle.descriptor.specs.Reading.{Takes, Ends, Transcript}
@@ -18,16 +18,16 @@ pub takes-more : (a b c : Desk) → Takes a b → Takes b c → Takes a c
 takes-more a b c p q = record {
   bytes = p .bytes ++ q .bytes;
   took =
-      q .took ∙ ap (λ (d : Desk). taken d (q .bytes)) (p .took) ∙ sym (transcribes .parts a (p .bytes) (q .bytes));
+      q .took ∙ ap (λ (d : Desk). takenBytes d (q .bytes)) (p .took) ∙ sym (transcribes .parts a (p .bytes) (q .bytes));
 }
 
 -- then the end
-pub then-ends : (x : Console) (table : List ℕ) (b c : Desk) → x ≡ fresh → Takes (deskOf x table) b → c ≡ finished b
-    → Ends (deskOf fresh table) c
+pub then-ends : (x : Console) (table : List ℕ) (b c : Desk) → x ≡ freshConsole → Takes (deskOf x table) b
+    → c ≡ finished b → Ends (deskOf freshConsole table) c
 then-ends x table b c e p f = record {
   input = p .bytes;
   ended =
-      f ∙ ap finished (p .took) ∙ ap (λ (x : Console). finished (taken (deskOf x table) (p .bytes))) e;
+      f ∙ ap finished (p .took) ∙ ap (λ (x : Console). finished (takenBytes (deskOf x table) (p .bytes))) e;
 }
 
 -- what is then printed

@@ -1,5 +1,5 @@
 // Reading to the end of the input. A read that fails is the end, and so is one that gives nothing.
-ghost use Rattle.console.specs.Console.{deskOf, fresh};
+ghost use Rattle.console.specs.Console.{deskOf, freshConsole};
 ghost use Rattle.descriptor.specs.Reading.{Takes, Ends};
 use console::Console;
 
@@ -12,7 +12,7 @@ struct Turn {
 // The console once the input has ended. A proved loop has to end, and nothing says that the input
 // does: the turns are counted down from a number that no run uses up.
 pub fn read_all(fd: i32, table: &mut [u8]) -> Console
-    ensures { λ r. ⌜ Ends (deskOf fresh (now (table .entry))) (deskOf r (now (table .exit))) ⌝ }
+    ensures { λ r. ⌜ Ends (deskOf freshConsole (now (table .entry))) (deskOf r (now (table .exit))) ⌝ }
 {
     let mut console = intake::fresh();
     let mut more = true;

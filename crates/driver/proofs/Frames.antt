@@ -15,7 +15,7 @@ use Rattle.frame.specs.RoundTrip.{IsMessage}
 use Rattle.frame.proofs.Outcome.{read-passed, read-refused}
 use Rattle.driver.specs.Types.{Move, Message, Fa, Fe, Afe, Am, Refused, Phase, Asked, Declined, Granted, Unit}
 use Rattle.driver.specs.State.{samePhase, ownMove, inPhase, validUnit}
-use Rattle.driver.specs.Hearing.{forTrain, forMove, awaiting, forUnit, awaited, hearChecks, phaseAfter, answered}
+use Rattle.driver.specs.Hearing.{forTrain, forMove, awaiting, forUnit, awaited, hearChecks, phaseAfter, heardWith}
 use Rattle.driver.specs.Hearing.{hearFrame}
 
 -- the tests of a move against the unit's own
@@ -30,15 +30,15 @@ module _ (u : Unit) (m own : Move) (is-own : own ≡ ownMove u) where
   own-train h = let z : forTrain u m ≡ true = rw is-own at (eq-eqb (m .train .0) (own .train .0) h) in rw (is-own, z)
 
 module _ (u : Unit) (f : List ℕ) where
-  refused : {n : ℕ} → 0 < n → Refuses (hearChecks u f) n → answered u n ≡ hearFrame u f
+  refused : {n : ℕ} → 0 < n → Refuses (hearChecks u f) n → heardWith u n ≡ hearFrame u f
   unfolding hearFrame
-  refused h r = refused-by (answered (inPhase u (phaseAfter u (readFrame f))) 0) (answered u) h r
+  refused h r = refused-by (heardWith (inPhase u (phaseAfter u (readFrame f))) 0) (heardWith u) h r
 
-  pub strange : validUnit u ≡ false → answered u strangeState ≡ hearFrame u f
+  pub strange : validUnit u ≡ false → heardWith u strangeState ≡ hearFrame u f
   strange h = refused (omega arith) (stop h)
 
   module _ (good : validUnit u ≡ true) where
-    pub not-read : (n : ℕ) → readFrame f ≡ Refused n → answered u n ≡ hearFrame u f
+    pub not-read : (n : ℕ) → readFrame f ≡ Refused n → heardWith u n ≡ hearFrame u f
     not-read n e =
         let r = read-refused f n e in
         rw (← r .1) (refused (rw (r .1) (r .0)) (pass good (stop-within (readChecks f) _ (rw (r .1) (r .0)))))
@@ -49,27 +49,27 @@ module _ (u : Unit) (f : List ℕ) where
           → Refuses (check strangeState (validUnit u) ∷ (readChecks f ++ cs)) n
       after-reading r = pass good (pass-all (readChecks f) refl (read-passed f (rw reads whole)) r)
 
-      pub other-end : forUnit x ≡ false → answered u wrongEnd ≡ hearFrame u f
+      pub other-end : forUnit x ≡ false → heardWith u wrongEnd ≡ hearFrame u f
       other-end h = refused (omega arith) (after-reading (stop (ap forUnit reads ∙ h)))
 
       module _ (own : forUnit x ≡ true) where
-        pub unawaited : awaited u x ≡ false → answered u notAwaited ≡ hearFrame u f
+        pub unawaited : awaited u x ≡ false → heardWith u notAwaited ≡ hearFrame u f
         unawaited h =
             refused (omega arith) (after-reading (pass (ap forUnit reads ∙ own) (stop (ap (awaited u) reads ∙ h))))
 
-        pub taken : (p : Phase) → awaited u x ≡ true → phaseAfter u x ≡ p → answered (inPhase u p) 0 ≡ hearFrame u f
+        pub taken : (p : Phase) → awaited u x ≡ true → phaseAfter u x ≡ p → heardWith (inPhase u p) 0 ≡ hearFrame u f
         unfolding hearFrame
         taken p h q =
             let after : phaseAfter u (readFrame f) ≡ p = ap (phaseAfter u) reads ∙ q in
             let passed = after-reading (pass (ap forUnit reads ∙ own) (pass (ap (awaited u) reads ∙ h) none)) in
-            ap (λ (y : Phase). answered (inPhase u y) 0) (sym after)
-            ∙ accepted-by (answered (inPhase u (phaseAfter u (readFrame f))) 0) (answered u) passed
+            ap (λ (y : Phase). heardWith (inPhase u y) 0) (sym after)
+            ∙ accepted-by (heardWith (inPhase u (phaseAfter u (readFrame f))) 0) (heardWith u) passed
 
-    pub fa : (m : Move) → readFrame f ≡ Fa m → answered u wrongEnd ≡ hearFrame u f
+    pub fa : (m : Move) → readFrame f ≡ Fa m → heardWith u wrongEnd ≡ hearFrame u f
     unfolding IsMessage
     fa m e = other-end (Fa m) e tt refl
 
-    pub am : (m : Move) → readFrame f ≡ Am m → answered u wrongEnd ≡ hearFrame u f
+    pub am : (m : Move) → readFrame f ≡ Am m → heardWith u wrongEnd ≡ hearFrame u f
     unfolding IsMessage
     am m e = other-end (Am m) e tt refl
 
@@ -77,47 +77,47 @@ module _ (u : Unit) (f : List ℕ) where
 
     module _ (m : Move) (e : readFrame f ≡ Fe m) where
       fe-taken : (p : Phase) → awaited u (Fe m) ≡ true → phaseAfter u (Fe m) ≡ p
-          → answered (inPhase u p) 0 ≡ hearFrame u f
+          → heardWith (inPhase u p) 0 ≡ hearFrame u f
       unfolding IsMessage
       fe-taken = taken (Fe m) e tt refl
 
-      fe-refused : awaited u (Fe m) ≡ false → answered u notAwaited ≡ hearFrame u f
+      fe-refused : awaited u (Fe m) ≡ false → heardWith u notAwaited ≡ hearFrame u f
       unfolding IsMessage
       fe-refused = unawaited (Fe m) e tt refl
 
-      pub fe-for-another : m .train .0 ≢ u .train .0 → answered u 0 ≡ hearFrame u f
+      pub fe-for-another : m .train .0 ≢ u .train .0 → heardWith u 0 ≡ hearFrame u f
       unfolding phaseAfter forMove
       fe-for-another h = fe-taken (u .phase) (rw (ne-eqb _ _ h)) (rw (ne-eqb _ _ h))
 
       module _ (own : m .train .0 ≡ u .train .0) where
-        pub fe-for-another-move : forMove u m ≡ false → answered u notAwaited ≡ hearFrame u f
+        pub fe-for-another-move : forMove u m ≡ false → heardWith u notAwaited ≡ hearFrame u f
         fe-for-another-move h = fe-refused (rw (eq-eqb _ _ own, h))
 
-        pub fe-not-now : forMove u m ≡ true → awaiting (u .phase) ≡ false → answered u notAwaited ≡ hearFrame u f
+        pub fe-not-now : forMove u m ≡ true → awaiting (u .phase) ≡ false → heardWith u notAwaited ≡ hearFrame u f
         fe-not-now h k = fe-refused (rw (eq-eqb _ _ own, h, k))
 
         pub fe-granted : forMove u m ≡ true → awaiting (u .phase) ≡ true → (v : Unit) → v ≡ inPhase u Granted
-            → answered v 0 ≡ hearFrame u f
+            → heardWith v 0 ≡ hearFrame u f
         unfolding phaseAfter
         fe-granted h k v p = rw p (fe-taken Granted (rw (eq-eqb _ _ own, h, k)) (rw h))
 
     -- ---- AFE
 
     module _ (m : Move) (e : readFrame f ≡ Afe m) where
-      afe-taken : (p : Phase) → phaseAfter u (Afe m) ≡ p → answered (inPhase u p) 0 ≡ hearFrame u f
+      afe-taken : (p : Phase) → phaseAfter u (Afe m) ≡ p → heardWith (inPhase u p) 0 ≡ hearFrame u f
       unfolding IsMessage
       afe-taken p = taken (Afe m) e tt refl p refl
 
-      pub afe-for-another : forMove u m ≡ false → answered u 0 ≡ hearFrame u f
+      pub afe-for-another : forMove u m ≡ false → heardWith u 0 ≡ hearFrame u f
       unfolding phaseAfter
       afe-for-another h = afe-taken (u .phase) (rw h)
 
       module _ (own : forMove u m ≡ true) where
-        pub afe-not-now : samePhase (u .phase) Asked ≡ false → answered u 0 ≡ hearFrame u f
+        pub afe-not-now : samePhase (u .phase) Asked ≡ false → heardWith u 0 ≡ hearFrame u f
         unfolding phaseAfter
         afe-not-now h = afe-taken (u .phase) (rw (own, h))
 
         pub afe-declined : samePhase (u .phase) Asked ≡ true → (v : Unit) → v ≡ inPhase u Declined
-            → answered v 0 ≡ hearFrame u f
+            → heardWith v 0 ≡ hearFrame u f
         unfolding phaseAfter
         afe-declined h v p = rw p (afe-taken Declined (rw (own, h)))

@@ -15,9 +15,11 @@ use Rattle.driver.specs.Types.{Declined, Granted, UnderWay, Arrived, But
 use Rattle.driver.specs.State.{ownMove, inPhase, validUnit}
 use Rattle.driver.specs.Making.{makeUnit}
 use Rattle.driver.specs.Pressing.{phaseFor, silent, sending, carriedOut, movedOn}
-use Rattle.driver.specs.Hearing.{answered}
-use Rattle.driver.specs.History.{Input, press, frame, exchange, ofPress, ofFrame, after, run, Event, fa, fe, am}
-use Rattle.driver.specs.History.{other, sentEvent, acceptedEvent, eventOf, reported, place, Onward, Requested}
+use Rattle.driver.specs.Hearing.{heardWith}
+use Rattle.driver.specs.History.{CabInput, press, frame, cabExchange, ofPress, ofFrame, after, cabRun, Event, fa}
+use Rattle.driver.specs.History.{fe, am}
+use Rattle.driver.specs.History.{other, sentEvent, acceptedEvent, eventOf, reported, place, OnwardMove}
+use Rattle.driver.specs.History.{Outstanding}
 use Rattle.driver.specs.History.{Authorised, History}
 use Rattle.driver.proofs.Validity.{carried-out-valid, heard-valid, fits-made, made-standing, standing-unit-valid}
 use Rattle.driver.proofs.Outcomes as outcomes
@@ -37,12 +39,12 @@ unfolding eventOf
 says-sent b v x h = ap sentEvent (round-trip .back x h)
 
 -- a frame that is refused, and one that is accepted
-says-refused : (f : List ℕ) (v : Unit) (n : ℕ) → eventOf (ofFrame f (answered v (suc n))) ≡ other
+says-refused : (f : List ℕ) (v : Unit) (n : ℕ) → eventOf (ofFrame f (heardWith v (suc n))) ≡ other
 unfolding eventOf
 says-refused f v n = refl
 
 says-accepted : (f : List ℕ) (v : Unit) (x : Message) → readFrame f ≡ x
-    → eventOf (ofFrame f (answered v 0)) ≡ acceptedEvent x
+    → eventOf (ofFrame f (heardWith v 0)) ≡ acceptedEvent x
 unfolding eventOf
 says-accepted f v x e = ap acceptedEvent e
 
@@ -58,9 +60,9 @@ module _ (t a e : ℕ) where
 
   -- what the claim wants of the events before this one
   abbrev Due : List Event → Event → Type 0
-  Due past (fa m) = Onward t e (place a past) m × Free past
-  Due past (fe m) = m .train .0 ≡ t → Requested t past m
-  Due past (am m) = Onward t e (place a past) m × Authorised t past m
+  Due past (fa m) = OnwardMove t e (place a past) m × Free past
+  Due past (fe m) = m .train .0 ≡ t → Outstanding t past m
+  Due past (am m) = OnwardMove t e (place a past) m × Authorised t past m
   Due past other = record {}
 
   abbrev Stepped : List Event → Unit → Event → Type 0
@@ -70,7 +72,7 @@ module _ (t a e : ℕ) where
     told-as : (p : Phase) → u .phase ≡ p → Told t p past (ownMove u)
     told-as p h = subst (λ (q : Phase). Told t q past (ownMove u)) h (k .told)
 
-    onward : u .at .0 ≢ u .route .end .0 → Onward t e (place a past) (ownMove u)
+    onward : u .at .0 ≢ u .route .end .0 → OnwardMove t e (place a past) (ownMove u)
     onward h = record {
       short = λ z. h (k .post ∙ z ∙ sym (k .end));
       move = outcomes.same-move (k .train) (k .post) (rw (k .post, k .end));
@@ -136,7 +138,7 @@ module _ (t a e : ℕ) where
         with-event u (says-accepted f u (Fe m) r) (λ z. absurd (another z)) (unchanged (fe m) (elsewhere m another))
     heard {f} (outcomes.granted m r o w) =
         let good : validUnit (inPhase u Granted) ≡ true = heard-valid u (k .good) (outcomes.granted m r o w) in
-        let asked = subst⁻¹ (Requested t past) o (told-requested t past (ownMove u) (u .phase) w (k .told)) in
+        let asked = subst⁻¹ (Outstanding t past) o (told-requested t past (ownMove u) (u .phase) w (k .told)) in
         let granted = subst (Authorised t (with past (fe m))) o (after-fe t past asked) in
         with-event (inPhase u Granted) (says-accepted f (inPhase u Granted) (Fe m) r) (λ z. asked)
         (in-phase (fe m) Granted good (λ n. refl) granted)
@@ -148,26 +150,27 @@ module _ (t a e : ℕ) where
         with-event (inPhase u Declined) (says-accepted f (inPhase u Declined) (Afe m) r) (record {})
         (in-phase other Declined good (λ n. refl) asked)
 
-    step : (i : Input) → Stepped past (after u i) (eventOf (exchange u i))
+    step : (i : CabInput) → Stepped past (after u i) (eventOf (cabExchange u i))
     step (press b) = pressed (outcomes.press-outcome u b)
     step (frame f) = heard (outcomes.hear-outcome u f)
 
   -- ---- the run
 
-  run-due : (is : List Input) (u : Unit) (past : List Event) → Tied u past
-      → (xs : List Event) (x : Event) (ys : List Event) → map eventOf (run u is) ≡ xs ++ (x ∷ ys) → Due (past ++ xs) x
-  unfolding run
+  run-due : (is : List CabInput) (u : Unit) (past : List Event) → Tied u past
+      → (xs : List Event) (x : Event) (ys : List Event) → map eventOf (cabRun u is) ≡ xs ++ (x ∷ ys)
+      → Due (past ++ xs) x
+  unfolding cabRun
   run-due [] u past k [] x ys h = let z : _≡_ {A = ℕ} 0 1 = cc in absurd (omega arith)
   run-due [] u past k (y ∷ xs) x ys h = let z : _≡_ {A = ℕ} 0 1 = cc in absurd (omega arith)
   run-due (i ∷ is) u past k [] x ys h =
-      let first : eventOf (exchange u i) ≡ x = cc in
-      let due = subst⁻¹ (λ (l : List Event). Due l (eventOf (exchange u i))) (append-nil past) (step k i .0) in
+      let first : eventOf (cabExchange u i) ≡ x = cc in
+      let due = subst⁻¹ (λ (l : List Event). Due l (eventOf (cabExchange u i))) (append-nil past) (step k i .0) in
       subst (Due (past ++ [])) first due
   run-due (i ∷ is) u past k (y ∷ xs) x ys h =
-      let next = with past (eventOf (exchange u i)) in
-      let first : eventOf (exchange u i) ≡ y = cc in
-      let rest : map eventOf (run (after u i) is) ≡ xs ++ (x ∷ ys) = cc in
-      let joined : next ++ xs ≡ past ++ (y ∷ xs) = append-assoc past (eventOf (exchange u i) ∷ []) xs ∙ rw first in
+      let next = with past (eventOf (cabExchange u i)) in
+      let first : eventOf (cabExchange u i) ≡ y = cc in
+      let rest : map eventOf (cabRun (after u i) is) ≡ xs ++ (x ∷ ys) = cc in
+      let joined : next ++ xs ≡ past ++ (y ∷ xs) = append-assoc past (eventOf (cabExchange u i) ∷ []) xs ∙ rw first in
       subst (λ (l : List Event). Due l x) joined (run-due is (after u i) next (step k i .1) xs x ys rest)
 
   at-start : makeUnit t a e .refusal ≡ 0 → Tied (makeUnit t a e .unit) []

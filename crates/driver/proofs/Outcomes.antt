@@ -10,13 +10,13 @@ use borrow.Author.Tests.{eqb-true, eqb-false, not-true}
 use Rattle.common.specs.Check.{refusal, unlessRefused}
 use Rattle.common.proofs.Tests.{by-cases, not-passed, and-left, and-right}
 use Rattle.common.proofs.Check.{passed-by}
-use Rattle.line.specs.Refusal.{wrongEnd, atEnd, notNow, notAwaited}
+use Rattle.line.specs.Refusal.{wrongEnd, trainAtEnd, notNow, notAwaited}
 use Rattle.frame.specs.Frame.{moveOf, readFrame}
 use Rattle.driver.specs.Types.{Move, Message, Fa, Fe, Afe, Am, Refused, Button, Unit, Pressed, Heard, Asked}
 use Rattle.driver.specs.Types.{Declined, Granted}
 use Rattle.driver.specs.State.{samePhase, ownMove, inPhase}
 use Rattle.driver.specs.Pressing.{phaseFor, pressChecks, silent, carriedOut, pressButton}
-use Rattle.driver.specs.Hearing.{forTrain, forMove, awaiting, forUnit, awaited, hearChecks, phaseAfter, answered}
+use Rattle.driver.specs.Hearing.{forTrain, forMove, awaiting, forUnit, awaited, hearChecks, phaseAfter, heardWith}
 use Rattle.driver.specs.Hearing.{hearFrame}
 use Rattle.driver.proofs.Phases.{same-phase}
 
@@ -31,17 +31,17 @@ press-outcome u b = at (refusal (pressChecks u b)) refl
     at : (n : ℕ) → refusal (pressChecks u b) ≡ n → PressOutcome u b (unlessRefused n (carriedOut u b) (silent u))
     at zero e =
         let passed = passed-by (pressChecks u b) refl e in
-        accepted (same-phase (u .phase) (phaseFor b) (passed notNow)) (eqb-false _ _ (not-true _ (passed atEnd)))
+        accepted (same-phase (u .phase) (phaseFor b) (passed notNow)) (eqb-false _ _ (not-true _ (passed trainAtEnd)))
     at (suc n) e = refused n
 
 -- an FE or AFE that is passed over, or the FE or AFE for the unit's own move when it waits for one
 pub data HearOutcome (u : Unit) (f : List ℕ) : Heard → Type 0 where
-  refused : (n : ℕ) → HearOutcome u f (answered u (suc n))
-  fe-passed-over : (m : Move) → readFrame f ≡ Fe m → m .train .0 ≢ u .train .0 → HearOutcome u f (answered u 0)
+  refused : (n : ℕ) → HearOutcome u f (heardWith u (suc n))
+  fe-passed-over : (m : Move) → readFrame f ≡ Fe m → m .train .0 ≢ u .train .0 → HearOutcome u f (heardWith u 0)
   granted : (m : Move) → readFrame f ≡ Fe m → m ≡ ownMove u → awaiting (u .phase) ≡ true
-      → HearOutcome u f (answered (inPhase u Granted) 0)
-  afe-passed-over : (m : Move) → readFrame f ≡ Afe m → HearOutcome u f (answered u 0)
-  declined : (m : Move) → readFrame f ≡ Afe m → u .phase ≡ Asked → HearOutcome u f (answered (inPhase u Declined) 0)
+      → HearOutcome u f (heardWith (inPhase u Granted) 0)
+  afe-passed-over : (m : Move) → readFrame f ≡ Afe m → HearOutcome u f (heardWith u 0)
+  declined : (m : Move) → readFrame f ≡ Afe m → u .phase ≡ Asked → HearOutcome u f (heardWith (inPhase u Declined) 0)
 
 pub same-move : {t p q t′ p′ q′ : ℕ} → t ≡ t′ → p ≡ p′ → q ≡ q′ → moveOf t p q ≡ moveOf t′ p′ q′
 same-move a b c = rw (a, b, c)
@@ -62,7 +62,7 @@ module _ (u : Unit) (m : Move) where
 module _ (u : Unit) (f : List ℕ) where
   -- by the message, once the checks are passed
   taken : (x : Message) → readFrame f ≡ x → forUnit x ≡ true → awaited u x ≡ true
-      → HearOutcome u f (answered (inPhase u (phaseAfter u x)) 0)
+      → HearOutcome u f (heardWith (inPhase u (phaseAfter u x)) 0)
   unfolding phaseAfter
   taken (Fa m) e own w = absurd (false≢true own)
   taken (Fe m) e own w = by-cases (forMove u m)
@@ -79,7 +79,7 @@ module _ (u : Unit) (f : List ℕ) where
   hear-outcome = at (refusal (hearChecks u f)) refl
     where
       at : (n : ℕ) → refusal (hearChecks u f) ≡ n
-          → HearOutcome u f (unlessRefused n (answered (inPhase u (phaseAfter u (readFrame f))) 0) (answered u))
+          → HearOutcome u f (unlessRefused n (heardWith (inPhase u (phaseAfter u (readFrame f))) 0) (heardWith u))
       at zero e =
           let passed = passed-by (hearChecks u f) refl e in
           taken (readFrame f) refl (passed wrongEnd) (passed notAwaited)

@@ -9,7 +9,7 @@ use borrow.Author.Tests.{ne-eqb}
 use Rattle.common.proofs.Tests.{or-left, or-right}
 use Rattle.driver.specs.Types.{Move, Phase, Standing, Asked, Declined, Granted, UnderWay, Arrived}
 use Rattle.driver.specs.Hearing.{awaiting}
-use Rattle.driver.specs.History.{Event, fa, fe, am, other, isAm, isFe, some, reported, Requested, Authorised}
+use Rattle.driver.specs.History.{Event, fa, fe, am, other, isAm, isFe, some, reported, Outstanding, Authorised}
 use Rattle.driver.proofs.Events.{with, split-last, some-with, still-none}
 
 -- ---- events that settle nothing: none, or the FE for another train
@@ -44,8 +44,8 @@ Free past = (before between : List Event) (m : Move) → past ≡ before ++ (fa 
 -- m is the unit's own move
 abbrev pub Told : ℕ → Phase → List Event → Move → Type 0
 Told t Standing past m = Free past
-Told t Asked past m = Requested t past m
-Told t Declined past m = Requested t past m
+Told t Asked past m = Outstanding t past m
+Told t Declined past m = Outstanding t past m
 Told t Granted past m = Authorised t past m
 Told t UnderWay past m = Authorised t past m
 Told t Arrived past m = Authorised t past m
@@ -55,11 +55,11 @@ none-yet [] between m e = let z : _≡_ {A = ℕ} 0 1 = cc in absurd (omega arit
 none-yet (x ∷ before) between m e = let z : _≡_ {A = ℕ} 0 1 = cc in absurd (omega arith)
 
 module _ (t : ℕ) (past : List Event) where
-  pub after-fa : (m : Move) → Requested t (with past (fa m)) m
+  pub after-fa : (m : Move) → Outstanding t (with past (fa m)) m
   unfolding some
   after-fa m = record { before = past; since = []; parts = refl; no-am = refl; no-fe = refl }
 
-  pub after-fe : {m : Move} → Requested t past m → Authorised t (with past (fe m)) m
+  pub after-fe : {m : Move} → Outstanding t past m → Authorised t (with past (fe m)) m
   unfolding some
   after-fe r = record { before = past; since = []; parts = refl; requested = r; no-am = refl }
 
@@ -76,7 +76,7 @@ module _ (t : ℕ) (past : List Event) where
         (λ s. rw (s .1) (some-with isAm (s .0) x ∙ or-left (some isAm (s .0)) (isAm x) (h before (s .0) m (s .2))))
         (split-last past x before (fa m) between e)
 
-    pub requested-kept : {m : Move} → Requested t past m → Requested t (with past x) m
+    pub requested-kept : {m : Move} → Outstanding t past m → Outstanding t (with past x) m
     requested-kept {m} r = record {
       before = r .before;
       since = with (r .since) x;
@@ -102,7 +102,7 @@ module _ (t : ℕ) (past : List Event) where
     told-kept m UnderWay = authorised-kept
     told-kept m Arrived = authorised-kept
 
-  pub told-requested : (m : Move) (p : Phase) → awaiting p ≡ true → Told t p past m → Requested t past m
+  pub told-requested : (m : Move) (p : Phase) → awaiting p ≡ true → Told t p past m → Outstanding t past m
   told-requested m Standing h k = absurd (false≢true h)
   told-requested m Asked h k = k
   told-requested m Declined h k = k

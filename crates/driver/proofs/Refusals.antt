@@ -12,7 +12,7 @@ use Rattle.driver.specs.Types.{Move, Unit, Made, Pressed, Heard, Ask, St
 use Rattle.driver.specs.State.{samePhase, numbersFit, ownMove}
 use Rattle.driver.specs.Making.{emptyUnit}
 use Rattle.driver.specs.Hearing.{forMove, awaiting}
-use Rattle.driver.specs.Refusals.{HearingRefused, HearsFe, Refusals}
+use Rattle.driver.specs.Refusals.{HearingRefused, HearsFe, UnitRefusals}
 use Rattle.driver.proofs.Phases.{same-phase}
 use Rattle.driver.proofs.Numbers.{makes-none}
 use Rattle.driver.proofs.Outcomes.{own-move}
@@ -47,7 +47,7 @@ module _ {u : Unit} {f : List ℕ} {m : Move} (h : HearsFe u f m) where
       let other = not-passed (forMove u m) (λ o. w (own-move u m o)) in
       hear-number (frames.fe-for-another-move u f (h .good) m (h .reads) (h .own) other)
 
-pub refusals : Refusals
+pub refusals : UnitRefusals
 refusals = record {
   strange-press = λ u b h. press-number (buttons.strange u b h);
   strange-hearing = λ u f h. hear-number (frames.strange u f h);

@@ -59,10 +59,10 @@ phaseAfter u (Am m) = u .phase
 phaseAfter u (Refused n) = u .phase
 
 -- the unit, and the number of the refusal or 0
-abbrev pub answered : Unit → ℕ → Heard
-answered u n = record { unit = u; refusal = n }
+abbrev pub heardWith : Unit → ℕ → Heard
+heardWith u n = record { unit = u; refusal = n }
 
 -- "A refusal returns its number and the state unchanged"
 unfoldable pub hearFrame : Unit → List ℕ → Heard
 hearFrame u f =
-    unlessRefused (refusal (hearChecks u f)) (answered (inPhase u (phaseAfter u (readFrame f))) 0) (answered u)
+    unlessRefused (refusal (hearChecks u f)) (heardWith (inPhase u (phaseAfter u (readFrame f))) 0) (heardWith u)

@@ -15,34 +15,34 @@ use Rattle.driver.specs.Hearing.{hearFrame}
 
 -- ---- what goes in and what comes out
 
-pub data Input : Type 0 where
-  press : Button → Input
-  frame : List ℕ → Input
+pub data CabInput : Type 0 where
+  press : Button → CabInput
+  frame : List ℕ → CabInput
 
 -- an input, the number of the refusal or 0, and the bytes that were sent: none or a frame's
-pub record Exchange : Type 0 where
-  pub input : Input
+pub record CabExchange : Type 0 where
+  pub input : CabInput
   pub refusal : ℕ
   pub sent : List ℕ
 
-abbrev pub ofPress : Button → Pressed → Exchange
+abbrev pub ofPress : Button → Pressed → CabExchange
 ofPress b r = record { input = press b; refusal = r .refusal; sent = cond (r .sent) (r .frame) [] }
 
-abbrev pub ofFrame : List ℕ → Heard → Exchange
+abbrev pub ofFrame : List ℕ → Heard → CabExchange
 ofFrame f r = record { input = frame f; refusal = r .refusal; sent = [] }
 
-abbrev pub exchange : Unit → Input → Exchange
-exchange u (press b) = ofPress b (pressButton u b)
-exchange u (frame f) = ofFrame f (hearFrame u f)
+abbrev pub cabExchange : Unit → CabInput → CabExchange
+cabExchange u (press b) = ofPress b (pressButton u b)
+cabExchange u (frame f) = ofFrame f (hearFrame u f)
 
-abbrev pub after : Unit → Input → Unit
+abbrev pub after : Unit → CabInput → Unit
 after u (press b) = pressButton u b .unit
 after u (frame f) = hearFrame u f .unit
 
 -- the first input goes to u, and each later one to the unit that the one before left
-unfoldable pub run : Unit → List Input → List Exchange
-run u [] = []
-run u (i ∷ is) = let rest = run (after u i) is in exchange u i ∷ rest
+unfoldable pub cabRun : Unit → List CabInput → List CabExchange
+cabRun u [] = []
+cabRun u (i ∷ is) = let rest = cabRun (after u i) is in cabExchange u i ∷ rest
 
 -- ---- what an exchange says
 
@@ -70,12 +70,12 @@ acceptedEvent (Am m) = other
 acceptedEvent (Refused n) = other
 
 -- by the button and what the bytes sent read as, or by the frame that was heard and the number of its refusal or 0
-abbrev pub eventBy : Input → ℕ → Message → Event
+abbrev pub eventBy : CabInput → ℕ → Message → Event
 eventBy (press b) n a = sentEvent a
 eventBy (frame f) zero a = acceptedEvent (readFrame f)
 eventBy (frame f) (suc n) a = other
 
-unfoldable pub eventOf : Exchange → Event
+unfoldable pub eventOf : CabExchange → Event
 eventOf x = eventBy (x .input) (x .refusal) (readFrame (x .sent))
 
 -- ---- what the events so far say
@@ -110,13 +110,13 @@ place p [] = p
 place p (x ∷ xs) = place (reported p x) xs
 
 -- m leads from this post, which is not the end, to the next one towards the end
-pub record Onward (train end post : ℕ) (m : Move) : Type 0 where
+pub record OnwardMove (train end post : ℕ) (m : Move) : Type 0 where
   pub short : post ≢ end
   pub move : m ≡ moveOf train post (nextPost post end)
 
 -- FA was sent for m, and since then no AM was sent and no FE for this train accepted: the unit has asked for m, and its
 -- authority is outstanding
-pub record Requested (train : ℕ) (past : List Event) (m : Move) : Type 0 where
+pub record Outstanding (train : ℕ) (past : List Event) (m : Move) : Type 0 where
   pub before : List Event
   pub since : List Event
   pub parts : past ≡ before ++ (fa m ∷ since)
@@ -128,7 +128,7 @@ pub record Authorised (train : ℕ) (past : List Event) (m : Move) : Type 0 wher
   pub before : List Event
   pub since : List Event
   pub parts : past ≡ before ++ (fe m ∷ since)
-  pub requested : Requested train before m
+  pub requested : Outstanding train before m
   pub no-am : some isAm since ≡ false
 
 -- ---- the claim
@@ -139,18 +139,18 @@ pub record Orderly (train start end : ℕ) (events : List Event) : Type 0 where
       → events ≡ past ++ (am m ∷ later) → Authorised train past m
   -- FE for the unit's own train is accepted only for a move that is asked for, and only once
   pub fe-awaited : (past later : List Event) (m : Move)
-      → events ≡ past ++ (fe m ∷ later) → m .train .0 ≡ train → Requested train past m
+      → events ≡ past ++ (fe m ∷ later) → m .train .0 ≡ train → Outstanding train past m
   -- between two FAs lies an AM
   pub one-request : (past between later : List Event) (m n : Move)
       → events ≡ past ++ (fa m ∷ (between ++ (fa n ∷ later))) → some isAm between ≡ true
   -- each FA and each AM is for the move from the post that the last AM reported, or from the start, to the next one
   -- towards the end: the AMs, one after the other, are the train's way
   pub fa-onward : (past later : List Event) (m : Move)
-      → events ≡ past ++ (fa m ∷ later) → Onward train end (place start past) m
+      → events ≡ past ++ (fa m ∷ later) → OnwardMove train end (place start past) m
   pub am-onward : (past later : List Event) (m : Move)
-      → events ≡ past ++ (am m ∷ later) → Onward train end (place start past) m
+      → events ≡ past ++ (am m ∷ later) → OnwardMove train end (place start past) m
 
 -- for every unit that is made, and every list
 abbrev pub History : Type 0
-History = (t a e : ℕ) → makeUnit t a e .refusal ≡ 0 → (is : List Input)
-    → Orderly t a e (map eventOf (run (makeUnit t a e .unit) is))
+History = (t a e : ℕ) → makeUnit t a e .refusal ≡ 0 → (is : List CabInput)
+    → Orderly t a e (map eventOf (cabRun (makeUnit t a e .unit) is))

@@ -7,7 +7,8 @@ use lib.ListN.{length, getD, length-append}
 use Rattle.line.specs.Line.{routeOf, noRoute}
 use Rattle.rules.specs.State.{trainOf, noTrain}
 use Rattle.encoding.specs.Types.{Line, State}
-use Rattle.encoding.specs.Parts.{joined, each, headParts, headBytes, postsAt, tracksAt, trainsAt, headLength}
+use Rattle.encoding.specs.Parts.{joined, each, headParts, headBytes, postsByte, tracksByte, trainsByte}
+use Rattle.encoding.specs.Parts.{headLength}
 use Rattle.encoding.specs.LineBytes.{lineLength, routeLength, routeEnds, routeAt, lineParts, lineBytes}
 use Rattle.encoding.specs.StateBytes.{stateLength, trainLength, standingBytes, trainBytes, trainAt, loggedAt}
 use Rattle.encoding.specs.StateBytes.{stateParts, stateBytes}
@@ -29,13 +30,13 @@ module _ (posts : ℕ) (tracks : List ℕ) (trains : ℕ) (eight : length tracks
 
   -- in bytes that begin with it
   module _ {b : List ℕ} (a : At b 0 head) where
-    pub posts-at : At b postsAt (posts ∷ [])
+    pub posts-at : At b postsByte (posts ∷ [])
     posts-at = within a (head-parts .0) (omega (arith, head-length)) refl
 
-    pub tracks-at : At b tracksAt tracks
+    pub tracks-at : At b tracksByte tracks
     tracks-at = within a (head-parts .1 .0) (omega (arith, head-length)) refl
 
-    pub trains-at : At b trainsAt (trains ∷ [])
+    pub trains-at : At b trainsByte (trains ∷ [])
     trains-at = within a (head-parts .1 .1 .0) (omega (arith, head-length)) (omega arith)
 
 -- ---- a line

@@ -16,7 +16,7 @@ use Rattle.line.specs.Line.{routeOf}
 use Rattle.line.specs.Book.{byteAt}
 use Rattle.rules.specs.State.{askedAs, noTrain, trainOf, lineOf}
 use Rattle.encoding.specs.Types.{Route, Line, Train, State}
-use Rattle.encoding.specs.Parts.{each, headParts, headBytes, tracksAt, headLength}
+use Rattle.encoding.specs.Parts.{each, headParts, headBytes, tracksByte, headLength}
 use Rattle.encoding.specs.LineBytes.{routeEnds}
 use Rattle.encoding.specs.StateBytes.{statusNo, trainLength, trainBytes, trainAt}
 use Rattle.encoding.specs.StateBytes.{encodesStatus, encodesTrain, encodesState, statusOf, trainIn, stateIn}
@@ -50,7 +50,7 @@ module _ (b : List ℕ) where
   pub head-stands : At b 0 (headBytes (read .posts) (read .tracks) (read .trains))
   unfolding headBytes
   head-stands =
-      let tracks : At b tracksAt (read .tracks) = record { byte = λ j l. at-tabulate 8 _ j 0 (rw eight at l) } in
+      let tracks : At b tracksByte (read .tracks) = record { byte = λ j l. at-tabulate 8 _ j 0 (rw eight at l) } in
       at-joined (headParts (read .posts) (read .tracks) (read .trains))
       (bytes-at (refl, tt), (tracks, (bytes-at (same-place b (omega (arith, eight)), tt), tt)))
 

@@ -26,7 +26,7 @@ use Rattle.encoding.specs.StateBytes.{encodesStatus, encodesState}
 use Rattle.encoding.specs.StateBytes.{statusOf, trainIn, tracksIn, fleetIn, stateIn}
 use Rattle.encoding.specs.JournalBytes.{recordLength, recordBytes, recordIn, recordCount, recordsIn}
 use Rattle.encoding.specs.JournalBytes.{journalParts, withRecords}
-use Rattle.encoding.specs.RoundTrip.{Shaped, RoundTrip}
+use Rattle.encoding.specs.RoundTrip.{Shaped, BytesReadBack}
 use Rattle.encoding.proofs.Parts.{At, same-place, bytes-at, within, joined-at, at-joined, whole-at}
 use Rattle.encoding.proofs.Parts.{length-each, each-at}
 use Rattle.encoding.proofs.Units as units
@@ -186,7 +186,7 @@ module _ (b : List ℕ) (j : List Record) (size : length j ≡ recordCount (leng
       (λ i h. record-read (withRecords b j) (recordLength * i) (getD j i blank) (record-stands i (rw size h)))
       ∙ elements (recordCount (length b)) j blank size
 
-pub round-trip : RoundTrip
+pub round-trip : BytesReadBack
 round-trip = record {
   unit-encoded = unit-encoded;
   unit-back = unit-back;

@@ -21,14 +21,14 @@ unfoldable pub headBytes : ℕ → List ℕ → ℕ → List ℕ
 headBytes posts tracks trains = joined (headParts posts tracks trains)
 
 -- where each of them is, and how many bytes they are
-abbrev pub postsAt : ℕ
-postsAt = 0
+abbrev pub postsByte : ℕ
+postsByte = 0
 
-abbrev pub tracksAt : ℕ
-tracksAt = postsAt + 1
+abbrev pub tracksByte : ℕ
+tracksByte = postsByte + 1
 
-abbrev pub trainsAt : ℕ
-trainsAt = tracksAt + 8
+abbrev pub trainsByte : ℕ
+trainsByte = tracksByte + 8
 
 abbrev pub headLength : ℕ
-headLength = trainsAt + 1
+headLength = trainsByte + 1

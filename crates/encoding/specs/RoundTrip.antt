@@ -15,7 +15,7 @@ pub record Shaped (s : State) : Type 0 where
   pub eight : length (s .tracks) ≡ 8
   pub six : length (s .fleet) ≡ 6
 
-pub record RoundTrip : Type 0 where
+pub record BytesReadBack : Type 0 where
   -- the bytes of a unit encode that unit, and bytes that encode one are its bytes
   pub unit-encoded : (u : Unit) → encodesUnit (unitBytes u) ≡ true
   pub unit-back : (u : Unit) → unitIn (unitBytes u) ≡ u

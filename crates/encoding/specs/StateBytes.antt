@@ -10,7 +10,7 @@ use Rattle.common.specs.Tabulate.{tabulate}
 use Rattle.line.specs.Book.{byteAt, route}
 use Rattle.rules.specs.State.{askedAs}
 use Rattle.encoding.specs.Types.{Status, Free, AskedAs, Running, Train, State}
-use Rattle.encoding.specs.Parts.{joined, each, headBytes, postsAt, tracksAt, trainsAt, headLength}
+use Rattle.encoding.specs.Parts.{joined, each, headBytes, postsByte, tracksByte, trainsByte, headLength}
 use Rattle.encoding.specs.LineBytes.{routeLength, routeEnds}
 
 -- ---- the bytes of a state
@@ -74,7 +74,7 @@ trainIn b i = record {
 }
 
 abbrev pub tracksIn : List ℕ → List ℕ
-tracksIn b = tabulate 8 (λ p. byteAt b (tracksAt + p))
+tracksIn b = tabulate 8 (λ p. byteAt b (tracksByte + p))
 
 abbrev pub fleetIn : List ℕ → List Train
 fleetIn b = tabulate 6 (λ t. trainIn b (trainAt t))
@@ -82,9 +82,9 @@ fleetIn b = tabulate 6 (λ t. trainIn b (trainAt t))
 -- the state that the bytes encode
 abbrev pub stateIn : List ℕ → State
 stateIn b = record {
-  posts = byteAt b postsAt;
+  posts = byteAt b postsByte;
   tracks = tracksIn b;
-  trains = byteAt b trainsAt;
+  trains = byteAt b trainsByte;
   fleet = fleetIn b;
   logged = byteAt b loggedAt;
 }

@@ -1,10 +1,10 @@
 -- The books, evaluated.
 use mathlib.Core.Path.{refl}
-use Rattle.examples.specs.Reading.{readAlone, numbersOf, opened}
+use Rattle.examples.specs.Reading.{readAlone, numbersOf, openedBlank}
 use Rattle.examples.specs.Books.{Books}
 
 pub books : Books
-unfolding readAlone numbersOf opened
+unfolding readAlone numbersOf openedBlank
 books = record {
   x = refl;
   header = refl;

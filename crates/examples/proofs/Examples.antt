@@ -3,11 +3,11 @@ use mathlib.Core.Path.{refl}
 use Rattle.common.specs.Below.{countBelow}
 use Rattle.frame.specs.Frame.{bytesOf}
 use Rattle.journal.specs.Journal.{recordOf}
-use Rattle.examples.specs.Reading.{opened, ranWith, answersIn}
+use Rattle.examples.specs.Reading.{openedBlank, ranWith, repliesIn}
 use Rattle.examples.specs.Examples.{Examples, PrintedRun}
 
 pub examples : Examples
-unfolding countBelow bytesOf opened ranWith answersIn
+unfolding countBelow bytesOf openedBlank ranWith repliesIn
 examples = record {
   a = refl;
   b = refl;
@@ -24,5 +24,5 @@ examples = record {
 }
 
 pub printed-run : PrintedRun
-unfolding bytesOf recordOf opened ranWith
+unfolding bytesOf recordOf openedBlank ranWith
 printed-run = refl

@@ -9,35 +9,35 @@ use Rattle.frame.specs.Frame.{readFrame, bytesOf}
 use Rattle.journal.specs.Journal.{recordOf}
 use Rattle.rules.specs.Valid.{consistent, valid}
 use Rattle.rules.specs.Answer.{answer}
-use Rattle.examples.specs.Reading.{opened, ranWith, answersIn, seenIn}
+use Rattle.examples.specs.Reading.{openedBlank, ranWith, repliesIn, seenIn}
 use Rattle.examples.specs.Further.{OlderThen, Stores, FullPost, Parked, SixTrains, BothHome, Precedence}
 
 pub older-then : OlderThen
-unfolding bytesOf opened ranWith answersIn
+unfolding bytesOf openedBlank ranWith repliesIn
 older-then = refl
 
 pub stores : Stores
-unfolding bytesOf recordOf valuesFrom opened ranWith
+unfolding bytesOf recordOf valuesFrom openedBlank ranWith
 stores = record { verdicts = refl; out = refl; journal = refl }
 
 pub full-post : FullPost
-unfolding bytesOf opened ranWith answersIn
+unfolding bytesOf openedBlank ranWith repliesIn
 full-post = refl
 
 pub parked : Parked
-unfolding bytesOf opened ranWith answersIn
+unfolding bytesOf openedBlank ranWith repliesIn
 parked = record { passed = refl; blocks = refl; stays = refl }
 
 pub six-trains : SixTrains
-unfolding bytesOf opened ranWith answersIn
+unfolding bytesOf openedBlank ranWith repliesIn
 six-trains = refl
 
 pub both-home : BothHome
-unfolding bytesOf opened ranWith seenIn
+unfolding bytesOf openedBlank ranWith seenIn
 both-home = (refl, refl)
 
 pub precedence : Precedence
-unfolding bytesOf opened ranWith answer valid consistent wellFormed between nextPost countBelow allBelow valuesFrom
+unfolding bytesOf openedBlank ranWith answer valid consistent wellFormed between nextPost countBelow allBelow valuesFrom
     refusal unlessRefused readFrame
 precedence = record {
   fresh = refl;

@@ -4,7 +4,7 @@ use mathlib.Core.List.{List, [], _∷_, _++_}
 use Prim.Native.Nat.{ℕ}
 use lib.ListN.{length, replicate}
 use Rattle.line.specs.Line.{noRoute}
-use Rattle.line.specs.Book.{route, accepted}
+use Rattle.line.specs.Book.{route, acceptedBook}
 use Rattle.line.specs.Claims.{longest}
 use Rattle.examples.specs.Reading.{readAlone, numbersOf, refusalOf}
 use Rattle.examples.specs.Examples.{likeX, bookX}
@@ -23,7 +23,7 @@ bookLong = bookOf 23 1 8 (replicate 8 4) 6 (0 ∷ 7 ∷ 7 ∷ 0 ∷ 0 ∷ 7 ∷ 
 
 pub record Books : Type 0 where
   -- what X says; the places for posts from 3 on and trains from 2 on are 0
-  pub x : readAlone bookX ≡ accepted record {
+  pub x : readAlone bookX ≡ acceptedBook record {
     posts = 3;
     tracks = 1 ∷ 2 ∷ 1 ∷ replicate 5 0;
     trains = 2;

@@ -7,7 +7,8 @@ use Rattle.frame.specs.Frame.{bytesOf}
 use Rattle.journal.specs.Journal.{recordOf}
 use Rattle.rules.specs.State.{located}
 use Rattle.assurance.specs.Types.{Message, Sent, RefusedBy}
-use Rattle.examples.specs.Reading.{fa, fe, afe, am, opened, refusalOf, ran, verdictsOf, answersIn, recordsIn}
+use Rattle.examples.specs.Reading.{fa, fe, afe, am, openedBlank, refusalOf, ran, verdictsOf, repliesIn}
+use Rattle.examples.specs.Reading.{loggedRecords}
 
 -- "Book X: 00 0A 01 03 01 02 01 02 00 02 02 00.": its length, posts, track counts, number of trains and train 1's start
 -- may be others
@@ -38,16 +39,16 @@ pub record Examples : Type 0 where
   -- "G. X with train 1 starting at post 0: 19."
   pub g : refusalOf (likeX 10 3 1 2 1 2 0) ≡ 19
   -- "H. Y, FA of train 2, 2 to 1: AFE, though section and track are free."
-  pub h : let s = opened bookY .state in
-      (answersIn (ran bookY (bytesOf (fa 2 2 1) ∷ [])) ≡ (afe 2 2 1 ∷ []) ∷ [])
+  pub h : let s = openedBlank bookY .state in
+      (repliesIn (ran bookY (bytesOf (fa 2 2 1) ∷ [])) ≡ (afe 2 2 1 ∷ []) ∷ [])
       × (sectionHolders (s .trains) (located s) 1 ≡ 0) × (postHolders (s .trains) (located s) 1 ≡ 0)
   -- "I. Y, FA of train 0, 0 to 1: FE."
-  pub i : answersIn (ran bookY (bytesOf (fa 0 0 1) ∷ [])) ≡ (fe 0 0 1 ∷ []) ∷ []
+  pub i : repliesIn (ran bookY (bytesOf (fa 0 0 1) ∷ [])) ≡ (fe 0 0 1 ∷ []) ∷ []
   -- "J. 00 05 01 02 00 00 01 at the dispatcher: 6."
   pub j : verdictsOf (ran bookX ((0 ∷ 5 ∷ 1 ∷ 2 ∷ 0 ∷ 0 ∷ 1 ∷ []) ∷ [])) ≡ RefusedBy 6 ∷ []
   -- "K. X, two FA of train 0: FE, then 11."
   pub k : (verdictsOf (ran bookX (map bytesOf (fa 0 0 1 ∷ fa 0 0 1 ∷ []))) ≡ Sent 1 ∷ RefusedBy 11 ∷ [])
-      × (answersIn (ran bookX (bytesOf (fa 0 0 1) ∷ [])) ≡ (fe 0 0 1 ∷ []) ∷ [])
+      × (repliesIn (ran bookX (bytesOf (fa 0 0 1) ∷ [])) ≡ (fe 0 0 1 ∷ []) ∷ [])
   -- "L. X, AM of train 0 first: 12."
   pub l : verdictsOf (ran bookX (bytesOf (am 0 0 1) ∷ [])) ≡ RefusedBy 12 ∷ []
 
@@ -57,7 +58,7 @@ sentInTheRun = fa 0 0 1 ∷ fa 1 2 1 ∷ am 0 0 1 ∷ fa 0 1 2 ∷ am 1 2 1 ∷ 
 
 -- its 13 records
 abbrev pub PrintedRun : Type 0
-PrintedRun = recordsIn (ran bookX (map bytesOf sentInTheRun))
+PrintedRun = loggedRecords (ran bookX (map bytesOf sentInTheRun))
     ≡ map recordOf
     (fa 0 0 1 ∷ fe 0 0 1 ∷ fa 1 2 1 ∷ fe 1 2 1 ∷ am 0 0 1 ∷ fa 0 1 2 ∷ afe 0 1 2
     ∷ am 1 2 1 ∷ fe 0 1 2 ∷ fa 1 1 0 ∷ fe 1 1 0 ∷ am 0 1 2 ∷ am 1 1 0 ∷ [])

@@ -13,8 +13,8 @@ use Rattle.rules.specs.Opening.{emptyState}
 use Rattle.assurance.specs.Types.{Record, State, Verdict, Sent, RefusedBy}
 use Rattle.assurance.specs.Run.{Input, Ran}
 use Rattle.assurance.specs.Observer.{Seen, nothing}
-use Rattle.examples.specs.Reading.{fa, fe, afe, am, refusalOf, opened, ranWith, ranFrom, ran, verdictsOf}
-use Rattle.examples.specs.Reading.{answersIn, seenIn}
+use Rattle.examples.specs.Reading.{fa, fe, afe, am, refusalOf, openedBlank, ranWith, ranFrom, ran, verdictsOf}
+use Rattle.examples.specs.Reading.{repliesIn, seenIn}
 use Rattle.examples.specs.Examples.{bookX, bookY, sentInTheRun}
 
 -- ---- an altered table
@@ -29,7 +29,7 @@ altered = 0 ∷ 3 ∷ replicate (tableLength - 2) 0
 
 -- "under an altered table one grant can set the bit that an older asker lacked"
 abbrev pub OlderThen : Type 0
-OlderThen = answersIn (ranFrom (opened bookZ .state) altered (map bytesOf (fa 0 0 1 ∷ fa 1 3 2 ∷ [])))
+OlderThen = repliesIn (ranFrom (openedBlank bookZ .state) altered (map bytesOf (fa 0 0 1 ∷ fa 1 3 2 ∷ [])))
     ≡ (afe 0 0 1 ∷ []) ∷ (fe 1 3 2 ∷ fe 0 0 1 ∷ []) ∷ []
 
 -- ---- stores that are not blank
@@ -48,7 +48,7 @@ lending frame = record { frame = frame; out = tabulate 50 lentByte }
 -- book Z, a table without a bit and a journal of 178 records: train 0 asks
 abbrev pub withoutBits : Ran
 withoutBits =
-    ranWith (opened bookZ .state) (replicate tableLength 0) (tabulate 178 lentRecord)
+    ranWith (openedBlank bookZ .state) (replicate tableLength 0) (tabulate 178 lentRecord)
     (lending (bytesOf (fa 0 0 1)) ∷ [])
 
 -- then a table with the bit of code 1 alone, by which train 0 may move on: train 1 asks, and reports an arrival
@@ -71,7 +71,7 @@ pub record Stores : Type 0 where
 
 -- book Y: while train 0 stands on the only track of post 1, train 1 waits, though the section is free
 abbrev pub FullPost : Type 0
-FullPost = answersIn (ran bookY (map bytesOf (fa 0 0 1 ∷ fa 1 0 1 ∷ am 0 0 1 ∷ [])))
+FullPost = repliesIn (ran bookY (map bytesOf (fa 0 0 1 ∷ fa 1 0 1 ∷ am 0 0 1 ∷ [])))
     ≡ (fe 0 0 1 ∷ []) ∷ (afe 1 0 1 ∷ []) ∷ [] ∷ []
 
 -- train 1 is parked at post 1, which has so many tracks
@@ -80,7 +80,7 @@ parkedAt tracks = 0 ∷ 10 ∷ 1 ∷ 3 ∷ 1 ∷ tracks ∷ 1 ∷ 2 ∷ 0 ∷ 2 
 
 pub record Parked : Type 0 where
   -- it holds a track: train 0 passes it on another, or not at all
-  pub passed : answersIn (ran (parkedAt 2) (map bytesOf (fa 0 0 1 ∷ am 0 0 1 ∷ fa 0 1 2 ∷ [])))
+  pub passed : repliesIn (ran (parkedAt 2) (map bytesOf (fa 0 0 1 ∷ am 0 0 1 ∷ fa 0 1 2 ∷ [])))
       ≡ (fe 0 0 1 ∷ []) ∷ [] ∷ (fe 0 1 2 ∷ []) ∷ []
   pub blocks : refusalOf (parkedAt 1) ≡ 20
   -- it has no next post
@@ -92,7 +92,7 @@ bookOfSix = 0 ∷ 18 ∷ 1 ∷ 3 ∷ 4 ∷ 4 ∷ 4 ∷ 6 ∷ 0 ∷ 2 ∷ 0 ∷ 2
 
 -- train 2 asked before train 1, so that it is granted first
 abbrev pub SixTrains : Type 0
-SixTrains = answersIn (ran bookOfSix (map bytesOf
+SixTrains = repliesIn (ran bookOfSix (map bytesOf
     (fa 0 0 1 ∷ fa 2 0 1 ∷ fa 1 0 1 ∷ fa 5 2 1 ∷ fa 3 2 1 ∷ fa 4 2 1 ∷ am 0 0 1 ∷ am 2 0 1 ∷ [])))
     ≡ (fe 0 0 1 ∷ []) ∷ (afe 2 0 1 ∷ []) ∷ (afe 1 0 1 ∷ []) ∷ (fe 5 2 1 ∷ []) ∷ (afe 3 2 1 ∷ []) ∷ (afe 4 2 1 ∷ [])
     ∷ (fe 2 0 1 ∷ []) ∷ (fe 1 0 1 ∷ []) ∷ []
@@ -111,10 +111,10 @@ abbrev pub frameWith : ℕ → ℕ → ℕ → ℕ → ℕ → ℕ → List ℕ
 frameWith size version kind t p q = 0 ∷ size ∷ version ∷ kind ∷ t ∷ p ∷ q ∷ []
 
 -- book X, opened, with a made-up journal count
-abbrev pub withRecords : ℕ → List (List ℕ) → Ran
-withRecords n frames =
-    let s = opened bookX .state in
-    ranFrom (stateWith s (s .fleet) n) (opened bookX .table) frames
+abbrev pub ranWithRecords : ℕ → List (List ℕ) → Ran
+ranWithRecords n frames =
+    let s = openedBlank bookX .state in
+    ranFrom (stateWith s (s .fleet) n) (openedBlank bookX .table) frames
 
 -- the verdict on a frame of a torn length, by the lengths of table, journal and out buffer
 abbrev pub shortStores : State → ℕ → ℕ → ℕ → Verdict
@@ -138,11 +138,11 @@ pub record Precedence : Type 0 where
       ≡ Sent 1 ∷ RefusedBy 9 ∷ RefusedBy 11 ∷ Sent 1 ∷ Sent 0 ∷ Sent 1 ∷ RefusedBy 9 ∷ RefusedBy 10 ∷ RefusedBy 12
       ∷ Sent 1 ∷ Sent 0 ∷ RefusedBy 8 ∷ RefusedBy 8 ∷ RefusedBy 8 ∷ []
   -- 13 with six records left and not with seven, and after 12
-  pub full : verdictsOf (withRecords 170 (map bytesOf (fa 0 0 1 ∷ am 0 0 1 ∷ []))) ≡ RefusedBy 13 ∷ RefusedBy 12 ∷ []
-  pub room : verdictsOf (withRecords 169 (bytesOf (fa 0 0 1) ∷ [])) ≡ Sent 1 ∷ []
+  pub full : verdictsOf (ranWithRecords 170 (map bytesOf (fa 0 0 1 ∷ am 0 0 1 ∷ []))) ≡ RefusedBy 13 ∷ RefusedBy 12 ∷ []
+  pub room : verdictsOf (ranWithRecords 169 (bytesOf (fa 0 0 1) ∷ [])) ≡ Sent 1 ∷ []
   -- 1 before 2, and 2 before 3, for each of the stores
   pub strange : shortStores emptyState 0 0 0 ≡ RefusedBy 1
-  pub table : shortStores (opened bookX .state) (tableLength - 1) journalLength outLength ≡ RefusedBy 2
-  pub journal : shortStores (opened bookX .state) tableLength (journalLength - 1) outLength ≡ RefusedBy 2
-  pub out : shortStores (opened bookX .state) tableLength journalLength (outLength - 1) ≡ RefusedBy 2
-  pub torn : shortStores (opened bookX .state) tableLength journalLength outLength ≡ RefusedBy 3
+  pub table : shortStores (openedBlank bookX .state) (tableLength - 1) journalLength outLength ≡ RefusedBy 2
+  pub journal : shortStores (openedBlank bookX .state) tableLength (journalLength - 1) outLength ≡ RefusedBy 2
+  pub out : shortStores (openedBlank bookX .state) tableLength journalLength (outLength - 1) ≡ RefusedBy 2
+  pub torn : shortStores (openedBlank bookX .state) tableLength journalLength outLength ≡ RefusedBy 3

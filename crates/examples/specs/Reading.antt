@@ -13,7 +13,7 @@ use Rattle.common.specs.Update.{update}
 use Rattle.line.specs.Route.{nextPost, between, postAfter}
 use Rattle.line.specs.Line.{wellFormed}
 use Rattle.line.specs.declared.line.Reading.{Reading}
-use Rattle.line.specs.Book.{lineOf, readBook, outcomeNumber}
+use Rattle.line.specs.Book.{lineIn, readBook, outcomeNumber}
 use Rattle.frame.specs.Frame.{moveOf, messageOf, readFrame, bytesOf}
 use Rattle.journal.specs.Journal.{journalLength, blank, recordOf}
 use Rattle.completion.specs.Configuration.{codeBelow, within, fits, arrived, feasible}
@@ -24,7 +24,7 @@ use Rattle.rules.specs.Answer.{outLength, accepted, framesOf, answer}
 use Rattle.rules.specs.Opening.{Opening, openingWith, opening}
 use Rattle.assurance.specs.Types.{Message, Fa, Fe, Afe, Am, Record, State, Verdict}
 use Rattle.assurance.specs.Run.{Input, Ran, run}
-use Rattle.assurance.specs.Observer.{Seen, readFrames, answersOf, atOpening, hearAnswers, observe}
+use Rattle.assurance.specs.Observer.{Seen, readFrames, answersOf, atOpening, noteAnswers, observe}
 
 -- ---- messages, by train, from and to
 
@@ -52,14 +52,14 @@ unfolding readAlone
 numbersOf books = map (λ b. outcomeNumber (readAlone b .outcome)) books
 
 -- the opening of a book with blank stores
-unfoldable pub opened : List ℕ → Opening
+unfoldable pub openedBlank : List ℕ → Opening
 unfolding openingWith refusal unlessRefused valuesFrom padded countBelow allBelow anyBelow setBelow postAfter
     codeBelow within fits arrived feasible movesOn completableBy completableIn tableOf
-opened book = opening book (replicate tableLength 0) (replicate journalLength blank)
+openedBlank book = opening book (replicate tableLength 0) (replicate journalLength blank)
 
 -- the number by which a book is refused; 0 where it opens
 abbrev pub refusalOf : List ℕ → ℕ
-refusalOf book = opened book .number
+refusalOf book = openedBlank book .number
 
 -- ---- runs
 
@@ -79,22 +79,22 @@ ranFrom s table frames = ranWith s table (replicate journalLength blank) (map in
 
 -- frames put to the box that a book opened, with the table that the opening filled
 abbrev pub ran : List ℕ → List (List ℕ) → Ran
-ran book frames = ranFrom (opened book .state) (opened book .table) frames
+ran book frames = ranFrom (openedBlank book .state) (openedBlank book .table) frames
 
 -- the verdict on each frame
 abbrev pub verdictsOf : Ran → List Verdict
 verdictsOf r = map (λ e. e .verdict) (r .exchanges)
 
 -- the answers to each frame, read from its out buffer
-unfoldable pub answersIn : Ran → List (List Message)
+unfoldable pub repliesIn : Ran → List (List Message)
 unfolding readFrames readFrame refusal unlessRefused messageOf
-answersIn r = map (λ e. answersOf (e .verdict) (e .out)) (r .exchanges)
+repliesIn r = map (λ e. answersOf (e .verdict) (e .out)) (r .exchanges)
 
 -- the records in the journal
-abbrev pub recordsIn : Ran → List Record
-recordsIn r = take (r .state .logged) (r .journal)
+abbrev pub loggedRecords : Ran → List Record
+loggedRecords r = take (r .state .logged) (r .journal)
 
 -- what the observer has of train t
 unfoldable pub seenIn : List ℕ → Ran → ℕ → Seen
-unfolding padded valuesFrom observe hearAnswers update readFrames readFrame refusal unlessRefused messageOf
-seenIn book r t = observe (atOpening (lineOf book)) (r .exchanges) t
+unfolding padded valuesFrom observe noteAnswers update readFrames readFrame refusal unlessRefused messageOf
+seenIn book r t = observe (atOpening (lineIn book)) (r .exchanges) t

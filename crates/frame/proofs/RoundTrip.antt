@@ -16,7 +16,7 @@ use Rattle.common.proofs.Check.{passed-by, accepts, accepted-if}
 use Rattle.line.specs.Refusal.{tornFrame, otherEdition}
 use Rattle.frame.specs.Types.{Move, Message, Fa, Fe, Afe, Am, Refused}
 use Rattle.frame.specs.Frame.{readChecks, messageOf, readFrame, frameBytes, bytesOf}
-use Rattle.frame.specs.RoundTrip.{IsMessage, RoundTrip}
+use Rattle.frame.specs.RoundTrip.{IsMessage, FramesReadBack}
 use Rattle.frame.proofs.Cases.{namedMove}
 
 back : (m : Message) → IsMessage m → readFrame (bytesOf m) ≡ m
@@ -70,5 +70,5 @@ only s h =
     ap bytesOf (accepts m Refused (a .0)) ∙ message-bytes (getD s 3 0) (namedMove s) (a .1)
     ∙ cc (spell s 7 0 (sym size))
 
-pub round-trip : RoundTrip
+pub round-trip : FramesReadBack
 round-trip = record { back = back; only = only }

@@ -14,7 +14,7 @@ IsMessage (Afe m) = Unit {0}
 IsMessage (Am m) = Unit {0}
 IsMessage (Refused n) = ⊥
 
-pub record RoundTrip : Type 0 where
+pub record FramesReadBack : Type 0 where
   -- what was written reads back as the message
   pub back : (m : Message) → IsMessage m → readFrame (bytesOf m) ≡ m
   -- whatever reads as a message is exactly the seven bytes written for it

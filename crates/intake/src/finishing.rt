@@ -1,6 +1,6 @@
 // The end of the input.
 ghost use mathlib.Core.Path.{_≡_};
-ghost use Rattle.console.specs.Console.{deskOf, afterEnd, ended, lastFrame, finished};
+ghost use Rattle.console.specs.Console.{deskOf, afterEnd, endedConsole, lastFrame, finished};
 use crate::book::with_book;
 use crate::frame::with_frame;
 use console::Console;
@@ -32,7 +32,7 @@ fn last_frame(console: Console, table: &[u8]) -> Console
 
 // The console of a refused book stays one.
 fn ended(console: Console) -> Console
-    ensures { λ r. ⌜ r ≡ ended console ⌝ }
+    ensures { λ r. ⌜ r ≡ endedConsole console ⌝ }
 {
     let phase = console.phase;
     let piece = console.piece;

@@ -2,7 +2,7 @@
 ghost use mathlib.Core.Path.{_≡_};
 ghost use Prim.Native.Nat.{_≤_};
 ghost use Rattle.printout.specs.Text.{textLength, textOf};
-ghost use Rattle.console.specs.Console.{fresh, awaits};
+ghost use Rattle.console.specs.Console.{freshConsole, awaits};
 ghost use Rattle.console.specs.Transcript.{runPrinted, printed};
 use crate::piece::nothing;
 use crate::run::begun;
@@ -13,7 +13,7 @@ use printout::Text;
 
 // The console before any byte.
 pub fn fresh() -> Console
-    ensures { λ r. ⌜ r ≡ fresh ⌝ }
+    ensures { λ r. ⌜ r ≡ freshConsole ⌝ }
 {
     let piece = nothing();
     let run = begun(opening::empty_state(), journal::blank_log());

@@ -3,7 +3,7 @@ ghost use mathlib.Core.Path.{_≡_};
 ghost use Prim.Native.Nat.{_≤_};
 ghost use lib.ListN.{take};
 ghost use Rattle.line.specs.Claims.{longest};
-ghost use Rattle.console.specs.Run.{begun, countAfter, afterFrame};
+ghost use Rattle.console.specs.Run.{freshRun, countAfter, afterFrame};
 use console::Run;
 use dispatcher::OUT_LENGTH;
 use journal::Log;
@@ -13,7 +13,7 @@ use rules::Verdict;
 
 // The run before its first frame.
 pub fn begun(state: State, log: Log) -> Run
-    ensures { λ r. ⌜ r ≡ begun state log ⌝ }
+    ensures { λ r. ⌜ r ≡ freshRun state log ⌝ }
 {
     Run {
         state,

@@ -1,6 +1,6 @@
 // Taking the bytes that come.
 ghost use mathlib.Core.Path.{_≡_};
-ghost use Rattle.console.specs.Console.{deskOf, withNext, bookByte, frameByte, takenByte, taken};
+ghost use Rattle.console.specs.Console.{deskOf, withNext, bookByte, frameByte, takenByte, takenBytes};
 use crate::book::with_book;
 use crate::frame::with_frame;
 use crate::piece::is_book;
@@ -14,7 +14,7 @@ const FRAME_LENGTH: usize = 7;
 // The console once some bytes were taken, one after the other.
 pub fn take(console: Console, table: &mut [u8], bytes: &[u8]) -> Console
     ensures { λ r. ⌜ deskOf r (now (table .exit))
-        ≡ taken (deskOf console (now (table .entry))) (now (bytes .entry)) ⌝ }
+        ≡ takenBytes (deskOf console (now (table .entry))) (now (bytes .entry)) ⌝ }
 {
     let mut after = console;
     let mut i: usize = 0;

@@ -19,21 +19,23 @@ use Rattle.common.proofs.Tabulate.{padded-is}
 use Rattle.line.specs.Refusal as number
 use Rattle.line.specs.Sorts.{Line, Reading}
 use Rattle.line.specs.Line.{noRoute, routeOf, tracksAt, wellFormed}
-use Rattle.line.specs.Book.{versionAt, countAt, trainsAt, startAt, endAt, total, byteAt, named, postsOf, trainsIn}
-use Rattle.line.specs.Book.{trainsOf, routeIn, lineOf, bookChecks, accepted, refusedBy, readBook, outcomeNumber}
-use Rattle.line.specs.Book.{routeBytes, bodyOf, bytesOf}
+use Rattle.line.specs.Book.{versionAt, countAt, trainsAt, startAt, endAt, total, byteAt, namedLength, postsOf}
+use Rattle.line.specs.Book.{trainsIn}
+use Rattle.line.specs.Book.{trainsOf, routeIn, lineIn, bookChecks, acceptedBook, refusedBy, readBook}
+use Rattle.line.specs.Book.{outcomeNumber}
+use Rattle.line.specs.Book.{routeBytes, bodyOf, bookBytes}
 use Rattle.line.specs.Claims.{Padded, ReadAs, LineBook}
 use Rattle.line.proofs.WellFormed.{WellFormed, line-is, well-formed, well-formed-parts, formed-parts}
 use Rattle.line.proofs.Bytes.{places, routes-end, length-routes, start-byte, end-byte}
 
 -- ---- what an answer says of the refusal
 
-number-of : (n : ℕ) (l : Line) → outcomeNumber (unlessRefused n (accepted l) refusedBy .outcome) ≡ n
+number-of : (n : ℕ) (l : Line) → outcomeNumber (unlessRefused n (acceptedBook l) refusedBy .outcome) ≡ n
 unfolding unlessRefused
 number-of zero l = refl
 number-of (suc n) l = refl
 
-accepted-of : (n : ℕ) (m l : Line) → unlessRefused n (accepted m) refusedBy ≡ accepted l → (n ≡ 0) × (l ≡ m)
+accepted-of : (n : ℕ) (m l : Line) → unlessRefused n (acceptedBook m) refusedBy ≡ acceptedBook l → (n ≡ 0) × (l ≡ m)
 unfolding unlessRefused
 accepted-of zero m l e = (refl, sym (ap (λ (r : Reading). r .line) e))
 accepted-of (suc n) m l e =
@@ -42,11 +44,11 @@ accepted-of (suc n) m l e =
 
 pub read-number : (b : List ℕ) → outcomeNumber (readBook b .outcome) ≡ refusal (bookChecks b)
 unfolding readBook
-read-number b = number-of (refusal (bookChecks b)) (lineOf b)
+read-number b = number-of (refusal (bookChecks b)) (lineIn b)
 
-pub read-line : (b : List ℕ) (l : Line) → readBook b ≡ accepted l → (refusal (bookChecks b) ≡ 0) × (l ≡ lineOf b)
+pub read-line : (b : List ℕ) (l : Line) → readBook b ≡ acceptedBook l → (refusal (bookChecks b) ≡ 0) × (l ≡ lineIn b)
 unfolding readBook
-read-line b l e = accepted-of (refusal (bookChecks b)) (lineOf b) l e
+read-line b l e = accepted-of (refusal (bookChecks b)) (lineIn b) l e
 
 not-met : (n : ℕ) (b : List ℕ) → ltb 0 n ≡ true → clear n (bookChecks b) ≡ true
     → outcomeNumber (readBook b .outcome) ≢ n
@@ -54,15 +56,15 @@ not-met n b h k = rw read-number (not-given n (bookChecks b) (ltb-true 0 n h) k)
 
 -- ---- a book whose parts are right is read
 
-module _ (b : List ℕ) (right : named b ≡ length b) (edition : byteAt b versionAt ≡ 1)
-    (formed : wellFormed (lineOf b) ≡ true) (whole : length b ≡ total (trainsIn b) (trainsOf b)) where
+module _ (b : List ℕ) (right : namedLength b ≡ length b) (edition : byteAt b versionAt ≡ 1)
+    (formed : wellFormed (lineIn b) ≡ true) (whole : length b ≡ total (trainsIn b) (trainsOf b)) where
   all-pass : refusal (bookChecks b) ≡ 0
   all-pass =
-      let parts = formed-parts (lineOf b) formed in
-      let some = well-formed (lineOf b) formed .some-posts in
+      let parts = formed-parts (lineIn b) formed in
+      let some = well-formed (lineIn b) formed .some-posts in
       let four : 4 ≤ length b = omega arith in
       let room : trainsIn b < length b = omega arith in
-      let lengths = and-both _ _ (le-leb 4 (length b) four) (eq-eqb (named b) (length b) right) in
+      let lengths = and-both _ _ (le-leb 4 (length b) four) (eq-eqb (namedLength b) (length b) right) in
       refusal-is (pass lengths
       (pass (eq-eqb (byteAt b versionAt) 1 edition)
       (pass (parts .0)
@@ -78,18 +80,18 @@ module _ (b : List ℕ) (unrefused : refusal (bookChecks b) ≡ 0) where
   passed : (n : ℕ) → Pass (testsOf n (bookChecks b))
   passed = passed-by (bookChecks b) refl unrefused
 
-  pub formed : wellFormed (lineOf b) ≡ true
-  formed = well-formed-parts (lineOf b)
+  pub formed : wellFormed (lineIn b) ≡ true
+  formed = well-formed-parts (lineIn b)
       (passed number.posts) (passed number.tracks) (passed number.trains) (passed number.offTheLine)
 
-  facts : WellFormed (lineOf b)
-  facts = well-formed (lineOf b) formed
+  facts : WellFormed (lineIn b)
+  facts = well-formed (lineIn b) formed
 
   four : 4 ≤ length b
   four = leb-true 4 (length b) (and-left (leb 4 (length b)) _ (passed number.tornBook .0))
 
-  right : named b ≡ length b
-  right = eqb-true (named b) (length b) (and-right (leb 4 (length b)) _ (passed number.tornBook .0))
+  right : namedLength b ≡ length b
+  right = eqb-true (namedLength b) (length b) (and-right (leb 4 (length b)) _ (passed number.tornBook .0))
 
   edition : byteAt b versionAt ≡ 1
   edition = eqb-true (byteAt b versionAt) 1 (passed number.otherEdition)
@@ -98,7 +100,7 @@ module _ (b : List ℕ) (unrefused : refusal (bookChecks b) ≡ 0) where
   whole = eqb-true (length b) (total (trainsIn b) (trainsOf b)) (passed number.tornBook .1 .1)
 
   -- the places after the posts and the trains
-  rest-0 : Padded (lineOf b)
+  rest-0 : Padded (lineIn b)
   rest-0 = record {
     eight = length-padded 8 (postsOf b) _ 0;
     six = length-padded 6 (trainsOf b) _ noRoute;
@@ -106,15 +108,15 @@ module _ (b : List ℕ) (unrefused : refusal (bookChecks b) ≡ 0) where
     no-routes = past-padded 6 (trainsOf b) _ noRoute;
   }
 
-  counts-same : tabulate (postsOf b) (tracksAt (lineOf b)) ≡ tabulate (postsOf b) (λ p. byteAt b (countAt p))
+  counts-same : tabulate (postsOf b) (tracksAt (lineIn b)) ≡ tabulate (postsOf b) (λ p. byteAt b (countAt p))
   counts-same = tabulate-cong (postsOf b) _ _ (λ p h. at-padded 8 (postsOf b) _ 0 p (omega (arith, facts .few-posts)) h)
 
-  routes-same : tabulate (trainsOf b) (routeOf (lineOf b)) ≡ tabulate (trainsOf b) (routeIn b (trainsIn b))
+  routes-same : tabulate (trainsOf b) (routeOf (lineIn b)) ≡ tabulate (trainsOf b) (routeIn b (trainsIn b))
   routes-same =
       tabulate-cong (trainsOf b) _ _ (λ t h. at-padded 6 (trainsOf b) _ noRoute t (omega (arith, facts .few-trains)) h)
 
   -- the number of trains and their routes are the end of the book
-  trains-end : trainsOf b ∷ routeBytes (tabulate (trainsOf b) (routeOf (lineOf b))) ≡ drop (trainsIn b) b
+  trains-end : trainsOf b ∷ routeBytes (tabulate (trainsOf b) (routeOf (lineIn b))) ≡ drop (trainsIn b) b
   trains-end =
       let l : trainsIn b < length b = omega (arith, whole) in
       let next : startAt (trainsIn b) 0 ≡ suc (trainsIn b) = omega arith in
@@ -122,11 +124,11 @@ module _ (b : List ℕ) (unrefused : refusal (bookChecks b) ≡ 0) where
       rw (routes-same, ends, next) (sym (drop-cons b (trainsIn b) 0 l))
 
   -- with the track counts before them
-  counts-end : tabulate (postsOf b) (tracksAt (lineOf b)) ++ drop (trainsIn b) b ≡ drop 4 b
+  counts-end : tabulate (postsOf b) (tracksAt (lineIn b)) ++ drop (trainsIn b) b ≡ drop 4 b
   counts-end = rw counts-same (places b 4 0 (postsOf b) (omega (arith, whole)))
 
   -- with the version and the number of posts before them
-  body-end : bodyOf (lineOf b) ≡ drop 2 b
+  body-end : bodyOf (lineIn b) ≡ drop 2 b
   unfolding bodyOf
   body-end =
       let long = four in
@@ -135,8 +137,8 @@ module _ (b : List ℕ) (unrefused : refusal (bookChecks b) ≡ 0) where
       cc (edition, trains-end, counts-end)
 
   -- with the length before them
-  spelled : bytesOf (lineOf b) ≡ b
-  unfolding bytesOf
+  spelled : bookBytes (lineIn b) ≡ b
+  unfolding bookBytes
   spelled =
       let n = length (drop 2 b) in
       let size = length-drop 2 b in
@@ -150,68 +152,68 @@ module _ (b : List ℕ) (unrefused : refusal (bookChecks b) ≡ 0) where
 -- ---- the bytes of a line
 
 module _ (l : Line) where
-  count-byte : (p : ℕ) → p < l .posts → byteAt (bytesOf l) (countAt p) ≡ tracksAt l p
-  unfolding bytesOf bodyOf
+  count-byte : (p : ℕ) → p < l .posts → byteAt (bookBytes l) (countAt p) ≡ tracksAt l p
+  unfolding bookBytes bodyOf
   count-byte p h =
-      sym (getD-drop 4 (bytesOf l) p 0)
+      sym (getD-drop 4 (bookBytes l) p 0)
       ∙ List·getD-append (tabulate (l .posts) (tracksAt l)) _ 0 p (rw length-tabulate h)
       ∙ at-tabulate (l .posts) (tracksAt l) p 0 h
 
-  trains-byte : byteAt (bytesOf l) (trainsAt (l .posts)) ≡ l .trains
-  unfolding bytesOf bodyOf
+  trains-byte : byteAt (bookBytes l) (trainsAt (l .posts)) ≡ l .trains
+  unfolding bookBytes bodyOf
   trains-byte =
       let counts = tabulate (l .posts) (tracksAt l) in
-      sym (getD-drop 4 (bytesOf l) (l .posts) 0)
+      sym (getD-drop 4 (bookBytes l) (l .posts) 0)
       ∙ getD-at counts (l .trains) _ 0 (l .posts) (length-tabulate (l .posts) (tracksAt l))
 
   -- a place in the run of routes
   route-byte : (k : ℕ)
-      → byteAt (bytesOf l) (trainsAt (l .posts) + 1 + k) ≡ byteAt (routeBytes (tabulate (l .trains) (routeOf l))) k
-  unfolding bytesOf bodyOf
+      → byteAt (bookBytes l) (trainsAt (l .posts) + 1 + k) ≡ byteAt (routeBytes (tabulate (l .trains) (routeOf l))) k
+  unfolding bookBytes bodyOf
   route-byte k =
       let counts = tabulate (l .posts) (tracksAt l) in
       let rest = l .trains ∷ routeBytes (tabulate (l .trains) (routeOf l)) in
       let e : trainsAt (l .posts) + 1 + k ≡ 4 + (length counts + suc k) = rw length-tabulate (omega arith) in
-      rw e (sym (getD-drop 4 (bytesOf l) (length counts + suc k) 0) ∙ getD-append-add counts rest (suc k) 0)
+      rw e (sym (getD-drop 4 (bookBytes l) (length counts + suc k) 0) ∙ getD-append-add counts rest (suc k) 0)
 
-  route-is : (t : ℕ) → t < l .trains → routeIn (bytesOf l) (trainsAt (l .posts)) t ≡ routeOf l t
+  route-is : (t : ℕ) → t < l .trains → routeIn (bookBytes l) (trainsAt (l .posts)) t ≡ routeOf l t
   route-is t h =
       let rs = tabulate (l .trains) (routeOf l) in
       let e : endAt (trainsAt (l .posts)) t ≡ trainsAt (l .posts) + 1 + suc (2 * t) = omega arith in
       let a : getD rs t noRoute ≡ routeOf l t = at-tabulate (l .trains) (routeOf l) t noRoute h in
       rw (e, route-byte (2 * t), route-byte (suc (2 * t)), start-byte rs t, end-byte rs t, a)
 
-  length-bytes : length (bytesOf l) ≡ total (trainsAt (l .posts)) (l .trains)
-  unfolding bytesOf bodyOf
+  length-bytes : length (bookBytes l) ≡ total (trainsAt (l .posts)) (l .trains)
+  unfolding bookBytes bodyOf
   length-bytes = simp (length-append, length-tabulate, length-routes) (omega arith)
 
-  length-field : named (bytesOf l) ≡ length (bytesOf l)
-  unfolding bytesOf
+  length-field : namedLength (bookBytes l) ≡ length (bookBytes l)
+  unfolding bookBytes
   length-field = omega arith
 
-  version-byte : byteAt (bytesOf l) versionAt ≡ 1
-  unfolding bytesOf bodyOf
+  version-byte : byteAt (bookBytes l) versionAt ≡ 1
+  unfolding bookBytes bodyOf
   version-byte = refl
 
   module _ (well : wellFormed l ≡ true) (pad : Padded l) where
-    line-back : lineOf (bytesOf l) ≡ l
-    unfolding bytesOf bodyOf
-    line-back = sym (line-is l (lineOf (bytesOf l)) refl
+    line-back : lineIn (bookBytes l) ≡ l
+    unfolding bookBytes bodyOf
+    line-back = sym (line-is l (lineIn (bookBytes l)) refl
         (padded-is 8 (l .posts) _ 0 (l .tracks) (pad .eight) (λ p k h. sym (count-byte p h)) (pad .no-tracks))
         (sym trains-byte)
         (rw trains-byte
         (padded-is 6 (l .trains) _ noRoute (l .routes) (pad .six) (λ t k h. sym (route-is t h)) (pad .no-routes))))
 
-    read-back : readBook (bytesOf l) ≡ accepted l
+    read-back : readBook (bookBytes l) ≡ acceptedBook l
     unfolding readBook
     read-back =
         let whole = length-bytes ∙ ap (λ (m : Line). total (trainsAt (m .posts)) (m .trains)) (sym line-back) in
-        let unrefused = all-pass (bytesOf l) length-field version-byte (rw line-back well) whole in
-        accepts (accepted (lineOf (bytesOf l))) refusedBy unrefused ∙ ap accepted line-back
+        let unrefused = all-pass (bookBytes l) length-field version-byte (rw line-back well) whole in
+        accepts (acceptedBook (lineIn (bookBytes l))) refusedBy unrefused ∙ ap acceptedBook line-back
 
 -- ---- the claims
 
-read-as : (b : List ℕ) (l : Line) → readBook b ≡ accepted l → ReadAs b l
+read-as : (b : List ℕ) (l : Line) → readBook b ≡ acceptedBook l → ReadAs b l
 read-as b l e =
     let r = read-line b l e in
     let f = facts b (r .0) in

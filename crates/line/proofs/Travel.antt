@@ -9,7 +9,7 @@ use lib.Dec.{leb}
 use borrow.Author.Tests.{leb-true, leb-false, lt-ltb, le-ltb, le-leb}
 use Rattle.common.proofs.Tests.{by-cases, and-left, and-right, and-both, or-left, or-right, or-either}
 use Rattle.line.specs.Sorts.{Route}
-use Rattle.line.specs.Route.{nextPost, distance, between, routeLength, postAfter}
+use Rattle.line.specs.Route.{nextPost, distance, between, routeDistance, postAfter}
 
 -- ---- the next post
 
@@ -118,14 +118,14 @@ module _ (r : Route) where
   unfolding postAfter
   post-start = by-cases (leb (r .start .0) (r .end .0)) (λ h. rw h (omega arith)) (λ h. rw h (omega arith))
 
-  pub post-end : postAfter r (routeLength r) ≡ r .end .0
+  pub post-end : postAfter r (routeDistance r) ≡ r .end .0
   unfolding postAfter
   post-end = by-cases (leb (r .start .0) (r .end .0))
       (λ up. let z = leb-true (r .start .0) (r .end .0) up in rw up (omega arith))
       (λ down. let z = leb-false (r .start .0) (r .end .0) down in rw down (omega arith))
 
   -- a post reached within the route lies on it
-  pub post-between : (k : ℕ) → k ≤ routeLength r → Between (r .start .0) (postAfter r k) (r .end .0)
+  pub post-between : (k : ℕ) → k ≤ routeDistance r → Between (r .start .0) (postAfter r k) (r .end .0)
   unfolding postAfter
   post-between k h = by-cases (leb (r .start .0) (r .end .0))
       (λ up. let z = leb-true (r .start .0) (r .end .0) up in rw up (inl (omega arith)))

@@ -11,7 +11,7 @@ use Rattle.common.proofs.Below.{all-below, below-all}
 use Rattle.line.specs.Sorts.{Route, Line}
 use Rattle.line.specs.Line.{routeOf, tracksAt, inRange, wellFormed, postsInRange, tracksInRange, trainsInRange}
 use Rattle.line.specs.Line.{routesOnLine}
-use Rattle.line.specs.Route.{routeLength}
+use Rattle.line.specs.Route.{routeDistance}
 
 -- a line is what its parts are
 line : ℕ → List ℕ → ℕ → List Route → Line
@@ -95,5 +95,5 @@ module _ (l : Line) where
       (below-all (l .trains) _ (λ t k. and-both _ _ (lt-ltb _ _ (w .starts t k)) (lt-ltb _ _ (w .ends t k))))
 
   -- no route is longer than seven posts
-  pub short-route : WellFormed l → (t : ℕ) → t < l .trains → routeLength (routeOf l t) ≤ 7
+  pub short-route : WellFormed l → (t : ℕ) → t < l .trains → routeDistance (routeOf l t) ≤ 7
   short-route w t k = omega (arith, w .starts t k, w .ends t k, w .few-posts)

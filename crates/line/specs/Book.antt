@@ -46,8 +46,8 @@ abbrev pub byteAt : List ℕ → ℕ → ℕ
 byteAt b i = getD b i 0
 
 -- how many bytes the book has by its length field
-abbrev pub named : List ℕ → ℕ
-named b = word (byteAt b 0) (byteAt b 1) + 2
+abbrev pub namedLength : List ℕ → ℕ
+namedLength b = word (byteAt b 0) (byteAt b 1) + 2
 
 abbrev pub postsOf : List ℕ → ℕ
 postsOf b = byteAt b postsAt
@@ -67,8 +67,8 @@ abbrev pub routeIn : List ℕ → ℕ → ℕ → Route
 routeIn b a t = route (byteAt b (startAt a t)) (byteAt b (endAt a t))
 
 -- the line; its places for posts from P on and trains from T on are 0
-abbrev pub lineOf : List ℕ → Line
-lineOf b = record {
+abbrev pub lineIn : List ℕ → Line
+lineIn b = record {
   posts = postsOf b;
   tracks = padded 8 (postsOf b) (λ p. byteAt b (countAt p)) 0;
   trains = trainsOf b;
@@ -80,9 +80,9 @@ lineOf b = record {
 -- "Checks in order: .. 14 if under 4 bytes or the length is wrong; 4; 15; 14 if under 5 + P bytes;"
 abbrev pub postsChecks : List ℕ → List Check
 postsChecks b =
-    check number.tornBook (leb 4 (length b) && eqb (named b) (length b))
+    check number.tornBook (leb 4 (length b) && eqb (namedLength b) (length b))
     ∷ check number.otherEdition (eqb (byteAt b versionAt) 1)
-    ∷ check number.posts (postsInRange (lineOf b))
+    ∷ check number.posts (postsInRange (lineIn b))
     ∷ check number.tornBook (ltb (trainsIn b) (length b))
     ∷ []
 
@@ -93,7 +93,7 @@ tracksChecks l = check number.tracks (tracksInRange l) ∷ []
 -- "17; 14 if the total differs;"
 abbrev pub trainsChecks : List ℕ → List Check
 trainsChecks b =
-    check number.trains (trainsInRange (lineOf b))
+    check number.trains (trainsInRange (lineIn b))
     ∷ check number.tornBook (eqb (length b) (total (trainsIn b) (trainsOf b)))
     ∷ []
 
@@ -103,21 +103,21 @@ routesChecks l = check number.offTheLine (routesOnLine l) ∷ []
 
 -- all of these, in this order. What needs a table or a placing is the opening's: 2 before them, 19 and 20 after them.
 abbrev pub bookChecks : List ℕ → List Check
-bookChecks b = postsChecks b ++ tracksChecks (lineOf b) ++ trainsChecks b ++ routesChecks (lineOf b)
+bookChecks b = postsChecks b ++ tracksChecks (lineIn b) ++ trainsChecks b ++ routesChecks (lineIn b)
 
 -- ---- reading a book
 
 abbrev pub emptyLine : Line
 emptyLine = record { posts = 0; tracks = replicate 8 0; trains = 0; routes = replicate 6 noRoute }
 
-abbrev pub accepted : Line → Reading
-accepted l = record { outcome = Read; line = l }
+abbrev pub acceptedBook : Line → Reading
+acceptedBook l = record { outcome = Read; line = l }
 
 abbrev pub refusedBy : ℕ → Reading
 refusedBy n = record { outcome = Refused n; line = emptyLine }
 
 unfoldable pub readBook : List ℕ → Reading
-readBook b = unlessRefused (refusal (bookChecks b)) (accepted (lineOf b)) refusedBy
+readBook b = unlessRefused (refusal (bookChecks b)) (acceptedBook (lineIn b)) refusedBy
 
 -- the paper's number for an outcome; 0 where a book is read
 abbrev pub outcomeNumber : Outcome → ℕ
@@ -136,5 +136,5 @@ unfoldable pub bodyOf : Line → List ℕ
 bodyOf l =
     1 ∷ l .posts ∷ tabulate (l .posts) (tracksAt l) ++ (l .trains ∷ routeBytes (tabulate (l .trains) (routeOf l)))
 
-unfoldable pub bytesOf : Line → List ℕ
-bytesOf l = let n = length (bodyOf l) in n / 256 ∷ n % 256 ∷ bodyOf l
+unfoldable pub bookBytes : Line → List ℕ
+bookBytes l = let n = length (bodyOf l) in n / 256 ∷ n % 256 ∷ bodyOf l

@@ -8,7 +8,7 @@ use lib.ListN.{length}
 use Rattle.line.specs.Refusal as number
 use Rattle.line.specs.Sorts.{Line}
 use Rattle.line.specs.Line.{noRoute, routeOf, tracksAt, wellFormed}
-use Rattle.line.specs.Book.{trainsAt, total, accepted, readBook, outcomeNumber, bytesOf}
+use Rattle.line.specs.Book.{trainsAt, total, acceptedBook, readBook, outcomeNumber, bookBytes}
 
 -- a line whose places for posts from P on and trains from T on are 0
 pub record Padded (l : Line) : Type 0 where
@@ -26,13 +26,13 @@ pub record ReadAs (b : List ℕ) (l : Line) : Type 0 where
   pub formed : wellFormed l ≡ true
   pub padded : Padded l
   -- only the bytes of a line are read as it
-  pub bytes : bytesOf l ≡ b
+  pub bytes : bookBytes l ≡ b
   pub short : length b ≤ longest
 
 pub record LineBook : Type 0 where
-  pub only : (b : List ℕ) (l : Line) → readBook b ≡ accepted l → ReadAs b l
+  pub only : (b : List ℕ) (l : Line) → readBook b ≡ acceptedBook l → ReadAs b l
   -- the bytes of a line read back as that line
-  pub back : (l : Line) → wellFormed l ≡ true → Padded l → readBook (bytesOf l) ≡ accepted l
+  pub back : (l : Line) → wellFormed l ≡ true → Padded l → readBook (bookBytes l) ≡ acceptedBook l
   -- "Read alone, without table or placing, a book cannot meet 2, 19 or 20."
   pub not-2 : (b : List ℕ) → outcomeNumber (readBook b .outcome) ≢ number.shortStore
   pub not-19 : (b : List ℕ) → outcomeNumber (readBook b .outcome) ≢ number.overfull

@@ -15,7 +15,7 @@ use Rattle.encoding.specs.JournalBytes.{recordCount, recordsIn, withRecords}
 use Rattle.encoding.proofs.Journals.{record-count}
 use Rattle.calls.specs.Types.{State, Verdict, RefusedBy}
 use Rattle.calls.specs.Word.{wordOf}
-use Rattle.calls.specs.BoxCalls.{answerCallOf, answerAfter, answerCall}
+use Rattle.calls.specs.BoxCalls.{answerCallOf, answerLeft, answerCall}
 use Rattle.calls.specs.HandedOn.{ruled}
 use Rattle.calls.proofs.HandedOn.{answer-line, handed-on}
 
@@ -32,7 +32,7 @@ module _ (state table journal frame out : List ℕ) where
   unfolding answerCall
   answered h s e o sent p log q after r w t =
       let same = rw e at (p .answers (recordsIn journal) (record-count journal)) in
-      rw (t, r, q, h) (ap (answerAfter journal) same)
+      rw (t, r, q, h) (ap (answerLeft journal) same)
 
   -- the line is that of the state before, so that its bytes are there
   pub same-line : (s : State) → s ≡ stateIn state

@@ -16,7 +16,7 @@ use Rattle.common.proofs.Check.{none, stop, pass, refusal-is, first-part, secon
 use Rattle.common.proofs.Check.{refuses}
 use Rattle.common.proofs.Tabulate.{padded-none, past-padded}
 use Rattle.line.specs.Refusal.{shortStore, posts, tracks, trains, offTheLine, overfull, noWayThrough}
-use Rattle.line.specs.Book.{lineOf as lineIn, bookChecks, accepted, refusedBy, readBook, outcomeNumber}
+use Rattle.line.specs.Book.{lineIn, bookChecks, acceptedBook, refusedBy, readBook, outcomeNumber}
 use Rattle.line.specs.declared.line.Outcome.{Outcome}
 use Rattle.line.specs.declared.line.Outcome.the-variants.{Read, Refused}
 use Rattle.line.specs.declared.line.Reading.{Reading}
@@ -46,14 +46,14 @@ opened-fleet l = refl
 
 -- ---- the reading of the book
 
-pub read-as : (b : List ℕ) (r : Reading) → r ≡ readBook b → r .outcome ≡ Read → readBook b ≡ accepted (r .line)
+pub read-as : (b : List ℕ) (r : Reading) → r ≡ readBook b → r .outcome ≡ Read → readBook b ≡ acceptedBook (r .line)
 read-as b r e whole = sym e ∙ ap (λ (o : Outcome). record { outcome = o; line = r .line }) whole
 
 refused-some : (b : List ℕ) (k : ℕ) → readBook b .outcome ≡ Refused k → 0 < refusal (bookChecks b)
 unfolding readBook
 refused-some b k stopped = by-equality (refusal (bookChecks b)) 0
     (λ e.
-    let whole : readBook b ≡ accepted (lineIn b) = accepts (accepted (lineIn b)) refusedBy e in
+    let whole : readBook b ≡ acceptedBook (lineIn b) = accepts (acceptedBook (lineIn b)) refusedBy e in
     let z : _≡_ {A = ℕ} 0 1 = cc in
     absurd (let y : ⊥ = omega arith in y))
     (λ h. omega arith)
@@ -118,7 +118,7 @@ module _ (book table : List ℕ) (records : ℕ) where
         untouched n (stores ∙ first ∙ sym own) (rw own some)
         (λ z. not-given noWayThrough (bookChecks book) (omega arith) refl (sym own ∙ z))
 
-    module _ (m : Line) (is-read : readBook book ≡ accepted m) where
+    module _ (m : Line) (is-read : readBook book ≡ acceptedBook m) where
       same : m ≡ l
       same = read-line book m is-read .1
 

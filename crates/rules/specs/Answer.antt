@@ -7,7 +7,7 @@ use lib.Dec.{leb, ltb, eqb}
 use lib.ListN.{length}
 use Rattle.common.specs.Check.{Check, check, refusal, unlessRefused}
 use Rattle.common.specs.Part.{replaced}
-use Rattle.line.specs.Refusal.{strangeState, shortStore, wrongEnd, unknownTrain, atEnd as trainAtEnd, wrongPost}
+use Rattle.line.specs.Refusal.{strangeState, shortStore, wrongEnd, unknownTrain, trainAtEnd, wrongPost}
 use Rattle.line.specs.Refusal.{alreadyAsked, underAuthority, noAuthority, journalFull}
 use Rattle.frame.specs.Frame.{frameLength, moveIn, readChecks, readFrame, bytesOf}
 use Rattle.journal.specs.Journal.{journalLength, mostSent, batchLength, recordOf}

@@ -9,7 +9,7 @@ use Rattle.common.specs.Check.{Check, check, refusal, unlessRefused}
 use Rattle.common.specs.Tabulate.{tabulate}
 use Rattle.line.specs.Refusal.{shortStore, overfull, noWayThrough}
 use Rattle.line.specs.Line.{routeOf}
-use Rattle.line.specs.Book.{lineOf as lineIn, bookChecks, emptyLine}
+use Rattle.line.specs.Book.{lineIn, bookChecks, emptyLine}
 use Rattle.journal.specs.Journal.{journalLength}
 use Rattle.completion.specs.Configuration.{start, code, feasible}
 use Rattle.completion.specs.Table.{tableLength, bitOf, filled}

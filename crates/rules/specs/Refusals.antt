@@ -7,7 +7,7 @@ use mathlib.Core.Bool.{true, false}
 use mathlib.Core.List.{List}
 use Prim.Native.Nat.{ℕ, _+_, _≤_, _<_}
 use lib.ListN.{length}
-use Rattle.line.specs.Refusal.{strangeState, shortStore, wrongEnd, unknownTrain, atEnd as trainAtEnd, wrongPost}
+use Rattle.line.specs.Refusal.{strangeState, shortStore, wrongEnd, unknownTrain, trainAtEnd, wrongPost}
 use Rattle.line.specs.Refusal.{alreadyAsked, underAuthority, noAuthority, journalFull}
 use Rattle.frame.specs.Frame.{moveIn, readFrame}
 use Rattle.journal.specs.Journal.{journalLength}

@@ -1,6 +1,6 @@
 // Hearing a frame: refusals 1, 3, 4, 5, 6 and 22, in that order.
 ghost use mathlib.Core.Path.{_≡_};
-ghost use Rattle.driver.specs.Hearing.{forMove, awaiting, answered, hearFrame};
+ghost use Rattle.driver.specs.Hearing.{forMove, awaiting, heardWith, hearFrame};
 use crate::state::in_phase;
 use crate::state::own_move;
 use crate::state::same;
@@ -76,7 +76,7 @@ fn awaiting(phase: Phase) -> bool
 }
 
 fn answered(unit: Unit, refusal: u8) -> Heard
-    ensures { λ r. ⌜ r ≡ answered unit refusal ⌝ }
+    ensures { λ r. ⌜ r ≡ heardWith unit refusal ⌝ }
 {
     Heard {
         unit: unit,

@@ -9,7 +9,7 @@ use denote.Ref.{now}
 use borrow.Author.Needs.{needs}
 use borrow.Author.Tests.{not-true, not-false}
 use Rattle.line.specs.Line.{inRange}
-use Rattle.line.specs.Book.{named, postsOf}
+use Rattle.line.specs.Book.{namedLength, postsOf}
 use Rattle.book.proofs.Stages.{posts-short, posts-torn, posts-edition, posts-range, posts-room, posts-passed}
 use Rattle.book.proofs.reading.read_posts.Statement.{statement}
 use Rattle.book.proofs.reading.read_posts.Tie as tie
@@ -21,7 +21,7 @@ bookAt c = now (c .before .before .before .before .before .before .args .book)
 long : (c : tie.Else2) → 4 ≤ length (bookAt c)
 long c = omega arith
 
-right : (c : tie.Else2) → named (bookAt c) ≡ length (bookAt c)
+right : (c : tie.Else2) → namedLength (bookAt c) ≡ length (bookAt c)
 right c = omega arith
 
 -- that place, from where the number of posts is in range

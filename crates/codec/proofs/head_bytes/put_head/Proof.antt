@@ -6,7 +6,7 @@ use lib.ListN.{length, set}
 use borrow.Author.Needs.{needs}
 use Rattle.common.specs.Part.{replaced}
 use Rattle.common.proofs.Part.{length-replaced}
-use Rattle.encoding.specs.Parts.{headBytes, trainsAt}
+use Rattle.encoding.specs.Parts.{headBytes, trainsByte}
 use Rattle.encoding.proofs.Fields.{head-length}
 use Rattle.codec.proofs.Filled.{head-put}
 use Rattle.codec.proofs.head_bytes.put_head.Statement.{statement}
@@ -19,7 +19,7 @@ module _ (c : tie.After-slice-known2) where
   eight : length (from .args .t2) ≡ 8
   eight = search needs
 
-  written : set (c .before .before .put .last .1 .0) trainsAt (from .args .trains)
+  written : set (c .before .before .put .last .1 .0) trainsByte (from .args .trains)
       ≡ replaced (now (from .args .to)) 0 (headBytes (from .args .posts) (from .args .t2) (from .args .trains))
   written = head-put (from .args .posts) (from .args .t2) (from .args .trains) eight (now (from .args .to)) (from .pre)
       (c .before .before .put .ensures)

@@ -5,13 +5,13 @@ use native.Mathlib.Omega.{arith}
 use Rattle.common.specs.Tabulate.{padded}
 use Rattle.common.proofs.Tabulate.{padded-none, padded-more}
 use Rattle.line.specs.Book.{byteAt}
-use Rattle.encoding.specs.Parts.{tracksAt}
+use Rattle.encoding.specs.Parts.{tracksByte}
 use Rattle.codec.proofs.Numbers.{padded-all}
 use Rattle.codec.proofs.state_bytes.tracks_in.Statement.{statement}
 use Rattle.codec.proofs.state_bytes.tracks_in.Tie as tie
 
 abbrev Inv-loop : tie.InvT-loop
-Inv-loop bytes tracks₀ p₀ tracks p = (p ≤ 8) × (tracks ≡ padded 8 p (λ q. byteAt bytes (tracksAt + q)) 0)
+Inv-loop bytes tracks₀ p₀ tracks p = (p ≤ 8) × (tracks ≡ padded 8 p (λ q. byteAt bytes (tracksByte + q)) 0)
 
 abbrev μ-loop : tie.MeasureT-loop
 μ-loop bytes tracks₀ p₀ tracks p = 8 - p

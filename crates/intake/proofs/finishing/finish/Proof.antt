@@ -2,7 +2,7 @@
 use mathlib.Core.Path.{ap, _∙_}
 use Rattle.console.specs.declared.console.Phase.the-variants.{Book, Refused, Frames, Ended}
 use Rattle.console.specs.declared.console.Console.{Console}
-use Rattle.console.specs.Console.{deskOf, ended}
+use Rattle.console.specs.Console.{deskOf, endedConsole}
 use Rattle.console.proofs.Steps.{book-at-end, finished-in}
 use borrow.Author.Needs.{needs}
 use Rattle.intake.proofs.finishing.finish.Statement.{statement}
@@ -20,7 +20,8 @@ returns-2 : tie.Need-returns-2
 returns-2 c =
     let told = c .before .before .before in
     let a = told .before .before .before .args in
-    ap (λ (x : Console). deskOf x (a .table .now)) (c .ended2 .ensures ∙ ap ended (c .before .last-frame .ensures))
+    ap (λ (x : Console). deskOf x (a .table .now))
+    (c .ended2 .ensures ∙ ap endedConsole (c .before .last-frame .ensures))
     ∙ finished-in (deskOf (a .console) _) Frames (told .enum-told2 .given .1)
 
 returns-3 : tie.Need-returns-3

@@ -5,7 +5,7 @@ use Prim.Native.Nat.{_-_, _≤_}
 use native.Mathlib.Omega.{arith}
 use lib.ListN.{length, take}
 use lib.Seq.{take-all}
-use Rattle.console.specs.Console.{deskOf, taken}
+use Rattle.console.specs.Console.{deskOf, takenBytes}
 use Rattle.console.proofs.Steps.{taken-next}
 use Rattle.intake.proofs.taking.take.Statement.{statement}
 use Rattle.intake.proofs.taking.take.Tie as tie
@@ -13,7 +13,7 @@ use Rattle.intake.proofs.taking.take.Tie as tie
 abbrev Inv-loop : tie.InvT-loop
 Inv-loop table₀ bytes after₀ i₀ table after i =
     (i ≤ length bytes) × (length table ≡ length table₀)
-    × (deskOf after table ≡ taken (deskOf after₀ table₀) (take i bytes))
+    × (deskOf after table ≡ takenBytes (deskOf after₀ table₀) (take i bytes))
 
 abbrev μ-loop : tie.MeasureT-loop
 μ-loop table₀ bytes after₀ i₀ table after i = length bytes - i
@@ -35,7 +35,7 @@ loop-again c =
 returns : tie.Need-returns Inv-loop μ-loop
 returns c =
     let bytes = c .before .before .before .before .args .bytes .now in
-    c .before .loop .inv .2 ∙ ap (taken _) (take-all _ bytes (c .loop-test .left))
+    c .before .loop .inv .2 ∙ ap (takenBytes _) (take-all _ bytes (c .loop-test .left))
 
 pub take-spec : {M : Type 1} → statement M
 take-spec =

@@ -8,7 +8,7 @@ use denote.Ref.{now}
 use lib.ListN.{length}
 use borrow.Author.Needs.{needs}
 use borrow.Author.Tests.{not-true, not-false}
-use Rattle.line.specs.Book.{accepted, readBook}
+use Rattle.line.specs.Book.{acceptedBook, readBook}
 use Rattle.journal.specs.Journal.{journalLength}
 use Rattle.completion.specs.Configuration.{start, code, feasible}
 use Rattle.completion.specs.Table.{tableLength, bitOf}
@@ -57,7 +57,7 @@ module _ (c : tie.After-enum-told) where
   abbrev line : Line
   line = c .before .before .read .result .line
 
-  is-read : readBook (book stores) ≡ accepted line
+  is-read : readBook (book stores) ≡ acceptedBook line
   is-read =
       let a = c .before .before in
       read-as (book stores) (a .read .result) (a .read .ensures) (c .enum-told .given .1)
