@@ -35,8 +35,8 @@
 extern "C" {
 #endif
 
-/* 100 times the edition (what the ends answer) plus the revision: 101 is version 1.01. */
-#define QUANGEVIT_VERSION 101
+/* 100 times the edition (what the ends answer) plus the revision: 102 is version 1.02. */
+#define QUANGEVIT_VERSION 102
 
 #define QUANGEVIT_REFUSAL(answer) ((answer) & 255u)
 #define QUANGEVIT_SENT(answer) ((answer) >> 8)

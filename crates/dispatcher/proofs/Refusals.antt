@@ -10,7 +10,7 @@ use borrow.Author.Tests.{lt-ltb, le-ltb, eq-eqb, ne-eqb}
 use Rattle.common.specs.Check.{Check, check, refusal}
 use Rattle.common.proofs.Check.{Refuses, none, stop, pass, refusal-is, check-passes, check-fails, first-part}
 use Rattle.common.proofs.Check.{second-part, stop-within, pass-all}
-use Rattle.line.specs.Refusal.{strangeState, shortStore, wrongEnd, unknownTrain, trainAtEnd, wrongPost}
+use Rattle.line.specs.Refusal.{strangeState, shortStore, wrongEnd, unknownTrain, atItsEnd, wrongPost}
 use Rattle.frame.specs.Frame.{readChecks, readFrame}
 use Rattle.frame.specs.RoundTrip.{IsMessage}
 use Rattle.frame.proofs.Outcome.{read-passed, read-refused}
@@ -27,7 +27,7 @@ use Rattle.dispatcher.specs.Step.{messageRefusal}
 module _ (s : State) (m : Move) where
   -- x is the train's record
   module _ (x : Train) (own : x ≡ trainOf s (m .train .0)) where
-    pub train-ended : atEnd x ≡ true → trainAtEnd ≡ refusal (moveChecks s m)
+    pub train-ended : atEnd x ≡ true → atItsEnd ≡ refusal (moveChecks s m)
     train-ended e = sym (refusal-is (stop (rw (← own, e))))
 
     module _ (short : atEnd x ≡ false) where

@@ -115,7 +115,7 @@ fn move_refusal(state: State, m: Move) -> u8
 {
     let train = train_of(state, m.train);
     if at_end(train) {
-        return refusal::AT_END;
+        return refusal::AT_ITS_END;
     }
     if m.from.0 != train.at.0 {
         return refusal::WRONG_POST;

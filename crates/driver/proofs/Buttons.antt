@@ -6,7 +6,7 @@ use Prim.Native.Nat.{ℕ, _<_}
 use native.Mathlib.Omega.{arith}
 use borrow.Author.Tests.{eq-eqb, ne-eqb}
 use Rattle.common.proofs.Check.{Refuses, none, stop, pass, accepted-by, refused-by}
-use Rattle.line.specs.Refusal.{strangeState, notNow, trainAtEnd}
+use Rattle.line.specs.Refusal.{strangeState, notNow, atItsEnd}
 use Rattle.driver.specs.Types.{Move, Fa, Am, Asked, UnderWay, Arrived, Button, Ask, Depart, Reached, Report, Unit}
 use Rattle.driver.specs.State.{samePhase, ownMove, inPhase, validUnit}
 use Rattle.driver.specs.Pressing.{phaseFor, pressChecks, silent, sending, movedOn, carriedOut, pressButton}
@@ -24,7 +24,7 @@ module _ (u : Unit) (b : Button) where
     other-phase h = refused (omega arith) (pass good (stop h))
 
     module _ (fits : samePhase (u .phase) (phaseFor b) ≡ true) where
-      pub no-move : u .at .0 ≡ u .route .end .0 → silent u trainAtEnd ≡ pressButton u b
+      pub no-move : u .at .0 ≡ u .route .end .0 → silent u atItsEnd ≡ pressButton u b
       no-move h = refused (omega arith) (pass good (pass fits (stop (rw (eq-eqb _ _ h)))))
 
       module _ (short : u .at .0 ≢ u .route .end .0) where

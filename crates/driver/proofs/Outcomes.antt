@@ -10,7 +10,7 @@ use borrow.Author.Tests.{eqb-true, eqb-false, not-true}
 use Rattle.common.specs.Check.{refusal, unlessRefused}
 use Rattle.common.proofs.Tests.{by-cases, not-passed, and-left, and-right}
 use Rattle.common.proofs.Check.{passed-by}
-use Rattle.line.specs.Refusal.{wrongEnd, trainAtEnd, notNow, notAwaited}
+use Rattle.line.specs.Refusal.{wrongEnd, atItsEnd, notNow, notAwaited}
 use Rattle.frame.specs.Frame.{moveOf, readFrame}
 use Rattle.driver.specs.Types.{Move, Message, Fa, Fe, Afe, Am, Refused, Button, Unit, Pressed, Heard, Asked}
 use Rattle.driver.specs.Types.{Declined, Granted}
@@ -31,7 +31,7 @@ press-outcome u b = at (refusal (pressChecks u b)) refl
     at : (n : ℕ) → refusal (pressChecks u b) ≡ n → PressOutcome u b (unlessRefused n (carriedOut u b) (silent u))
     at zero e =
         let passed = passed-by (pressChecks u b) refl e in
-        accepted (same-phase (u .phase) (phaseFor b) (passed notNow)) (eqb-false _ _ (not-true _ (passed trainAtEnd)))
+        accepted (same-phase (u .phase) (phaseFor b) (passed notNow)) (eqb-false _ _ (not-true _ (passed atItsEnd)))
     at (suc n) e = refused n
 
 -- an FE or AFE that is passed over, or the FE or AFE for the unit's own move when it waits for one

@@ -4,7 +4,7 @@ use mathlib.Core.List.{List, [], _∷_}
 use Prim.Native.Nat.{ℕ}
 use lib.ListN.{replicate}
 use Rattle.common.specs.Check.{Check, check, refusal, unlessRefused}
-use Rattle.line.specs.Refusal.{strangeState, notNow, trainAtEnd}
+use Rattle.line.specs.Refusal.{strangeState, notNow, atItsEnd}
 use Rattle.line.specs.Route.{nextPost}
 use Rattle.frame.specs.Frame.{frameLength, bytesOf}
 use Rattle.driver.specs.Types.{Message, Fa, Am, Unit, Pressed, Button, Ask, Depart, Reached, Report, Phase}
@@ -23,7 +23,7 @@ abbrev pub pressChecks : Unit → Button → List Check
 pressChecks u b =
     check strangeState (validUnit u)
     ∷ check notNow (samePhase (u .phase) (phaseFor b))
-    ∷ check trainAtEnd (not (ended u))
+    ∷ check atItsEnd (not (ended u))
     ∷ []
 
 -- ---- the answers: the unit, the number of the refusal or 0, and a frame or seven bytes of 0

@@ -5,7 +5,7 @@ use mathlib.Core.Logic.{_≢_, _⊎_}
 use mathlib.Core.Bool.{true, false}
 use mathlib.Core.List.{List}
 use Prim.Native.Nat.{ℕ, _<_}
-use Rattle.line.specs.Refusal.{strangeState, wrongEnd, trainAtEnd, offTheLine, notNow, notAwaited}
+use Rattle.line.specs.Refusal.{strangeState, wrongEnd, atItsEnd, offTheLine, notNow, notAwaited}
 use Rattle.frame.specs.Frame.{readFrame}
 use Rattle.driver.specs.Types.{Move, Fa, Fe, Am, Refused, Unit, Button, Ask, Standing}
 use Rattle.driver.specs.State.{ownMove, validUnit}
@@ -36,7 +36,7 @@ pub record UnitRefusals : Type 0 where
       → (readFrame f ≡ Fa m) ⊎ (readFrame f ≡ Am m) → HearingRefused wrongEnd u f
   -- 8, at its end: "no next post"
   pub ended : (u : Unit) → validUnit u ≡ true → u .phase ≡ Standing → u .at .0 ≡ u .route .end .0
-      → PressRefused trainAtEnd u Ask
+      → PressRefused atItsEnd u Ask
   -- 18, off the line: "train above 5, start or end above 7"
   pub off-line : (t a e : ℕ) → (5 < t) ⊎ ((7 < a) ⊎ (7 < e)) → makeUnit t a e .refusal ≡ offTheLine
   -- 21, not now: "button in the wrong state"

@@ -22,8 +22,8 @@ wrongEnd = 6
 abbrev pub unknownTrain : ℕ
 unknownTrain = 7
 
-abbrev pub trainAtEnd : ℕ
-trainAtEnd = 8
+abbrev pub atItsEnd : ℕ
+atItsEnd = 8
 
 abbrev pub wrongPost : ℕ
 wrongPost = 9

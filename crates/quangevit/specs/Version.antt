@@ -6,7 +6,7 @@ abbrev pub edition : ℕ
 edition = 1
 
 abbrev pub revision : ℕ
-revision = 1
+revision = 2
 
 abbrev pub version : ℕ
 version = 100 * edition + revision

@@ -14,7 +14,7 @@ use Rattle.common.specs.Check.{Check, refusal}
 use Rattle.common.proofs.Tests.{by-cases, by-equality, and-left, and-right}
 use Rattle.common.proofs.Below.{count-le, count-some}
 use Rattle.common.proofs.Check.{passed-by, both-pass, accepts, refuses}
-use Rattle.line.specs.Refusal.{strangeState, shortStore, wrongEnd, unknownTrain, trainAtEnd, wrongPost}
+use Rattle.line.specs.Refusal.{strangeState, shortStore, wrongEnd, unknownTrain, atItsEnd, wrongPost}
 use Rattle.line.specs.Refusal.{alreadyAsked, underAuthority, noAuthority, journalFull}
 use Rattle.frame.specs.Frame.{moveIn, readFrame}
 use Rattle.frame.specs.RoundTrip.{IsMessage}
@@ -89,11 +89,11 @@ module _ (s : State) where
   content-passed : (a : Message) → forBox a ≡ true → refusal (contentChecks s a) ≡ 0 → Taken s a
   content-passed (Fa m) kind e =
       let passed = passed-by (contentChecks s (Fa m)) refl e in
-      request m (next-move m (passed unknownTrain) (passed trainAtEnd) (passed wrongPost) (passed journalFull))
+      request m (next-move m (passed unknownTrain) (passed atItsEnd) (passed wrongPost) (passed journalFull))
       (not-true _ (passed alreadyAsked)) (not-true _ (passed underAuthority))
   content-passed (Am m) kind e =
       let passed = passed-by (contentChecks s (Am m)) refl e in
-      arrival m (next-move m (passed unknownTrain) (passed trainAtEnd) (passed wrongPost) (passed journalFull))
+      arrival m (next-move m (passed unknownTrain) (passed atItsEnd) (passed wrongPost) (passed journalFull))
       (passed noAuthority)
   content-passed (Fe m) kind e = absurd (false≢true kind)
   content-passed (Afe m) kind e = absurd (false≢true kind)

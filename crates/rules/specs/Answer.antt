@@ -7,7 +7,7 @@ use lib.Dec.{leb, ltb, eqb}
 use lib.ListN.{length}
 use Rattle.common.specs.Check.{Check, check, refusal, unlessRefused}
 use Rattle.common.specs.Part.{replaced}
-use Rattle.line.specs.Refusal.{strangeState, shortStore, wrongEnd, unknownTrain, trainAtEnd, wrongPost}
+use Rattle.line.specs.Refusal.{strangeState, shortStore, wrongEnd, unknownTrain, atItsEnd, wrongPost}
 use Rattle.line.specs.Refusal.{alreadyAsked, underAuthority, noAuthority, journalFull}
 use Rattle.frame.specs.Frame.{frameLength, moveIn, readChecks, readFrame, bytesOf}
 use Rattle.journal.specs.Journal.{journalLength, mostSent, batchLength, recordOf}
@@ -51,7 +51,7 @@ knows s m = ltb (m .train .0) (s .trains)
 abbrev pub moveChecks : State → Move → List Check
 moveChecks s m =
     let x = trainOf s (m .train .0) in
-    check trainAtEnd (not (atEnd x))
+    check atItsEnd (not (atEnd x))
     ∷ check wrongPost (eqb (m .from .0) (x .at .0) && eqb (m .to .0) (nextOf x))
     ∷ []
 

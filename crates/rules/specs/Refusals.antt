@@ -7,7 +7,7 @@ use mathlib.Core.Bool.{true, false}
 use mathlib.Core.List.{List}
 use Prim.Native.Nat.{ℕ, _+_, _≤_, _<_}
 use lib.ListN.{length}
-use Rattle.line.specs.Refusal.{strangeState, shortStore, wrongEnd, unknownTrain, trainAtEnd, wrongPost}
+use Rattle.line.specs.Refusal.{strangeState, shortStore, wrongEnd, unknownTrain, atItsEnd, wrongPost}
 use Rattle.line.specs.Refusal.{alreadyAsked, underAuthority, noAuthority, journalFull}
 use Rattle.frame.specs.Frame.{moveIn, readFrame}
 use Rattle.journal.specs.Journal.{journalLength}
@@ -70,7 +70,7 @@ pub record Refusals : Type 0 where
       → RefusedAs unknownTrain h
   -- 8, at its end: "no next post", whatever posts the frame names
   pub ended : (h : Handed) (a : Message) → Reads h a → moveIn a .train .0 < h .state .trains
-      → named h a .at .0 ≡ named h a .route .end .0 → RefusedAs trainAtEnd h
+      → named h a .at .0 ≡ named h a .route .end .0 → RefusedAs atItsEnd h
   -- 9, wrong post: "from or to not present and next post"
   pub other-post : (h : Handed) (a : Message) → Reads h a → moveIn a .train .0 < h .state .trains
       → named h a .at .0 ≢ named h a .route .end .0

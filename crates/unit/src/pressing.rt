@@ -11,7 +11,7 @@ use driver::Pressed;
 use driver::Unit;
 use frame::FRAME_LENGTH;
 use frame::Message;
-use line::refusal::AT_END;
+use line::refusal::AT_ITS_END;
 use line::refusal::NOT_NOW;
 use line::refusal::STRANGE_STATE;
 
@@ -28,7 +28,7 @@ pub fn press(unit: Unit, button: Button) -> Pressed
         return silent(unit, NOT_NOW);
     }
     if unit.at.0 == route.end.0 {
-        return silent(unit, AT_END);
+        return silent(unit, AT_ITS_END);
     }
     match button {
         Button::Ask => sending(in_phase(unit, Phase::Asked), Message::Fa(own_move(unit))),
