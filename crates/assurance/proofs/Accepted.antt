@@ -20,7 +20,7 @@ use Rattle.rules.specs.State.{isAsked, isRunning, reachedBy, trainOf, lineOf, w
 use Rattle.rules.specs.Granting.{Work, granted, settled}
 use Rattle.rules.specs.Answer.{taken, declined, accepted, answer}
 use Rattle.rules.proofs.Trains.{asked-idle, running-is, route-of}
-use Rattle.rules.proofs.Validity.{Valid}
+use Rattle.rules.proofs.Validity.{Consistent}
 use Rattle.rules.proofs.Changes.{grantable-facts, short-place}
 use Rattle.rules.proofs.Grants.{Turn, grants-keep, granted-place}
 use Rattle.rules.proofs.Acceptance.{Taken, request, arrival, by-verdict}
@@ -61,7 +61,7 @@ module _ (table : List ℕ) where
   declined-frames n m w b = by-cases (isAsked (trainOf (w .state) (m .train .0) .status)) (λ q. rw q b) (λ q. rw q b)
 
   -- an accepted frame is one more
-  accepted-frames : (s : State) → Valid s → (a : Message) → Taken s a
+  accepted-frames : (s : State) → Consistent s → (a : Message) → Taken s a
       → framesIn (accepted table s a .state) ≡ framesIn s + 1
   unfolding accepted
   accepted-frames s d a (request m q free idle) =
@@ -106,7 +106,7 @@ module _ (table : List ℕ) where
       ))
 
 -- no train has more than two for each post of its way
-pub frames-within : (s : State) → Valid s → framesIn s ≤ mostFrames (lineOf s)
+pub frames-within : (s : State) → Consistent s → framesIn s ≤ mostFrames (lineOf s)
 frames-within s d = sum-mono (s .trains) (λ t. framesOf (trainOf s t)) (λ t. 2 * distanceOf (lineOf s) t) (λ t kt.
     rw (route-of s t) (at t kt (trainOf s t .status) refl))
   where
@@ -119,7 +119,7 @@ frames-within s d = sum-mono (s .trains) (λ t. framesOf (trainOf s t)) (λ t. 2
     at t kt (Asked n) e = omega (arith, next-within _ _ _ (d .each t kt .inside) (d .each t kt .busy (rw e)))
     at t kt Running e = omega (arith, next-within _ _ _ (d .each t kt .inside) (d .each t kt .busy (rw e)))
 
-pub few-frames : (s : State) → Valid s → mostFrames (lineOf s) ≤ 84
+pub few-frames : (s : State) → Consistent s → mostFrames (lineOf s) ≤ 84
 few-frames s d =
     let all = sum-le (s .trains) 14 (λ t. 2 * distanceOf (lineOf s) t)
     (λ t kt. omega (arith, short-route (lineOf s) (d .line) t kt)) in

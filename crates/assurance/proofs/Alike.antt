@@ -29,7 +29,7 @@ use Rattle.rules.specs.Valid.{valid}
 use Rattle.rules.specs.Granting.{grantable, older, oldest, Work, granted, proceed, grants}
 use Rattle.rules.specs.Answer.{outerChecks, knows, contentChecks, frameChecks}
 use Rattle.rules.proofs.Trains.{route-of, in-fleet, changed, changed-own, changed-other}
-use Rattle.rules.proofs.Validity.{TrainValid, Valid, valid-facts, few-logged, is-valid, asked-short}
+use Rattle.rules.proofs.Validity.{TrainValid, Consistent, valid-facts, few-logged, is-valid, asked-short}
 use Rattle.rules.proofs.Validity.{next-post-below}
 use Rattle.rules.proofs.Changes.{grantable-facts, is-grantable}
 use Rattle.rules.proofs.Oldest.{oldest-some}
@@ -75,7 +75,7 @@ module _ (s u : State) (a : Alike s u) where
   route-same : (t : ℕ) → t < s .trains → routeOf (lineOf u) t ≡ routeOf (lineOf s) t
   route-same t k = route-of u t ∙ of-train (λ x. x .route) t k ∙ sym (route-of s t)
 
-  valid-alike : Valid s → Valid u
+  valid-alike : Consistent s → Consistent u
   valid-alike d =
       let posts : (p : ℕ) → p < u .posts → p < s .posts = λ p k. rw (sym (a .posts)) k in
       let trains : (t : ℕ) → t < u .trains → t < s .trains = λ t k. rw (sym (a .trains)) k in
@@ -106,7 +106,7 @@ module _ (s u : State) (a : Alike s u) where
       ∙ ap (λ (x : Train). cond (eqb v t) (reached s t + 1) (reachedBy x)) (a .train v l)))
 
   -- a train that can be granted is short of its end, so that its next post is below P
-  grantable-alike : (table : List ℕ) → Valid s → (t : ℕ) → t < s .trains → grantable table s t ≡ true
+  grantable-alike : (table : List ℕ) → Consistent s → (t : ℕ) → t < s .trains → grantable table s t ≡ true
       → grantable table u t ≡ true
   grantable-alike table d t k e =
       let g = grantable-facts table s t e in
@@ -145,7 +145,7 @@ module _ (s u : State) (a : Alike s u) where
 
   -- ---- who can be granted
 
-  module _ (table : List ℕ) (d : Valid s) where
+  module _ (table : List ℕ) (d : Consistent s) where
     grantable-same : (t : ℕ) → t < s .trains → grantable table u t ≡ grantable table s t
     grantable-same t k = same-test (grantable table u t) (grantable table s t)
         (grantable-alike u s (alike-back s u a) table (valid-alike s u a d) t (rw (a .trains) k))
@@ -214,7 +214,7 @@ module _ (table : List ℕ) where
         sent = rw (k .sent, e);
       }
 
-  pub grants-same : (n : ℕ) (w v : Work) → Valid (w .state) → SameWork w v
+  pub grants-same : (n : ℕ) (w v : Work) → Consistent (w .state) → SameWork w v
       → SameWork (grants table n w) (grants table n v)
   unfolding grants
   grants-same zero w v d k = k
@@ -223,7 +223,7 @@ module _ (table : List ℕ) where
       (λ t p q. grants-same n (granted w t) (granted v t) p q))
     where
       at : (o : Option ℕ) → oldest table (w .state) (w .state .trains) ≡ o
-          → ((t : ℕ) → Valid (granted w t .state) → SameWork (granted w t) (granted v t)
+          → ((t : ℕ) → Consistent (granted w t .state) → SameWork (granted w t) (granted v t)
           → SameWork (grants table n (granted w t)) (grants table n (granted v t)))
           → SameWork (proceed o w (λ t. grants table n (granted w t))) (proceed o v (λ t. grants table n (granted v t)))
       at none e rest = k

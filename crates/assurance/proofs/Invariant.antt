@@ -25,7 +25,7 @@ use Rattle.rules.specs.declared.state.Status.the-variants.{Free, Asked, Running
 use Rattle.rules.specs.declared.state.Train.{Train}
 use Rattle.rules.specs.State.{isAsked, askedAs, nextOf, reachedBy, trainOf, lineOf, reached}
 use Rattle.rules.proofs.Trains.{changed, changed-own, changed-other, changed-each, changed-line}
-use Rattle.rules.proofs.Validity.{Valid}
+use Rattle.rules.proofs.Validity.{Consistent}
 use Rattle.assurance.specs.Types.{Line, Message, Fa, Fe, Afe, Am, Refused, Record, State}
 use Rattle.assurance.specs.Observer.{Claim, nothing, asked, authority, Seen, Observer}
 use Rattle.assurance.specs.WholeList.{isFeOf}
@@ -57,7 +57,7 @@ pub record Right (l : Line) (table : List ℕ) : Type 0 where
   pub full : (c : Configuration) → Completable l c → bitOf table (code l c) ≡ true
 
 pub record Invariant (table : List ℕ) (s : State) (j : List Record) (o : Observer) : Type 0 where
-  pub valid-state : Valid s
+  pub valid-state : Consistent s
   pub right : Right (lineOf s) table
   pub room : journalLength ≤ length j
   pub each : (t : ℕ) → t < s .trains → Tracked (s .logged) j (o t) t (trainOf s t)
@@ -90,7 +90,7 @@ module _ (table : List ℕ) (s : State) (j : List Record) (o o′ : Observer) (t
     (inv : Invariant table s j o)
     (own : moveIn a .train .0 ≡ t) (space : s .logged < journalLength) (others : (u : ℕ) → u ≢ t → o′ u ≡ o u)
     (place : t < length (s .fleet)) (route : x .route ≡ trainOf s t .route)
-    (after : Valid (changed s t x (s .logged + 1)))
+    (after : Consistent (changed s t x (s .logged + 1)))
     (tracked : Tracked (s .logged + 1) (set j (s .logged) (recordOf a)) (o′ t) t x)
     (onward : Completable (lineOf s) (update (reached s) t (reachedBy x))) where
   journal-room : s .logged < length j

@@ -30,7 +30,7 @@ use Rattle.completion.proofs.Rule.{bit-completable, completable-bit}
 use Rattle.rules.specs.State.{noTrain, trainOf, lineOf, located, reached}
 use Rattle.rules.specs.Granting.{grantable}
 use Rattle.rules.specs.Opening.{openingChecks, fresh, openedState, opened, refusedBook, opening, openingWith}
-use Rattle.rules.proofs.Validity.{Valid}
+use Rattle.rules.proofs.Validity.{Consistent}
 use Rattle.rules.proofs.Changes.{grantable-facts}
 use Rattle.assurance.specs.Types.{Line, Record}
 use Rattle.assurance.specs.Observer.{atOpening}
@@ -81,7 +81,7 @@ module _ (l : Line) (table : List ℕ) (journal : List Record) (a : Accepted l t
   fresh-train : (t : ℕ) → t < l .trains → trainOf (openedState l) t ≡ fresh (routeOf l t)
   fresh-train t k = at-tabulate 6 (λ u. fresh (routeOf l u)) t noTrain (omega (arith, a .line .few-trains))
 
-  opened-valid : Valid (openedState l)
+  opened-valid : Consistent (openedState l)
   opened-valid = record {
     line = subst WellFormed (sym same) (a .line);
     each = λ t k. rw (fresh-train t k) (record {

@@ -12,7 +12,7 @@ use Rattle.rules.specs.declared.state.Status.the-variants.{Asked}
 use Rattle.rules.specs.declared.state.Train.{Train}
 use Rattle.rules.specs.State.{isAsked, askedAs, trainOf, withStatus}
 use Rattle.rules.proofs.Trains.{changed, changed-own, changed-other}
-use Rattle.rules.proofs.Validity.{Valid}
+use Rattle.rules.proofs.Validity.{Consistent}
 use Rattle.assurance.specs.Types.{State}
 use Rattle.assurance.specs.Turns.{Turns}
 
@@ -37,7 +37,7 @@ no-more-asked s t x c n k place free h = record {
         (λ h. changed-other s t x c u h)
 
 -- a train that asks is the last
-pub asks-last : (s : State) → Valid s → (t : ℕ) (c n : ℕ) (k : Turns) → t < length (s .fleet) → InOrder s n k
+pub asks-last : (s : State) → Consistent s → (t : ℕ) (c n : ℕ) (k : Turns) → t < length (s .fleet) → InOrder s n k
     → InOrder (changed s t (withStatus (trainOf s t) (Asked (s .logged))) c) (n + 1) (update k t n)
 asks-last s d t c n k place h = record {
   before = λ u ku. by-equality u t

@@ -21,7 +21,7 @@ use Rattle.rules.specs.State.{isFree, isAsked, isRunning, trainOf, lineOf, with
 use Rattle.rules.specs.Granting.{Work, granted, settled}
 use Rattle.rules.specs.Answer.{taken, declined, accepted}
 use Rattle.rules.proofs.Trains.{running-is, route-of, changed, changed-own, changed-other}
-use Rattle.rules.proofs.Validity.{Valid}
+use Rattle.rules.proofs.Validity.{Consistent}
 use Rattle.rules.proofs.Changes.{grantable-facts, short-place}
 use Rattle.rules.proofs.Grants.{Turn, grants-keep, granted-place}
 use Rattle.rules.proofs.Acceptance.{Taken, request, arrival}
@@ -78,7 +78,7 @@ changed-sum f s t x n k l =
     let e : f (trainOf (changed s t x n) t) ≡ f x = ap f (changed-own s t x n l) in
     omega arith
 
-pub few-records : (s : State) → Valid s → recordsIn s ≤ 168
+pub few-records : (s : State) → Consistent s → recordsIn s ≤ 168
 few-records s d =
     let all = sum-le (s .trains) 28 (λ t. recordsOf (trainOf s t)) each in
     omega (arith, mul-le-mul-right 28 (d .line .few-trains))
@@ -113,7 +113,7 @@ declined-bounded n m w b = by-cases (isAsked (trainOf (w .state) (m .train .0) .
     (λ q. rw q (record { spare = omega (arith, b .spare); raised = b .raised }))
 
 -- every accepted frame keeps the count bounded, and raises the bound
-pub accepted-bounded : (table : List ℕ) (s : State) → Valid s → (a : Message) → Taken s a → s .logged ≤ recordsIn s
+pub accepted-bounded : (table : List ℕ) (s : State) → Consistent s → (a : Message) → Taken s a → s .logged ≤ recordsIn s
     → Bounded 0 (recordsIn s + 1) (accepted table s a .state)
 unfolding accepted
 accepted-bounded table s d a (request m q free idle) b =

@@ -22,7 +22,7 @@ use Rattle.rules.specs.declared.state.Train.{Train}
 use Rattle.rules.specs.State.{isAsked, isRunning, atEnd, nextOf, trainOf, lineOf, located, reached}
 use Rattle.rules.specs.Granting.{grantable}
 use Rattle.rules.proofs.Trains.{asked-idle, running-busy, route-of}
-use Rattle.rules.proofs.Validity.{Valid, next-post-below}
+use Rattle.rules.proofs.Validity.{Consistent, next-post-below}
 use Rattle.rules.proofs.Changes.{is-grantable}
 use Rattle.rules.proofs.Oldest.{Nobody}
 use Rattle.rules.proofs.Reached.{reached-idle}
@@ -32,7 +32,7 @@ use Rattle.assurance.proofs.Invariant.{Right}
 abbrev pub Short : State → ℕ → Type 0
 Short s t = trainOf s t .at .0 ≢ trainOf s t .route .end .0
 
-module _ (table : List ℕ) (s : State) (d : Valid s) (right : Right (lineOf s) table)
+module _ (table : List ℕ) (s : State) (d : Consistent s) (right : Right (lineOf s) table)
     (complete : Completable (lineOf s) (reached s)) where
   -- ---- no train is Running
 

@@ -21,7 +21,7 @@ use Rattle.rules.specs.State.{isAsked, isRunning, askedAs, nextOf, reachedBy, n
 use Rattle.rules.specs.State.{nextMove, withStatus, arrivedNext, withTrain, oneLogged}
 use Rattle.rules.specs.Granting.{grantable}
 use Rattle.rules.proofs.Trains.{asked-idle, running-is, in-fleet, changed}
-use Rattle.rules.proofs.Validity.{Valid}
+use Rattle.rules.proofs.Validity.{Consistent}
 use Rattle.rules.proofs.Changes.{grantable-facts, short-place, valid-logged, valid-request, valid-arrival, valid-grant}
 use Rattle.rules.proofs.Acceptance.{NextMove}
 use Rattle.rules.proofs.Reached.{moved-within}
@@ -151,7 +151,7 @@ module _ (table : List ℕ) (s : State) (j : List Record) (o : Observer) (inv : 
       subst (λ (z : State). Invariant table z (set j (s .logged) (recordOf (Afe m))) o) same
       (changed-kept table s j o o t (Afe m) (trainOf s t) inv refl room (λ u h. refl)
       (in-fleet s t (λ y. isAsked (y .status)) refl asks) refl
-      (subst Valid (sym same) (valid-logged s (inv .valid-state)))
+      (subst Consistent (sym same) (valid-logged s (inv .valid-state)))
       (record {
         seen = v .seen;
         request = λ q.

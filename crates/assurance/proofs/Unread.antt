@@ -16,7 +16,7 @@ use Rattle.rules.specs.State.{isAsked, trainOf, withStatus, arrivedNext, oneLog
 use Rattle.rules.specs.Granting.{Work, sends, grants, settled}
 use Rattle.rules.specs.Answer.{frameChecks, taken, declined, accepted, answered, refused, answer}
 use Rattle.rules.proofs.Trains.{changed, changed-other, changed-each}
-use Rattle.rules.proofs.Validity.{Valid}
+use Rattle.rules.proofs.Validity.{Consistent}
 use Rattle.rules.proofs.Changes.{short-place, valid-request, valid-arrival}
 use Rattle.rules.proofs.Grants.{grants-keep, granted-place}
 use Rattle.rules.proofs.Settling.{settled-settles}
@@ -29,7 +29,7 @@ use Rattle.assurance.proofs.Alike.{SameWork, refusal-same, changed-alik
 
 -- the frame's own change of its train's record, and the granting
 module _ (table : List ℕ) (s u : State) (a : Alike s u) (b : Message) (x y : Train)
-    (same : y ≡ x) (v : Valid (taken s b x .state))
+    (same : y ≡ x) (v : Consistent (taken s b x .state))
     (known : moveIn b .train .0 < s .trains)
     (short : trainOf s (moveIn b .train .0) .at .0 ≢ trainOf s (moveIn b .train .0) .route .end .0) where
   taken-same : SameWork (taken s b x) (taken u b y)
@@ -59,7 +59,7 @@ declined-same m w v k known = rw (k .state .train (m .train .0) known)
       sent = rw (k .sent);
     }
 
-accepted-same : (table : List ℕ) (s u : State) → Alike s u → Valid s → (b : Message) → Taken s b
+accepted-same : (table : List ℕ) (s u : State) → Alike s u → Consistent s → (b : Message) → Taken s b
     → SameWork (accepted table s b) (accepted table u b)
 unfolding accepted
 accepted-same table s u a d b (request m n free idle) =

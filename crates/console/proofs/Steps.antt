@@ -51,8 +51,8 @@ module _ (before x : Console) (table : List ℕ) (b : ℕ) (next : x ≡ c.withN
 
   pub book-begun : isBook (x .piece) ≡ false → deskOf x table ≡ c.bookByte (deskOf before table) b
   book-begun h =
-      let freshRun : isBook (c.withNext before b .piece) ≡ false = rw next at h in
-      ap (λ (x : Console). deskOf x table) next ∙ rw freshRun
+      let begun : isBook (c.withNext before b .piece) ≡ false = rw next at h in
+      ap (λ (x : Console). deskOf x table) next ∙ rw begun
 
   pub frame-whole : (r : Console) → 7 ≤ x .piece .length → r ≡ c.frameAnswered x table → r ≡ c.frameByte before table b
   frame-whole r h e =
@@ -61,8 +61,8 @@ module _ (before x : Console) (table : List ℕ) (b : ℕ) (next : x ≡ c.withN
 
   pub frame-begun : x .piece .length < 7 → x ≡ c.frameByte before table b
   frame-begun h =
-      let freshRun : c.withNext before b .piece .length < 7 = rw next at h in
-      next ∙ rw (lt-ltb (c.withNext before b .piece .length) 7 freshRun)
+      let begun : c.withNext before b .piece .length < 7 = rw next at h in
+      next ∙ rw (lt-ltb (c.withNext before b .piece .length) 7 begun)
 
 pub taken-in : (d : Desk) (b : ℕ) (p : Phase) → d .console .phase ≡ p → c.takenIn p d b ≡ c.takenByte d b
 unfolding c.takenByte

@@ -192,8 +192,8 @@ book-run (b ∷ input) r table l h =
     let joined = append-assoc l (b ∷ []) input in
     by-order (length next) (bookLength next)
     (λ short.
-    let freshRun : isBook (pieceOf next) ≡ false = piece-book next ∙ lt-leb (bookLength next) (length next) short in
-    ap (λ (d : Desk). finished (takenBytes d input)) (byte-of-book r table _ (pieceOf next) b piece freshRun)
+    let begun : isBook (pieceOf next) ≡ false = piece-book next ∙ lt-leb (bookLength next) (length next) short in
+    ap (λ (d : Desk). finished (takenBytes d input)) (byte-of-book r table _ (pieceOf next) b piece begun)
     ∙ book-run input r table next short ∙ ap (leaves r table) joined)
     (λ whole.
     let all : isBook (pieceOf next) ≡ true = piece-book next ∙ le-leb (bookLength next) (length next) whole in

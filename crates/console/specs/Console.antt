@@ -3,6 +3,7 @@ use mathlib.Core.Bool.{Bool, true, false, cond}
 use mathlib.Core.List.{List, [], foldl}
 use Prim.Native.Nat.{ℕ}
 use lib.Dec.{eqb, ltb}
+use Rattle.frame.specs.Frame.{frameLength}
 use Rattle.journal.specs.Log.{blankLog}
 use Rattle.rules.specs.Opening.{Opening, emptyState, opening}
 use Rattle.console.specs.Types.{State, Run, Phase, Book, Refused, Frames, Ended, Console}
@@ -56,7 +57,7 @@ bookByte d b =
 abbrev pub frameByte : Console → List ℕ → ℕ → Console
 frameByte c table b =
     let after = withNext c b in
-    cond (ltb (after .piece .length) 7) after (frameAnswered after table)
+    cond (ltb (after .piece .length) frameLength) after (frameAnswered after table)
 
 -- whether a byte is still taken: none after a refused book, and none after the end
 abbrev pub awaits : Phase → Bool

@@ -6,6 +6,7 @@ use mathlib.Core.List.{List, [], _∷_, _++_, foldl}
 use Prim.Native.Nat.{ℕ, zero, suc}
 use lib.Dec.{eqb}
 use lib.ListN.{length, take, drop, replicate}
+use Rattle.frame.specs.Frame.{frameLength}
 use Rattle.journal.specs.Log.{blankLog}
 use Rattle.completion.specs.Table.{tableLength}
 use Rattle.rules.specs.Opening.{Opening, opening}
@@ -30,7 +31,7 @@ bookIn input = take (bookLength input) input
 unfoldable pub cutFrames : ℕ → List ℕ → List (List ℕ)
 cutFrames zero rest = []
 cutFrames (suc n) [] = []
-cutFrames (suc n) (b ∷ rest) = take 7 (b ∷ rest) ∷ cutFrames n (drop 7 (b ∷ rest))
+cutFrames (suc n) (b ∷ rest) = take frameLength (b ∷ rest) ∷ cutFrames n (drop frameLength (b ∷ rest))
 
 -- what comes after the book has no more frames than bytes
 abbrev pub framesAfter : List ℕ → List (List ℕ)

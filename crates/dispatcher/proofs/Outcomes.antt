@@ -17,14 +17,14 @@ use Rattle.rules.specs.Answer.{frameChecks, accepted, framesOf, Answer, answerO
 use Rattle.rules.specs.Answer.{answer}
 use Rattle.authority.specs.Progress.{batchOf, progressOf}
 use Rattle.dispatcher.specs.Step.{Acceptable, framesIn, answersIn, outcomeOf, Stepped}
-use Rattle.rules.proofs.Validity.{Valid, is-consistent}
+use Rattle.rules.proofs.Validity.{Consistent, is-consistent}
 use Rattle.rules.proofs.Changes.{valid-request, valid-arrival}
 use Rattle.rules.proofs.Acceptance.{Taken, request, arrival, taken-space, Passed, frame-passed, Accepted}
 use Rattle.rules.proofs.Acceptance.{paired, accepted-facts}
 use Rattle.dispatcher.proofs.Batched.{Batched, batched, batched-appended, batched-answers, frames-logged}
 
 -- an FA or an AM that passes the checks can be taken
-pub taken-acceptable : (s : State) → Valid s → (a : Message) → Taken s a → Acceptable s a
+pub taken-acceptable : (s : State) → Consistent s → (a : Message) → Taken s a → Acceptable s a
 taken-acceptable s d a (request m n free idle) = (
   n .known,
   n .space,

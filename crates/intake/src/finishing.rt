@@ -1,8 +1,8 @@
 // The end of the input.
 ghost use mathlib.Core.Path.{_≡_};
 ghost use Rattle.console.specs.Console.{deskOf, afterEnd, endedConsole, lastFrame, finished};
+use crate::answering::with_frame;
 use crate::book::with_book;
-use crate::frame::with_frame;
 use console::Console;
 use console::Phase;
 

@@ -1,15 +1,13 @@
 // Taking the bytes that come.
 ghost use mathlib.Core.Path.{_≡_};
 ghost use Rattle.console.specs.Console.{deskOf, withNext, bookByte, frameByte, takenByte, takenBytes};
+use crate::answering::with_frame;
 use crate::book::with_book;
-use crate::frame::with_frame;
 use crate::piece::is_book;
 use crate::piece::with_byte;
 use console::Console;
 use console::Phase;
-
-// 01: "frames of 7 bytes".
-const FRAME_LENGTH: usize = 7;
+use frame::FRAME_LENGTH;
 
 // The console once some bytes were taken, one after the other.
 pub fn take(console: Console, table: &mut [u8], bytes: &[u8]) -> Console

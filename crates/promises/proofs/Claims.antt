@@ -9,6 +9,7 @@ use Rattle.completion.proofs.Agreement.{first-move}
 use Rattle.driver.proofs.Validity.{validity}
 use Rattle.driver.proofs.Refusals.{refusals as unit-refusals}
 use Rattle.driver.proofs.History.{history}
+use Rattle.rules.proofs.Acceptance.{numbers-told}
 use Rattle.rules.proofs.Refusals.{refusals}
 use Rattle.assurance.proofs.WholeList.{whole-list}
 use Rattle.assurance.proofs.OneFrame.{valid-kept, refusals-change-nothing, at-most-six, bit-in-table}
@@ -48,6 +49,7 @@ cab = record { validity = validity; numbers = unit-refusals; history = history }
 pub one-frame : OneFrame
 one-frame = record {
   numbers = refusals;
+  told = numbers-told;
   refusals = refusals-change-nothing;
   valid = valid-kept;
   unread = unread;

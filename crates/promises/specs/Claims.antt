@@ -7,6 +7,7 @@ use Rattle.completion.specs.Table.{TableRule, UniqueCodes, FirstMove}
 use Rattle.driver.specs.Validity.{Validity}
 use Rattle.driver.specs.Refusals.{UnitRefusals}
 use Rattle.driver.specs.History.{History}
+use Rattle.rules.specs.Answer.{NumbersTold}
 use Rattle.rules.specs.Refusals.{Refusals}
 use Rattle.assurance.specs.WholeList.{WholeList}
 use Rattle.assurance.specs.OneFrame.{ValidKept, RefusalsChangeNothing, AtMostSix, BitInTable}
@@ -54,6 +55,7 @@ pub record Cab : Type 0 where
 pub record OneFrame : Type 0 where
   -- which number refuses a frame, and that a refusal changes nothing
   pub numbers : Refusals
+  pub told : NumbersTold
   pub refusals : RefusalsChangeNothing
   -- a valid state stays valid; what is past the posts and trains is neither read nor written
   pub valid : ValidKept

@@ -3,13 +3,23 @@
 use Rattle.book.proofs.read.Statement.{statement as ReadBook}
 use Rattle.frame.proofs.read.Statement.{statement as ReadFrame}
 use Rattle.frame.proofs.write.Statement.{statement as WriteFrame}
+use Rattle.frame.proofs.place.Statement.{statement as PlaceFrame}
+use Rattle.table.proofs.code.Statement.{statement as CodeOf}
+use Rattle.table.proofs.bit.Statement.{statement as BitAt}
+use Rattle.table.proofs.feasible_start.Statement.{statement as FeasibleStart}
+use Rattle.table.proofs.fill.Statement.{statement as Fill}
+use Rattle.journal.proofs.with.Statement.{statement as WithRecord}
+use Rattle.journal.proofs.append.Statement.{statement as Append}
 use Rattle.unit.proofs.make.Statement.{statement as MakeUnit}
 use Rattle.unit.proofs.press.Statement.{statement as Press}
 use Rattle.unit.proofs.hear.Statement.{statement as Hear}
+use Rattle.unit.proofs.valid.Statement.{statement as ValidUnit}
 use Rattle.opening.proofs.open.Statement.{statement as Open}
 use Rattle.opening.proofs.open_log.Statement.{statement as OpenLog}
+use Rattle.opening.proofs.open_with.Statement.{statement as OpenWith}
 use Rattle.dispatcher.proofs.answer.Statement.{statement as Answer}
 use Rattle.dispatcher.proofs.answer_log.Statement.{statement as AnswerLog}
+use Rattle.dispatcher.proofs.step.Statement.{statement as Step}
 use Rattle.quangevit.proofs.quangevit_version.Statement.{statement as CallVersion}
 use Rattle.quangevit.proofs.quangevit_read_book.Statement.{statement as CallReadBook}
 use Rattle.quangevit.proofs.quangevit_open.Statement.{statement as CallOpen}
@@ -17,22 +27,39 @@ use Rattle.quangevit.proofs.quangevit_answer.Statement.{statement as CallAnswer
 use Rattle.quangevit.proofs.quangevit_make_unit.Statement.{statement as CallMakeUnit}
 use Rattle.quangevit.proofs.quangevit_press.Statement.{statement as CallPress}
 use Rattle.quangevit.proofs.quangevit_hear.Statement.{statement as CallHear}
+use Rattle.intake.proofs.fresh.Statement.{statement as Fresh}
 use Rattle.intake.proofs.take.Statement.{statement as Take}
+use Rattle.intake.proofs.awaits.Statement.{statement as Awaits}
 use Rattle.intake.proofs.finish.Statement.{statement as Finish}
 use Rattle.intake.proofs.printed.Statement.{statement as Printed}
+use Rattle.printout.proofs.run_text.Statement.{statement as RunText}
+use Rattle.printout.proofs.book_text.Statement.{statement as BookText}
 
--- the ends, and the readers and writers of their bytes
-pub record Ends (M : Type 1) : Type 2 where
+-- the parts: a book, frames, the table, the journal
+pub record Functions (M : Type 1) : Type 2 where
   pub read-book : ReadBook M
   pub read-frame : ReadFrame M
   pub write-frame : WriteFrame M
+  pub place-frame : PlaceFrame M
+  pub code : CodeOf M
+  pub bit : BitAt M
+  pub feasible-start : FeasibleStart M
+  pub fill : Fill M
+  pub with-record : WithRecord M
+  pub append : Append M
+
+-- the ends
+pub record Ends (M : Type 1) : Type 2 where
   pub make-unit : MakeUnit M
   pub press : Press M
   pub hear : Hear M
+  pub valid-unit : ValidUnit M
   pub open-box : Open M
   pub open-log : OpenLog M
+  pub open-with : OpenWith M
   pub answer : Answer M
   pub answer-log : AnswerLog M
+  pub step : Step M
 
 -- the C interface
 pub record CallsInC (M : Type 1) : Type 2 where
@@ -46,6 +73,10 @@ pub record CallsInC (M : Type 1) : Type 2 where
 
 -- the desk
 pub record Console (M : Type 1) : Type 2 where
+  pub fresh : Fresh M
   pub take-in : Take M
+  pub awaits : Awaits M
   pub finish : Finish M
   pub printed : Printed M
+  pub run-text : RunText M
+  pub book-text : BookText M

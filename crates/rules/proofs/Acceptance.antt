@@ -28,9 +28,9 @@ use Rattle.rules.specs.Valid.{valid}
 use Rattle.rules.specs.Granting.{grantable, Work, sends, settled}
 use Rattle.rules.specs.Answer.{outLength, mostLogged, forBox, outerChecks, knows, hasRoom, contentChecks}
 use Rattle.rules.specs.Answer.{frameChecks, taken, declined, accepted}
-use Rattle.rules.specs.Answer.{verdictNumber, verdictFrames, Answer, answered, refused, answer}
+use Rattle.rules.specs.Answer.{verdictNumber, verdictFrames, Answer, answered, refused, answer, NumbersTold}
 use Rattle.rules.proofs.Trains.{changed-line}
-use Rattle.rules.proofs.Validity.{Valid, valid-facts, is-valid}
+use Rattle.rules.proofs.Validity.{Consistent, valid-facts, is-valid}
 use Rattle.rules.proofs.Changes.{valid-logged, valid-request, valid-arrival}
 use Rattle.rules.proofs.Oldest.{Nobody}
 use Rattle.rules.proofs.Grants.{askedCount, settled-end}
@@ -58,7 +58,7 @@ taken-space s a (request m n free idle) = n .space
 taken-space s a (arrival m n runs) = n .space
 
 pub record Passed (s : State) (table : List ℕ) (journal : List Record) (frame out : List ℕ) : Type 0 where
-  pub valid-state : Valid s
+  pub valid-state : Consistent s
   pub long-table : tableLength ≤ length table
   pub long-journal : journalLength ≤ length journal
   pub long-out : outLength ≤ length out
@@ -143,11 +143,8 @@ refusal-leaves s table journal frame out n =
     (λ k q e. let same : k ≡ n = cc in rw same)
     (λ p e. absurd (let z : _≡_ {A = ℕ} 0 1 = cc in omega arith))
 
--- the number and the frames of an answer are its verdict's
-pub answer-numbers : (s : State) (table : List ℕ) (journal : List Record) (frame out : List ℕ)
-    → let a = answer s table journal frame out in
-    (a .number ≡ verdictNumber (a .verdict)) × (a .frames ≡ verdictFrames (a .verdict))
-answer-numbers s table journal frame out =
+pub numbers-told : NumbersTold
+numbers-told s table journal frame out =
     by-verdict s table journal frame out
     (λ a. (a .number ≡ verdictNumber (a .verdict)) × (a .frames ≡ verdictFrames (a .verdict)))
     (λ n e. (refl, refl))
@@ -156,7 +153,7 @@ answer-numbers s table journal frame out =
 -- ---- what is left
 
 pub record Accepted (s : State) (a : Message) (w : Work) : Type 0 where
-  pub valid-state : Valid (w .state)
+  pub valid-state : Consistent (w .state)
   pub line : lineOf (w .state) ≡ lineOf s
   pub size : length (w .state .fleet) ≡ length (s .fleet)
   -- the frame's record, then one for each answer
@@ -168,9 +165,10 @@ pub record Accepted (s : State) (a : Message) (w : Work) : Type 0 where
 pub paired : {s : State} {a : Message} {w : Work} → Accepted s a w → length (w .logged) ≡ 1 + length (w .sent)
 paired {a = a} {w = w} k = ap length (k .written) ∙ omega (arith, length-map (a ∷ w .sent) recordOf)
 
-module _ (table : List ℕ) (s : State) (d : Valid s) (a : Message) where
+module _ (table : List ℕ) (s : State) (d : Consistent s) (a : Message) where
   -- the granting, after the frame's own change of its train's record
-  module _ (x : Train) (same : x .route ≡ trainOf s (moveIn a .train .0) .route) (v : Valid (taken s a x .state)) where
+  module _ (x : Train) (same : x .route ≡ trainOf s (moveIn a .train .0) .route)
+      (v : Consistent (taken s a x .state)) where
     few-asked : askedCount (taken s a x .state) ≤ 6
     few-asked =
         omega (arith, count-le (s .trains) (λ t. isAsked (trainOf (taken s a x .state) t .status)), d .line .few-trains)
@@ -224,7 +222,7 @@ declined-accepted s a m w known paid k =
 
 -- ---- both frames
 
-pub accepted-facts : (table : List ℕ) (s : State) → Valid s → (a : Message) → Taken s a
+pub accepted-facts : (table : List ℕ) (s : State) → Consistent s → (a : Message) → Taken s a
     → Accepted s a (accepted table s a)
 unfolding accepted
 accepted-facts table s d a (request m n free idle) =
@@ -237,7 +235,7 @@ accepted-facts table s d a (arrival m n runs) =
     settled-accepted table s d (Am m) x refl (valid-arrival s d (m .train .0) (n .known) (n .short) runs)
 
 -- the state is valid, its count included
-pub accepted-valid : (table : List ℕ) (s : State) → Valid s → (a : Message) → Taken s a
+pub accepted-valid : (table : List ℕ) (s : State) → Consistent s → (a : Message) → Taken s a
     → valid (accepted table s a .state) ≡ true
 accepted-valid table s d a t =
     let k = accepted-facts table s d a t in

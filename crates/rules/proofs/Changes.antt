@@ -26,7 +26,7 @@ use Rattle.rules.specs.State.{reached, withStatus, arrivedNext, withTrai
 use Rattle.rules.specs.Granting.{grantable}
 use Rattle.rules.proofs.Trains.{asked-idle, in-fleet, changed, changed-own, changed-other, changed-each}
 use Rattle.rules.proofs.Trains.{changed-line, changed-count}
-use Rattle.rules.proofs.Validity.{TrainValid, Distinct, Valid, asked-short}
+use Rattle.rules.proofs.Validity.{TrainValid, Distinct, Consistent, asked-short}
 
 -- ---- the law
 
@@ -58,11 +58,11 @@ distinct-change s t x n place number d u v ku kv = by-equality u t
     (λ f. rw (f, changed-own s t x n place, changed-other s t x n u e) (λ p q z. absurd (number u ku e q p (sym z))))
     (λ f. rw (changed-other s t x n u e, changed-other s t x n v f) (d u v ku kv)))
 
-module _ (s : State) (d : Valid s) (t : ℕ) (known : t < s .trains) (x : Train) (n : ℕ) (c : Change s t x n) where
+module _ (s : State) (d : Consistent s) (t : ℕ) (known : t < s .trains) (x : Train) (n : ℕ) (c : Change s t x n) where
   later : (y : Train) → TrainValid y (s .logged) → TrainValid y n
   later y v = record { inside = v .inside; busy = v .busy; numbered = λ q. omega (arith, v .numbered q, c .more) }
 
-  pub valid-change : Valid (changed s t x n)
+  pub valid-change : Consistent (changed s t x n)
   valid-change = record {
     line = subst WellFormed (sym (changed-line s t x n (c .route))) (d .line);
     each = λ u k.
@@ -88,7 +88,7 @@ module _ (table : List ℕ) (s : State) (t : ℕ) where
   pub grantable-facts : grantable table s t ≡ true → Grantable table s t
   unfolding grantable
   grantable-facts e = record {
-    asks = and-left (isAsked (trainOf s t .status)) _ e;
+    asks = search (and-left, and-right);
     section = eqb-true _ _ (search (and-left, and-right));
     post = ltb-true _ _ (search (and-left, and-right));
     bit = search (and-left, and-right);
@@ -101,7 +101,7 @@ module _ (table : List ℕ) (s : State) (t : ℕ) where
 -- ---- its uses
 
 -- one record more, and no train changed
-pub valid-logged : (s : State) → Valid s → Valid (oneLogged s)
+pub valid-logged : (s : State) → Consistent s → Consistent (oneLogged s)
 valid-logged s d = record {
   line = d .line;
   each = λ u k.
@@ -125,10 +125,10 @@ pub short-place : (s : State) (t : ℕ) → trainOf s t .at .0 ≢ trainOf s t .
 short-place s t short =
     in-fleet s t (λ x. not (atEnd x)) refl (rw (ne-eqb (trainOf s t .at .0) (trainOf s t .route .end .0) short))
 
-module _ (s : State) (d : Valid s) (t : ℕ) (known : t < s .trains) where
+module _ (s : State) (d : Consistent s) (t : ℕ) (known : t < s .trains) where
   -- "the train becomes Asked"
   pub valid-request : trainOf s t .at .0 ≢ trainOf s t .route .end .0 → isRunning (trainOf s t .status) ≡ false
-      → Valid (oneLogged (withTrain s t (withStatus (trainOf s t) (Asked (s .logged)))))
+      → Consistent (oneLogged (withTrain s t (withStatus (trainOf s t) (Asked (s .logged)))))
   valid-request short idle =
       valid-change s d t known (withStatus (trainOf s t) (Asked (s .logged))) (s .logged + 1) (record {
         place = short-place s t short;
@@ -142,7 +142,7 @@ module _ (s : State) (d : Valid s) (t : ℕ) (known : t < s .trains) where
 
   -- "the train becomes Free at the post it ran to"
   pub valid-arrival : trainOf s t .at .0 ≢ trainOf s t .route .end .0 → isRunning (trainOf s t .status) ≡ true
-      → Valid (oneLogged (withTrain s t (arrivedNext (trainOf s t))))
+      → Consistent (oneLogged (withTrain s t (arrivedNext (trainOf s t))))
   valid-arrival short runs = valid-change s d t known (arrivedNext (trainOf s t)) (s .logged + 1) (record {
     place = short-place s t short;
     route = refl;
@@ -161,7 +161,7 @@ module _ (s : State) (d : Valid s) (t : ℕ) (known : t < s .trains) where
 
   -- a grant, by whatever table
   pub valid-grant : (table : List ℕ) → grantable table s t ≡ true
-      → Valid (oneLogged (withTrain s t (withStatus (trainOf s t) Running)))
+      → Consistent (oneLogged (withTrain s t (withStatus (trainOf s t) Running)))
   valid-grant table e = valid-change s d t known (withStatus (trainOf s t) Running) (s .logged + 1) (record {
     place = in-fleet s t (λ x. isAsked (x .status)) refl (g .asks);
     route = refl;

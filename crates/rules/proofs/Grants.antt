@@ -15,7 +15,7 @@ use Rattle.rules.specs.Types.{Running, Train, State}
 use Rattle.rules.specs.State.{isAsked, trainOf, lineOf, withStatus}
 use Rattle.rules.specs.Granting.{grantable, oldest, Work, granted, proceed, grants, settled}
 use Rattle.rules.proofs.Trains.{in-fleet, changed-line, changed-count}
-use Rattle.rules.proofs.Validity.{Valid}
+use Rattle.rules.proofs.Validity.{Consistent}
 use Rattle.rules.proofs.Changes.{grantable-facts}
 use Rattle.rules.proofs.Oldest.{Nobody, Oldest, oldest-none, oldest-some, none-oldest, some-oldest}
 
@@ -130,7 +130,7 @@ module _ (table : List ℕ) where
   pub settled-stop : (w : Work) → Nobody table (w .state) (w .state .trains) → settled table w ≡ w
   settled-stop w h = grants-stop _ w h
 
-  pub settled-next : (w : Work) (t : ℕ) → Valid (w .state) → Turn table w t
+  pub settled-next : (w : Work) (t : ℕ) → Consistent (w .state) → Turn table w t
       → settled table (granted w t) ≡ settled table w
   settled-next w t d f =
       let few = few-asked w in

@@ -13,7 +13,7 @@ use Rattle.rules.specs.Types.{Message, Fe, Running, Train, State}
 use Rattle.rules.specs.State.{trainOf, lineOf, nextMove, withStatus}
 use Rattle.rules.specs.Granting.{Work, granted, settled}
 use Rattle.rules.proofs.Trains.{changed-each}
-use Rattle.rules.proofs.Validity.{Valid}
+use Rattle.rules.proofs.Validity.{Consistent}
 use Rattle.rules.proofs.Changes.{valid-grant}
 use Rattle.rules.proofs.Grants.{askedCount, Turn, grants-keep, granted-place, granted-fewer, granted-line}
 
@@ -86,15 +86,16 @@ settled-settles table w = grants-keep table (Settles w) (settles-next table w) (
 
 -- ---- validity
 
-pub granted-valid : (table : List ℕ) (w : Work) (t : ℕ) → Valid (w .state) → Turn table w t → Valid (granted w t .state)
+pub granted-valid : (table : List ℕ) (w : Work) (t : ℕ) → Consistent (w .state) → Turn table w t
+    → Consistent (granted w t .state)
 granted-valid table w t d f = valid-grant (w .state) d t (f .known) table (f .can)
 
-pub settled-valid : (table : List ℕ) (w : Work) → Valid (w .state) → Valid (settled table w .state)
-settled-valid table w = grants-keep table (λ v. Valid (v .state)) (granted-valid table) (w .state .trains) w
+pub settled-valid : (table : List ℕ) (w : Work) → Consistent (w .state) → Consistent (settled table w .state)
+settled-valid table w = grants-keep table (λ v. Consistent (v .state)) (granted-valid table) (w .state .trains) w
 
 -- a valid state, and room for a record of each Asked train
 pub record Roomy (w : Work) : Type 0 where
-  pub valid-state : Valid (w .state)
+  pub valid-state : Consistent (w .state)
   pub room : w .state .logged + askedCount (w .state) ≤ journalLength
 
 pub roomy-next : (table : List ℕ) (w : Work) (t : ℕ) → Roomy w → Turn table w t → Roomy (granted w t)

@@ -1,4 +1,4 @@
--- Valid states as facts, both ways: `Valid s` holds exactly where the test `consistent s` passes. It says all that
+-- Valid states as facts, both ways: `Consistent s` holds exactly where the test `consistent s` passes. It says all that
 -- `valid s` asks but the range of the count, which no change of a record can break.
 use mathlib.Core.Path.{_≡_, refl, sym}
 use mathlib.Core.Logic.{_≢_, ⊎-elim}
@@ -35,7 +35,7 @@ Distinct s = (t u : ℕ) → t < s .trains → u < s .trains
     → isAsked (trainOf s t .status) ≡ true → isAsked (trainOf s u .status) ≡ true
     → askedAs (trainOf s t .status) ≡ askedAs (trainOf s u .status) → t ≡ u
 
-pub record Valid (s : State) : Type 0 where
+pub record Consistent (s : State) : Type 0 where
   pub line : WellFormed (lineOf s)
   pub each : (t : ℕ) → t < s .trains → TrainValid (trainOf s t) (s .logged)
   pub sections : (i : ℕ) → i < s .posts → sectionHolders (s .trains) (located s) i ≤ 1
@@ -107,7 +107,7 @@ distinct-numbers s h t u kt ku p q e = by-equality t u (λ z. z) (λ z. absurd (
 -- ---- the state
 
 module _ (s : State) where
-  pub consistent-facts : consistent s ≡ true → Valid s
+  pub consistent-facts : consistent s ≡ true → Consistent s
   unfolding consistent
   consistent-facts e =
       let trains : allBelow (s .trains) (λ t. trainValid (trainOf s t)) ≡ true = search (and-left, and-right) in
@@ -124,7 +124,7 @@ module _ (s : State) where
         distinct = distinct-numbers s numbers;
       }
 
-  pub is-consistent : Valid s → consistent s ≡ true
+  pub is-consistent : Consistent s → consistent s ≡ true
   unfolding consistent
   is-consistent d =
       let each : (t : ℕ) → t < s .trains
@@ -146,7 +146,7 @@ module _ (s : State) where
 
   -- a valid state is a consistent one whose count is in its range
 
-  pub valid-facts : valid s ≡ true → Valid s
+  pub valid-facts : valid s ≡ true → Consistent s
   unfolding valid
   valid-facts e = consistent-facts (and-left (consistent s) _ e)
 
@@ -154,13 +154,13 @@ module _ (s : State) where
   unfolding valid
   few-logged e = leb-true _ _ (and-right (consistent s) _ e)
 
-  pub is-valid : Valid s → s .logged ≤ mostCounted → valid s ≡ true
+  pub is-valid : Consistent s → s .logged ≤ mostCounted → valid s ≡ true
   unfolding valid
   is-valid d few = and-both _ _ (is-consistent d) (le-leb _ _ few)
 
 -- ---- what a valid state says of its trains
 
-module _ (s : State) (d : Valid s) (t : ℕ) (k : t < s .trains) where
+module _ (s : State) (d : Consistent s) (t : ℕ) (k : t < s .trains) where
   pub start-below : trainOf s t .route .start .0 < s .posts
   start-below = rw (route-of s t) at (d .line .starts t k)
 
@@ -179,7 +179,7 @@ module _ (s : State) (d : Valid s) (t : ℕ) (k : t < s .trains) where
   asked-short a = d .each t k .busy (asked-busy (trainOf s t .status) a)
 
 -- "No section has two holders": whatever its number
-pub one-holder : (s : State) → Valid s → (i t u : ℕ) → t < s .trains → u < s .trains
+pub one-holder : (s : State) → Consistent s → (i t u : ℕ) → t < s .trains → u < s .trains
     → holdsSection (located s t) i ≡ true → holdsSection (located s u) i ≡ true → t ≡ u
 one-holder s d i t u kt ku p q =
     one-counted (s .trains) (λ v. holdsSection (located s v) i) (d .sections i on) t u kt ku p q

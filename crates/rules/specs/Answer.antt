@@ -1,5 +1,6 @@
 -- The answer to a frame: the checks in order, what an accepted frame does, and what is left in state, journal and out
 -- buffer.
+use mathlib.Core.Path.{_≡_}
 use mathlib.Core.Bool.{Bool, true, false, not, cond, _&&_}
 use mathlib.Core.List.{List, [], _∷_, _++_}
 use Prim.Native.Nat.{ℕ, _+_, _*_}
@@ -179,3 +180,9 @@ answer s table journal frame out =
     unlessRefused (refusal (frameChecks s (length table) (length journal) frame (length out)))
     (answered (s .logged) journal out (accepted table s (readFrame frame)))
     (refused s journal out)
+
+-- the claim on a verdict's numbers: what an answer says is the number and the frames of its verdict
+abbrev pub NumbersTold : Type 0
+NumbersTold = (s : State) (table : List ℕ) (journal : List Record) (frame out : List ℕ)
+    → let a = answer s table journal frame out in
+    (a .number ≡ verdictNumber (a .verdict)) × (a .frames ≡ verdictFrames (a .verdict))

@@ -22,9 +22,9 @@ unfoldable pub grantable : List ℕ → State → ℕ → Bool
 grantable table s t =
     let x = trainOf s t in
     isAsked (x .status)
-    && (eqb (sectionHolders (s .trains) (located s) (sectionOf (x .at .0) (nextOf x))) 0
-    && (ltb (postHolders (s .trains) (located s) (nextOf x)) (getD (s .tracks) (nextOf x) 0)
-    && bitOf table (codeBelow (s .trains) (moved (reached s) t))))
+    && eqb (sectionHolders (s .trains) (located s) (sectionOf (x .at .0) (nextOf x))) 0
+    && ltb (postHolders (s .trains) (located s) (nextOf x)) (getD (s .tracks) (nextOf x) 0)
+    && bitOf table (codeBelow (s .trains) (moved (reached s) t))
 
 -- t, unless u asked before it
 abbrev pub older : State → ℕ → Option ℕ → Option ℕ

@@ -1,8 +1,8 @@
 -- `with_frame` meets its contract.
 use Rattle.console.proofs.Steps.{frame-answered}
 use borrow.Author.Needs.{needs}
-use Rattle.intake.proofs.frame.with_frame.Statement.{statement}
-use Rattle.intake.proofs.frame.with_frame.Tie as tie
+use Rattle.intake.proofs.answering.with_frame.Statement.{statement}
+use Rattle.intake.proofs.answering.with_frame.Tie as tie
 
 returns : tie.Need-returns
 returns c =
