@@ -9,6 +9,14 @@ use Rattle.table.proofs.feasible_start.Met.{met as feasible-start-met}
 use Rattle.table.proofs.fill.Met.{met as fill-met}
 use Rattle.journal.proofs.with.Met.{met as with-record-met}
 use Rattle.journal.proofs.append.Met.{met as append-met}
+use Rattle.journal.proofs.empty.Met.{met as empty-batch-met}
+use Rattle.journal.proofs.record_of.Met.{met as record-of-met}
+use Rattle.journal.proofs.frame_of.Met.{met as frame-of-met}
+use Rattle.journal.proofs.blank_log.Met.{met as blank-log-met}
+use Rattle.journal.proofs.log_length.Met.{met as log-length-met}
+use Rattle.journal.proofs.log_at.Met.{met as log-at-met}
+use Rattle.journal.proofs.log_with.Met.{met as log-with-met}
+use Rattle.journal.proofs.fitting.Met.{met as fitting-met}
 use Rattle.unit.proofs.make.Met.{met as make-unit-met}
 use Rattle.unit.proofs.press.Met.{met as press-met}
 use Rattle.unit.proofs.hear.Met.{met as hear-met}
@@ -47,6 +55,14 @@ functions = record {
   fill = fill-met;
   with-record = with-record-met;
   append = append-met;
+  empty-batch = empty-batch-met;
+  record-of = record-of-met;
+  frame-of = frame-of-met;
+  blank-log = blank-log-met;
+  log-length = log-length-met;
+  log-at = log-at-met;
+  log-with = log-with-met;
+  fitting = fitting-met;
 }
 
 pub ends : {M : Type 1} → Ends M

@@ -10,6 +10,14 @@ use Rattle.table.proofs.feasible_start.Statement.{statement as FeasibleStart}
 use Rattle.table.proofs.fill.Statement.{statement as Fill}
 use Rattle.journal.proofs.with.Statement.{statement as WithRecord}
 use Rattle.journal.proofs.append.Statement.{statement as Append}
+use Rattle.journal.proofs.empty.Statement.{statement as EmptyBatch}
+use Rattle.journal.proofs.record_of.Statement.{statement as RecordOf}
+use Rattle.journal.proofs.frame_of.Statement.{statement as FrameOf}
+use Rattle.journal.proofs.blank_log.Statement.{statement as BlankLog}
+use Rattle.journal.proofs.log_length.Statement.{statement as LogLength}
+use Rattle.journal.proofs.log_at.Statement.{statement as LogAt}
+use Rattle.journal.proofs.log_with.Statement.{statement as LogWith}
+use Rattle.journal.proofs.fitting.Statement.{statement as Fitting}
 use Rattle.unit.proofs.make.Statement.{statement as MakeUnit}
 use Rattle.unit.proofs.press.Statement.{statement as Press}
 use Rattle.unit.proofs.hear.Statement.{statement as Hear}
@@ -47,6 +55,14 @@ pub record Functions (M : Type 1) : Type 2 where
   pub fill : Fill M
   pub with-record : WithRecord M
   pub append : Append M
+  pub empty-batch : EmptyBatch M
+  pub record-of : RecordOf M
+  pub frame-of : FrameOf M
+  pub blank-log : BlankLog M
+  pub log-length : LogLength M
+  pub log-at : LogAt M
+  pub log-with : LogWith M
+  pub fitting : Fitting M
 
 -- the ends
 pub record Ends (M : Type 1) : Type 2 where
