@@ -3,7 +3,7 @@ use Rattle.line.proofs.Claims.{line-book}
 use Rattle.frame.proofs.RoundTrip.{round-trip as frames-read-back}
 use Rattle.journal.proofs.Records.{logged-as-sent}
 use Rattle.journal.proofs.Appended.{only-appended}
-use Rattle.completion.proofs.Standing.{standing}
+use Rattle.completion.proofs.StartAndEnd.{start-and-end}
 use Rattle.completion.proofs.Rule.{table-rule, unique-codes}
 use Rattle.completion.proofs.Agreement.{first-move}
 use Rattle.driver.proofs.Validity.{validity}
@@ -37,7 +37,7 @@ parts = record {
   frames = frames-read-back;
   records = logged-as-sent;
   appended = only-appended;
-  standing = standing;
+  start-and-end = start-and-end;
   table = table-rule;
   codes = unique-codes;
   first-move = first-move;

@@ -2,7 +2,7 @@
 use Rattle.line.specs.Claims.{LineBook}
 use Rattle.frame.specs.RoundTrip.{FramesReadBack}
 use Rattle.journal.specs.Journal.{LoggedAsSent, OnlyAppended}
-use Rattle.completion.specs.Configuration.{Standing}
+use Rattle.completion.specs.Configuration.{StartAndEnd}
 use Rattle.completion.specs.Table.{TableRule, UniqueCodes, FirstMove}
 use Rattle.driver.specs.Validity.{Validity}
 use Rattle.driver.specs.Refusals.{UnitRefusals}
@@ -37,7 +37,7 @@ pub record Parts : Type 0 where
   pub records : LoggedAsSent
   pub appended : OnlyAppended
   -- before their first moves trains stand at their starts, after their last at their ends
-  pub standing : Standing
+  pub start-and-end : StartAndEnd
   -- the table's bit is set exactly for configurations with a way through; from each of these there is a first move
   pub table : TableRule
   pub codes : UniqueCodes
