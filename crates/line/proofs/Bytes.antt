@@ -1,15 +1,18 @@
--- Rows of bytes in a book: the values at a row of places make that part of it, and a route's two bytes stand at its two
--- places.
+-- Rows of bytes in a book: the values at a row of places make that part of it, an edition's bytes are as many as it
+-- adds, and a route's two bytes stand at its two places.
 use mathlib.Core.Path.{_≡_, refl, sym}
+use mathlib.Core.Logic.{_≢_}
 use mathlib.Core.List.{List, [], _∷_, _++_}
 use Prim.Native.Nat.{ℕ, zero, suc, _+_, _*_, _≤_, _<_}
 use native.Mathlib.Omega.{arith}
 use lib.ListN.{length, getD, drop, drop-of-length-le}
 use lib.Seq.{drop-cons}
+use borrow.Author.Tests.{eq-eqb, ne-eqb}
 use Rattle.common.specs.Tabulate.{valuesFrom}
-use Rattle.line.specs.Sorts.{Route}
+use Rattle.common.proofs.Tests.{by-equality}
+use Rattle.line.specs.Sorts.{Route, Line}
 use Rattle.line.specs.Line.{noRoute}
-use Rattle.line.specs.Book.{byteAt, startAt, routeIn, routeBytes}
+use Rattle.line.specs.Book.{byteAt, added, startAt, routeIn, routeBytes, addedBytes}
 
 module _ (b : List ℕ) where
   -- n places from k on, and what stands after them
@@ -36,6 +39,34 @@ module _ (b : List ℕ) where
       let s : suc (startAt a j + 1) ≡ startAt a (suc j) = omega arith in
       let r = routes-end a (suc j) n (omega arith) in
       rw (r, ← s, ← drop-cons b (startAt a j + 1) 0 m, ← e, ← drop-cons b (startAt a j) 0 l)
+
+-- ---- what an edition adds
+
+pub added-first : (v : ℕ) → v ≡ 1 → added v ≡ 0
+unfolding added
+added-first v e = rw (eq-eqb v 1 e)
+
+pub added-later : (v : ℕ) → v ≢ 1 → added v ≡ 1
+unfolding added
+added-later v e = rw (ne-eqb v 1 e)
+
+pub added-few : (v : ℕ) → added v ≤ 1
+added-few v = by-equality v 1 (λ e. rw (added-first v e) (omega arith)) (λ e. rw (added-later v e) (omega arith))
+
+pub no-bytes : (v : ℕ) (l : Line) → v ≡ 1 → addedBytes v l ≡ []
+unfolding addedBytes
+no-bytes v l e = rw (eq-eqb v 1 e)
+
+pub siding-bytes : (v : ℕ) (l : Line) → v ≢ 1 → addedBytes v l ≡ l .sidings ∷ []
+unfolding addedBytes
+siding-bytes v l e = rw (ne-eqb v 1 e)
+
+pub length-added : (v : ℕ) (l : Line) → length (addedBytes v l) ≡ added v
+length-added v l = by-equality v 1
+    (λ e. rw (no-bytes v l e, added-first v e))
+    (λ e. rw (siding-bytes v l e, added-later v e))
+
+-- ---- the routes
 
 pub length-routes : (rs : List Route) → length (routeBytes rs) ≡ 2 * length rs
 unfolding routeBytes

@@ -1,5 +1,6 @@
 -- The laws of the line's definitions, and the claims about its book.
 pub mod Travel
+pub mod Holding
 pub mod WellFormed
 pub mod Bytes
 pub mod Claims

@@ -2,7 +2,7 @@
 use mathlib.Core.Path.{_≡_}
 use mathlib.Core.Bool.{true, false, and-false}
 use mathlib.Core.List.{List}
-use Prim.Native.Nat.{ℕ, _≤_, _<_}
+use Prim.Native.Nat.{ℕ, _^_, _≤_, _<_}
 use native.Mathlib.Omega.{arith}
 use lib.Dec.{leb, ltb}
 use borrow.Author.Tests.{ltb-true, leb-true, lt-ltb, le-leb, lt-leb}
@@ -10,19 +10,19 @@ use Rattle.common.proofs.Tests.{and-left, and-right, and-both}
 use Rattle.common.proofs.Below.{all-below, below-all}
 use Rattle.line.specs.Sorts.{Route, Line}
 use Rattle.line.specs.Line.{routeOf, tracksAt, inRange, wellFormed, postsInRange, tracksInRange, trainsInRange}
-use Rattle.line.specs.Line.{routesOnLine}
+use Rattle.line.specs.Line.{sidingsOnLine, routesOnLine}
 use Rattle.line.specs.Route.{routeDistance}
 
 -- a line is what its parts are
-line : ℕ → List ℕ → ℕ → List Route → Line
-line n k t r = record { posts = n; tracks = k; trains = t; routes = r }
+line : ℕ → List ℕ → ℕ → ℕ → List Route → Line
+line n k s t r = record { posts = n; tracks = k; sidings = s; trains = t; routes = r }
 
-pub line-is : (l m : Line) → l .posts ≡ m .posts → l .tracks ≡ m .tracks → l .trains ≡ m .trains → l .routes ≡ m .routes
-    → l ≡ m
+pub line-is : (l m : Line) → l .posts ≡ m .posts → l .tracks ≡ m .tracks → l .sidings ≡ m .sidings
+    → l .trains ≡ m .trains → l .routes ≡ m .routes → l ≡ m
 unfolding line
-line-is l m a b c d =
-    let same : line (l .posts) (l .tracks) (l .trains) (l .routes)
-    ≡ line (m .posts) (m .tracks) (m .trains) (m .routes) = cc in
+line-is l m a b c d e =
+    let same : line (l .posts) (l .tracks) (l .sidings) (l .trains) (l .routes)
+    ≡ line (m .posts) (m .tracks) (m .sidings) (m .trains) (m .routes) = cc in
     same
 
 pub record WellFormed (l : Line) : Type 0 where
@@ -30,6 +30,7 @@ pub record WellFormed (l : Line) : Type 0 where
   pub few-posts : l .posts ≤ 8
   pub some-tracks : (p : ℕ) → p < l .posts → 1 ≤ tracksAt l p
   pub few-tracks : (p : ℕ) → p < l .posts → tracksAt l p ≤ 4
+  pub on-line : l .sidings < 2 ^ (l .posts)
   pub some-trains : 1 ≤ l .trains
   pub few-trains : l .trains ≤ 6
   pub starts : (t : ℕ) → t < l .trains → routeOf l t .start .0 < l .posts
@@ -52,19 +53,22 @@ above-range a b n h = rw (lt-leb n b h) (and-false (leb a n))
 
 module _ (l : Line) where
   -- the parts that `wellFormed` is made of
-  pub well-formed-parts : postsInRange l ≡ true → tracksInRange l ≡ true → trainsInRange l ≡ true
-      → routesOnLine l ≡ true → wellFormed l ≡ true
+  pub well-formed-parts : postsInRange l ≡ true → tracksInRange l ≡ true → sidingsOnLine l ≡ true
+      → trainsInRange l ≡ true → routesOnLine l ≡ true → wellFormed l ≡ true
   unfolding wellFormed
-  well-formed-parts p k t r = rw (p, k, t, r)
+  well-formed-parts p k s t r = rw (p, k, s, t, r)
 
   pub formed-parts : wellFormed l ≡ true
-      → (postsInRange l ≡ true) × (tracksInRange l ≡ true) × (trainsInRange l ≡ true) × (routesOnLine l ≡ true)
+      → (postsInRange l ≡ true) × (tracksInRange l ≡ true) × (sidingsOnLine l ≡ true) × (trainsInRange l ≡ true)
+      × (routesOnLine l ≡ true)
   unfolding wellFormed
   formed-parts h =
       let rest = and-right (postsInRange l) _ h in
-      let last = and-right (tracksInRange l) _ rest in (
+      let more = and-right (tracksInRange l) _ rest in
+      let last = and-right (sidingsOnLine l) _ more in (
         and-left (postsInRange l) _ h,
         and-left (tracksInRange l) _ rest,
+        and-left (sidingsOnLine l) _ more,
         and-left (trainsInRange l) _ last,
         and-right (trainsInRange l) _ last,
       )
@@ -74,13 +78,14 @@ module _ (l : Line) where
       let parts = formed-parts h in
       let posts = parts .0 in
       let tracks = all-below (l .posts) _ (parts .1) in
-      let trains = parts .2 in
-      let routes = all-below (l .trains) _ (parts .3) in
+      let trains = parts .3 in
+      let routes = all-below (l .trains) _ (parts .4) in
       record {
         some-posts = low 2 8 (l .posts) posts;
         few-posts = high 2 8 (l .posts) posts;
         some-tracks = λ p k. low 1 4 (tracksAt l p) (tracks p k);
         few-tracks = λ p k. high 1 4 (tracksAt l p) (tracks p k);
+        on-line = ltb-true _ _ (parts .2);
         some-trains = low 1 6 (l .trains) trains;
         few-trains = high 1 6 (l .trains) trains;
         starts = λ t k. ltb-true _ _ (and-left (ltb (routeOf l t .start .0) (l .posts)) _ (routes t k));
@@ -91,6 +96,7 @@ module _ (l : Line) where
   is-well-formed w = well-formed-parts
       (ranged 2 8 (l .posts) (w .some-posts) (w .few-posts))
       (below-all (l .posts) _ (λ p k. ranged 1 4 (tracksAt l p) (w .some-tracks p k) (w .few-tracks p k)))
+      (lt-ltb _ _ (w .on-line))
       (ranged 1 6 (l .trains) (w .some-trains) (w .few-trains))
       (below-all (l .trains) _ (λ t k. and-both _ _ (lt-ltb _ _ (w .starts t k)) (lt-ltb _ _ (w .ends t k))))
 

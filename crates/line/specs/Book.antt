@@ -1,5 +1,6 @@
--- 01, "The line and its book": what the bytes of a book say, when a book is refused, and which bytes a line has.
-use mathlib.Core.Bool.{_&&_}
+-- 01, "The line and its book", and 02, card 1: what the bytes of a book say, when a book is refused, and which bytes a
+-- line has.
+use mathlib.Core.Bool.{cond, _&&_}
 use mathlib.Core.List.{List, [], _∷_, _++_}
 use Prim.Native.Nat.{ℕ, _+_, _*_, _/_, _%_}
 use lib.Dec.{leb, ltb, eqb}
@@ -9,7 +10,8 @@ use Rattle.common.specs.Tabulate.{tabulate, padded}
 use Rattle.common.specs.Word.{word}
 use Rattle.line.specs.Refusal as number
 use Rattle.line.specs.Sorts.{Route, Line, Outcome, Read, Refused, Reading}
-use Rattle.line.specs.Line.{noRoute, routeOf, tracksAt, postsInRange, tracksInRange, trainsInRange, routesOnLine}
+use Rattle.line.specs.Line.{noRoute, routeOf, tracksAt, inRange, postsInRange, tracksInRange, sidingsOnLine}
+use Rattle.line.specs.Line.{trainsInRange, routesOnLine}
 
 -- ---- where the parts of a book stand
 
@@ -25,9 +27,17 @@ postsAt = 3
 abbrev pub countAt : ℕ → ℕ
 countAt p = 4 + p
 
--- the number of trains, after the track counts of n posts
-abbrev pub trainsAt : ℕ → ℕ
-trainsAt n = 4 + n
+-- "Book edition 2 has one more byte after the track counts": how many bytes edition v adds there
+unfoldable pub added : ℕ → ℕ
+added v = cond (eqb v 1) 0 1
+
+-- the siding byte, after the track counts of n posts
+abbrev pub sidingsAt : ℕ → ℕ
+sidingsAt n = 4 + n
+
+-- the number of trains, after the track counts of n posts and k bytes that the edition adds
+abbrev pub trainsAt : ℕ → ℕ → ℕ
+trainsAt n k = 4 + n + k
 
 -- the start and the end of train t, after the number of trains at place a
 abbrev pub startAt : ℕ → ℕ → ℕ
@@ -36,7 +46,7 @@ startAt a t = a + 1 + 2 * t
 abbrev pub endAt : ℕ → ℕ → ℕ
 endAt a t = startAt a t + 1
 
--- "Total 5 + P + 2T bytes.": up to where a further train's start would stand
+-- "Total 5 + P + 2T bytes.", and those that the edition adds: up to where a further train's start would stand
 abbrev pub total : ℕ → ℕ → ℕ
 total a t = startAt a t
 
@@ -52,9 +62,16 @@ namedLength b = word (byteAt b 0) (byteAt b 1) + 2
 abbrev pub postsOf : List ℕ → ℕ
 postsOf b = byteAt b postsAt
 
+abbrev pub editionOf : List ℕ → ℕ
+editionOf b = byteAt b versionAt
+
+-- "the bit of value 2^i says that post i has a siding. .. Edition 1 books have no sidings."
+abbrev pub sidingsOf : List ℕ → ℕ
+sidingsOf b = cond (eqb (editionOf b) 1) 0 (byteAt b (sidingsAt (postsOf b)))
+
 -- where its number of trains stands
 abbrev pub trainsIn : List ℕ → ℕ
-trainsIn b = trainsAt (postsOf b)
+trainsIn b = trainsAt (postsOf b) (added (editionOf b))
 
 abbrev pub trainsOf : List ℕ → ℕ
 trainsOf b = byteAt b (trainsIn b)
@@ -71,17 +88,19 @@ abbrev pub lineIn : List ℕ → Line
 lineIn b = record {
   posts = postsOf b;
   tracks = padded 8 (postsOf b) (λ p. byteAt b (countAt p)) 0;
+  sidings = sidingsOf b;
   trains = trainsOf b;
   routes = padded 6 (trainsOf b) (routeIn b (trainsIn b)) noRoute;
 }
 
 -- ---- when a book is refused
 
--- "Checks in order: .. 14 if under 4 bytes or the length is wrong; 4; 15; 14 if under 5 + P bytes;"
+-- "Checks in order: .. 14 if under 4 bytes or the length is wrong; 4; 15; 14 if under 5 + P bytes;", where "Edition 2's
+-- length checks count the added byte."
 abbrev pub postsChecks : List ℕ → List Check
 postsChecks b =
     check number.tornBook (leb 4 (length b) && eqb (namedLength b) (length b))
-    ∷ check number.otherEdition (eqb (byteAt b versionAt) 1)
+    ∷ check number.otherEdition (inRange 1 2 (editionOf b))
     ∷ check number.posts (postsInRange (lineIn b))
     ∷ check number.tornBook (ltb (trainsIn b) (length b))
     ∷ []
@@ -89,6 +108,10 @@ postsChecks b =
 -- "16;"
 abbrev pub tracksChecks : Line → List Check
 tracksChecks l = check number.tracks (tracksInRange l) ∷ []
+
+-- "23, the byte names a post not in the line, stands directly after 16."
+abbrev pub sidingsChecks : Line → List Check
+sidingsChecks l = check number.sidings (sidingsOnLine l) ∷ []
 
 -- "17; 14 if the total differs;"
 abbrev pub trainsChecks : List ℕ → List Check
@@ -103,12 +126,17 @@ routesChecks l = check number.offTheLine (routesOnLine l) ∷ []
 
 -- all of these, in this order. What needs a table or a placing is the opening's: 2 before them, 19 and 20 after them.
 abbrev pub bookChecks : List ℕ → List Check
-bookChecks b = postsChecks b ++ tracksChecks (lineIn b) ++ trainsChecks b ++ routesChecks (lineIn b)
+bookChecks b =
+    postsChecks b
+    ++ tracksChecks (lineIn b)
+    ++ sidingsChecks (lineIn b)
+    ++ trainsChecks b
+    ++ routesChecks (lineIn b)
 
 -- ---- reading a book
 
 abbrev pub emptyLine : Line
-emptyLine = record { posts = 0; tracks = replicate 8 0; trains = 0; routes = replicate 6 noRoute }
+emptyLine = record { posts = 0; tracks = replicate 8 0; sidings = 0; trains = 0; routes = replicate 6 noRoute }
 
 abbrev pub acceptedBook : Line → Reading
 acceptedBook l = record { outcome = Read; line = l }
@@ -124,17 +152,23 @@ abbrev pub outcomeNumber : Outcome → ℕ
 outcomeNumber Read = 0
 outcomeNumber (Refused n) = n
 
--- ---- the bytes of a line
+-- ---- the bytes of a line in edition v
 
 -- start and end of each train
 unfoldable pub routeBytes : List Route → List ℕ
 routeBytes [] = []
 routeBytes (r ∷ rs) = r .start .0 ∷ r .end .0 ∷ routeBytes rs
 
--- what stands after the length
-unfoldable pub bodyOf : Line → List ℕ
-bodyOf l =
-    1 ∷ l .posts ∷ tabulate (l .posts) (tracksAt l) ++ (l .trains ∷ routeBytes (tabulate (l .trains) (routeOf l)))
+-- what the edition adds
+unfoldable pub addedBytes : ℕ → Line → List ℕ
+addedBytes v l = cond (eqb v 1) [] (l .sidings ∷ [])
 
-unfoldable pub bookBytes : Line → List ℕ
-bookBytes l = let n = length (bodyOf l) in n / 256 ∷ n % 256 ∷ bodyOf l
+-- what stands after the length
+unfoldable pub bodyOf : ℕ → Line → List ℕ
+bodyOf v l =
+    v ∷ l .posts
+    ∷ tabulate (l .posts) (tracksAt l)
+    ++ (addedBytes v l ++ (l .trains ∷ routeBytes (tabulate (l .trains) (routeOf l))))
+
+unfoldable pub bookBytes : ℕ → Line → List ℕ
+bookBytes v l = let n = length (bodyOf v l) in n / 256 ∷ n % 256 ∷ bodyOf v l

@@ -1,6 +1,6 @@
 -- 01, "The line and its book": what a line has, and the ranges that its numbers keep to.
 use mathlib.Core.Bool.{Bool, _&&_}
-use Prim.Native.Nat.{ℕ}
+use Prim.Native.Nat.{ℕ, _^_}
 use lib.Dec.{leb, ltb}
 use lib.ListN.{getD}
 use Rattle.common.specs.Below.{allBelow}
@@ -28,6 +28,13 @@ postsInRange l = inRange 2 8 (l .posts)
 abbrev pub tracksInRange : Line → Bool
 tracksInRange l = allBelow (l .posts) (λ p. inRange 1 4 (tracksAt l p))
 
+-- 02, card 1: "the bit of value 2^i says that post i has a siding"; a set of posts of a line of n has no other bits
+abbrev pub namesPosts : ℕ → ℕ → Bool
+namesPosts n set = ltb set (2 ^ n)
+
+abbrev pub sidingsOnLine : Line → Bool
+sidingsOnLine l = namesPosts (l .posts) (l .sidings)
+
 -- "There are T trains, 1 to 6"
 abbrev pub trainsInRange : Line → Bool
 trainsInRange l = inRange 1 6 (l .trains)
@@ -39,4 +46,4 @@ routesOnLine l =
 
 -- all of that; places for posts from P on and trains from T on are not read
 unfoldable pub wellFormed : Line → Bool
-wellFormed l = postsInRange l && (tracksInRange l && (trainsInRange l && routesOnLine l))
+wellFormed l = postsInRange l && (tracksInRange l && (sidingsOnLine l && (trainsInRange l && routesOnLine l)))

@@ -1,4 +1,4 @@
--- 01, "Declining by number". `src/refusal.rt` has the same numbers for the code.
+-- 01, "Declining by number", and 02. `src/refusal.rt` has the same numbers for the code.
 use Prim.Native.Nat.{ℕ}
 
 abbrev pub strangeState : ℕ
@@ -66,3 +66,6 @@ notNow = 21
 
 abbrev pub notAwaited : ℕ
 notAwaited = 22
+
+abbrev pub sidings : ℕ
+sidings = 23
