@@ -124,6 +124,13 @@ module _ (r : Route) where
       (λ up. let z = leb-true (r .start .0) (r .end .0) up in rw up (omega arith))
       (λ down. let z = leb-false (r .start .0) (r .end .0) down in rw down (omega arith))
 
+  -- before that: not at the end
+  pub post-short : (k : ℕ) → k < routeDistance r → postAfter r k ≢ r .end .0
+  unfolding postAfter
+  post-short k h = by-cases (leb (r .start .0) (r .end .0))
+      (λ up. let z = leb-true (r .start .0) (r .end .0) up in rw up (λ e. omega arith))
+      (λ down. let z = leb-false (r .start .0) (r .end .0) down in rw down (λ e. omega arith))
+
   -- a post reached within the route lies on it
   pub post-between : (k : ℕ) → k ≤ routeDistance r → Between (r .start .0) (postAfter r k) (r .end .0)
   unfolding postAfter
