@@ -81,13 +81,13 @@ module _ (b : List ℕ) (unrefused : refusal (bookChecks b) ≡ 0) where
   passed : (n : ℕ) → Pass (testsOf n (bookChecks b))
   passed = passed-by (bookChecks b) refl unrefused
 
-  pub formed : wellFormed (lineIn b) ≡ true
-  formed = well-formed-parts (lineIn b)
+  pub book-formed : wellFormed (lineIn b) ≡ true
+  book-formed = well-formed-parts (lineIn b)
       (passed number.posts) (passed number.tracks) (passed number.sidings) (passed number.trains)
       (passed number.offTheLine)
 
   facts : WellFormed (lineIn b)
-  facts = well-formed (lineIn b) formed
+  facts = well-formed (lineIn b) book-formed
 
   four : 4 ≤ length b
   four = leb-true 4 (length b) (and-left (leb 4 (length b)) _ (passed number.tornBook .0))
@@ -265,7 +265,7 @@ read-as b l e =
     let r = read-line b l e in
     let f = facts b (r .0) in
     rw (r .1) record {
-      formed = formed b (r .0);
+      formed = book-formed b (r .0);
       padded = rest-0 b (r .0);
       edition = says b (r .0);
       bytes = spelled b (r .0);

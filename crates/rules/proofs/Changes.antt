@@ -3,7 +3,7 @@
 -- the old record was one, or where there is room.
 use mathlib.Core.Path.{_≡_, refl, sym, subst, _∙_}
 use mathlib.Core.Logic.{_≢_}
-use mathlib.Core.Bool.{Bool, true, false, not, _||_, or-false, false≢true, true≢false}
+use mathlib.Core.Bool.{Bool, true, false, not, _&&_, _||_, or-false, false≢true, true≢false}
 use mathlib.Core.List.{List}
 use Prim.Native.Nat.{ℕ, _+_, _≤_, _<_}
 use native.Mathlib.Omega.{arith}
@@ -15,7 +15,8 @@ use Rattle.common.proofs.Tests.{by-equality, and-left, and-right}
 use Rattle.common.proofs.Below.{ofBool-le}
 use Rattle.line.specs.Route.{sectionOf}
 use Rattle.line.specs.Line.{tracksAt}
-use Rattle.line.specs.Holding.{holdsPost, holdsSection, postHolders, sectionHolders}
+use Rattle.line.specs.Holding.{isStabled, holdsPost, holdsSection, postHolders, sectionHolders}
+use Rattle.line.proofs.Holding.{standing-holds, standing-section, standing-short}
 use Rattle.line.proofs.Travel.{next-between}
 use Rattle.line.proofs.WellFormed.{WellFormed}
 use Rattle.completion.specs.Configuration.{moved, codeBelow}
@@ -37,10 +38,10 @@ pub record Change (s : State) (t : ℕ) (x : Train) (n : ℕ) : Type 0 where
   pub more : s .logged ≤ n
   pub train : TrainValid x n
   pub section : (i : ℕ) → i < s .posts
-      → sectionHolders (s .trains) (located s) i + ofBool (holdsSection (locatedAt x) i)
+      → sectionHolders (s .trains) (located s) i + ofBool (holdsSection (locatedAt (s .sidings) x) i)
       ≤ 1 + ofBool (holdsSection (located s t) i)
   pub post : (p : ℕ) → p < s .posts
-      → postHolders (s .trains) (located s) p + ofBool (holdsPost (locatedAt x) p)
+      → postHolders (s .trains) (located s) p + ofBool (holdsPost (locatedAt (s .sidings) x) p)
       ≤ tracksAt (lineOf s) p + ofBool (holdsPost (located s t) p)
   pub number : (u : ℕ) → u < s .trains → u ≢ t → isAsked (x .status) ≡ true → isAsked (trainOf s u .status) ≡ true
       → askedAs (x .status) ≢ askedAs (trainOf s u .status)
@@ -68,10 +69,10 @@ module _ (s : State) (d : Consistent s) (t : ℕ) (known : t < s .trains) (x : T
     each = λ u k.
         changed-each s t x n (λ v y. TrainValid y n) (c .place) (c .train) u (λ h. later (trainOf s u) (d .each u k));
     sections = λ i k.
-        let e = changed-count s t x n (λ y. holdsSection (locatedAt y) i) (s .trains) known (c .place) in
+        let e = changed-count s t x n (λ y. holdsSection (locatedAt (s .sidings) y) i) (s .trains) known (c .place) in
         omega (arith, c .section i k);
     posts = λ p k.
-        let e = changed-count s t x n (λ y. holdsPost (locatedAt y) p) (s .trains) known (c .place) in
+        let e = changed-count s t x n (λ y. holdsPost (locatedAt (s .sidings) y) p) (s .trains) known (c .place) in
         omega (arith, c .post p k);
     distinct = distinct-change s t x n (c .place) (c .number) (d .distinct);
   }
@@ -115,10 +116,11 @@ valid-logged s d = record {
   distinct = d .distinct;
 }
 
--- a Running train that becomes Free where it ran to holds no more than before
-fewer-held : (a b : Bool) → ofBool b ≤ ofBool (a || b)
-fewer-held true b = ofBool-le b
-fewer-held false b = omega arith
+-- a Running train that becomes Free where it ran to holds no more than before, whether it is stabled there or not
+fewer-held : (c a b : Bool) → ofBool (not c && b) ≤ ofBool (a || b)
+fewer-held true a b = omega arith
+fewer-held false true b = ofBool-le b
+fewer-held false false b = omega arith
 
 -- a train that is short of its end has its place in the fleet
 pub short-place : (s : State) (t : ℕ) → trainOf s t .at .0 ≢ trainOf s t .route .end .0 → t < length (s .fleet)
@@ -135,7 +137,7 @@ module _ (s : State) (d : Consistent s) (t : ℕ) (known : t < s .trains) where
         route = refl;
         more = omega arith;
         train = record { inside = d .each t known .inside; busy = λ q. short; numbered = λ q. omega arith };
-        section = λ i k. omega (arith, d .sections i k);
+        section = λ i k. rw (standing-section (s .sidings) _ _ i) (omega (arith, d .sections i k));
         post = λ p k. rw idle (omega (arith, d .posts p k));
         number = λ u ku h p q e. omega (arith, d .each u ku .numbered q);
       })
@@ -152,10 +154,12 @@ module _ (s : State) (d : Consistent s) (t : ℕ) (known : t < s .trains) where
       busy = λ q. absurd (true≢false q);
       numbered = λ q. absurd (false≢true q);
     };
-    section = λ i k. omega (arith, d .sections i k);
+    section = λ i k. rw (standing-section (s .sidings) _ _ i) (omega (arith, d .sections i k));
     post = λ p k.
-        rw runs
-        (omega (arith, d .posts p k, fewer-held (eqb (trainOf s t .at .0) p) (eqb (nextOf (trainOf s t)) p)));
+        let x = trainOf s t in
+        let away = isStabled (s .sidings) (x .route .end .0) (nextOf x) in
+        rw (runs, standing-holds (s .sidings) (x .route .end .0) (nextOf x) p)
+        (omega (arith, d .posts p k, fewer-held away (eqb (x .at .0) p) (eqb (nextOf x) p)));
     number = λ u ku h p. absurd (false≢true p);
   })
 
@@ -168,7 +172,7 @@ module _ (s : State) (d : Consistent s) (t : ℕ) (known : t < s .trains) where
     more = omega arith;
     train = record {
       inside = d .each t known .inside;
-      busy = λ q. asked-short s d t known (g .asks);
+      busy = λ q. short;
       numbered = λ q. absurd (false≢true q);
     };
     section = λ i k. by-equality (sectionOf (trainOf s t .at .0) (nextOf (trainOf s t))) i
@@ -183,6 +187,7 @@ module _ (s : State) (d : Consistent s) (t : ℕ) (known : t < s .trains) where
         (λ q.
         rw (
           asked-idle (trainOf s t .status) (g .asks),
+          standing-short (s .sidings) (trainOf s t .route .end .0) (trainOf s t .at .0) (ne-eqb _ _ short),
           ne-eqb (nextOf (trainOf s t)) p q,
           or-false (eqb (trainOf s t .at .0) p),
         )
@@ -192,3 +197,6 @@ module _ (s : State) (d : Consistent s) (t : ℕ) (known : t < s .trains) where
     where
       g : Grantable table s t
       g = grantable-facts table s t e
+
+      short : trainOf s t .at .0 ≢ trainOf s t .route .end .0
+      short = asked-short s d t known (g .asks)

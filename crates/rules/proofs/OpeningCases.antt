@@ -2,7 +2,7 @@
 -- records. The book's own checks go by the reading: a refused book gives its number, one that is read leaves 19 and 20.
 use mathlib.Core.Path.{_≡_, refl, sym, ap, _∙_}
 use mathlib.Core.Logic.{_≢_}
-use mathlib.Core.Bool.{Bool, true, false, _&&_, and-false}
+use mathlib.Core.Bool.{Bool, true, false, _&&_, and-false, true≢false}
 use mathlib.Core.List.{List, [], _∷_, _++_}
 use Prim.Native.Nat.{ℕ, _≤_, _<_}
 use native.Mathlib.Omega.{arith}
@@ -12,17 +12,16 @@ use borrow.Author.Tests.{le-leb, lt-leb, ne-eqb}
 use Rattle.common.specs.Check.{Check, check, refusal}
 use Rattle.common.specs.Tabulate.{valuesFrom, padded}
 use Rattle.common.proofs.Tests.{by-equality}
-use Rattle.common.proofs.Check.{none, stop, pass, refusal-is, first-part, second-part, not-given, passed-by, accepts}
+use Rattle.common.proofs.Check.{none, stop, pass, refusal-is, first-part, second-part, not-given, accepts}
 use Rattle.common.proofs.Check.{refuses}
 use Rattle.common.proofs.Tabulate.{padded-none, past-padded}
-use Rattle.line.specs.Refusal.{shortStore, posts, tracks, trains, offTheLine, overfull, noWayThrough}
+use Rattle.line.specs.Refusal.{shortStore, overfull, noWayThrough}
 use Rattle.line.specs.Book.{lineIn, bookChecks, acceptedBook, refusedBy, readBook, outcomeNumber}
 use Rattle.line.specs.declared.line.Outcome.{Outcome}
 use Rattle.line.specs.declared.line.Outcome.the-variants.{Read, Refused}
 use Rattle.line.specs.declared.line.Reading.{Reading}
 use Rattle.line.specs.Line.{routeOf, wellFormed}
-use Rattle.line.proofs.Claims.{read-number, read-line}
-use Rattle.line.proofs.WellFormed.{well-formed-parts}
+use Rattle.line.proofs.Claims.{read-number, read-line, book-formed}
 use Rattle.journal.specs.Journal.{journalLength}
 use Rattle.completion.specs.Configuration.{start, code, codeBelow, feasible}
 use Rattle.completion.specs.Table.{tableLength, bitOf, filled, Filling}
@@ -49,13 +48,16 @@ opened-fleet l = refl
 pub read-as : (b : List ℕ) (r : Reading) → r ≡ readBook b → r .outcome ≡ Read → readBook b ≡ acceptedBook (r .line)
 read-as b r e whole = sym e ∙ ap (λ (o : Outcome). record { outcome = o; line = r .line }) whole
 
+abbrev isRead : Outcome → Bool
+isRead Read = true
+isRead (Refused k) = false
+
 refused-some : (b : List ℕ) (k : ℕ) → readBook b .outcome ≡ Refused k → 0 < refusal (bookChecks b)
 unfolding readBook
 refused-some b k stopped = by-equality (refusal (bookChecks b)) 0
     (λ e.
     let whole : readBook b ≡ acceptedBook (lineIn b) = accepts (acceptedBook (lineIn b)) refusedBy e in
-    let z : _≡_ {A = ℕ} 0 1 = cc in
-    absurd (let y : ⊥ = omega arith in y))
+    absurd (true≢false (sym (ap (λ (r : Reading). isRead (r .outcome)) whole) ∙ ap isRead stopped)))
     (λ h. omega arith)
 
 -- 19 and 20
@@ -107,7 +109,7 @@ module _ (book table : List ℕ) (records : ℕ) where
     unfolding refusal
     stores = rw (le-leb tableLength (length table) long, le-leb journalLength records room)
 
-    -- 14, 4, 15, 14, 16, 17, 14, 18
+    -- 14, 4, 15, 14, 16, 23, 17, 14, 18
     pub book-refused : (r : Reading) → r ≡ readBook book → (k : ℕ) → r .outcome ≡ Refused k
         → (n : ℕ) → n ≡ outcomeNumber (r .outcome) → Gives (refusedWith n table)
     book-refused r e k stopped n is =
@@ -123,9 +125,7 @@ module _ (book table : List ℕ) (records : ℕ) where
       same = read-line book m is-read .1
 
       formed : wellFormed m ≡ true
-      formed =
-          let passed = passed-by (bookChecks book) refl (read-line book m is-read .0) in
-          rw same (well-formed-parts l (passed posts) (passed tracks) (passed trains) (passed offTheLine))
+      formed = rw same (book-formed book (read-line book m is-read .0))
 
       left : refusal (openingChecks book table records) ≡ refusal (placingChecks m table)
       left = rw same (stores ∙ second-part (bookChecks book) (placingChecks l table) refl (read-line book m is-read .0))

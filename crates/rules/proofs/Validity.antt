@@ -1,6 +1,6 @@
 -- Valid states as facts, both ways: `Consistent s` holds exactly where the test `consistent s` passes. It says all that
 -- `valid s` asks but the range of the count, which no change of a record can break.
-use mathlib.Core.Path.{_≡_, refl, sym}
+use mathlib.Core.Path.{_≡_, refl, sym, _∙_}
 use mathlib.Core.Logic.{_≢_, ⊎-elim}
 use mathlib.Core.Bool.{Bool, true, false, not, _||_, false≢true, true≢false}
 use Prim.Native.Nat.{ℕ, _≤_, _<_}
@@ -14,6 +14,7 @@ use Rattle.common.proofs.Below.{all-below, below-all, one-counted}
 use Rattle.line.specs.Route.{between, sectionOf}
 use Rattle.line.specs.Line.{tracksAt}
 use Rattle.line.specs.Holding.{holdsSection, postHolders, sectionHolders}
+use Rattle.line.proofs.Holding.{standing-section}
 use Rattle.line.proofs.Travel.{Between, between-of, of-between, next-below}
 use Rattle.line.proofs.WellFormed.{WellFormed, well-formed, is-well-formed}
 use Rattle.rules.specs.Types.{Status, Free, Asked, Running, Train, State}
@@ -184,10 +185,10 @@ pub one-holder : (s : State) → Consistent s → (i t u : ℕ) → t < s .train
 one-holder s d i t u kt ku p q =
     one-counted (s .trains) (λ v. holdsSection (located s v) i) (d .sections i on) t u kt ku p q
   where
-    low : (x : Train) → holdsSection (locatedAt x) i ≡ true → i ≤ x .at .0
+    low : (x : Train) → holdsSection (locatedAt (s .sidings) x) i ≡ true → i ≤ x .at .0
     low x h = by-cases (isRunning (x .status))
         (λ e. let z = eqb-true (sectionOf (x .at .0) (nextOf x)) i (rw e at h) in omega arith)
-        (λ e. absurd (false≢true (rw e at h)))
+        (λ e. absurd (false≢true (sym (standing-section (s .sidings) _ _ i) ∙ rw e at h)))
 
     on : i < s .posts
     on = omega (arith, low (trainOf s t) p, post-below s d t kt)

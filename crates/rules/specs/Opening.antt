@@ -15,7 +15,7 @@ use Rattle.completion.specs.Configuration.{start, code, feasible}
 use Rattle.completion.specs.Table.{tableLength, bitOf, filled}
 use Rattle.rules.specs.Types.{Route, Line, Record, Free, Train, State, Opened}
 
--- "Checks in order: 2; 14 ..; 4; 15; 14 ..; 16; 17; 14 ..; 18; 19; 20."
+-- "Checks in order: 2; 14 ..; 4; 15; 14 ..; 16; 17; 14 ..; 18; 19; 20.", with 23 directly after 16.
 -- Of the journal only the number of records is looked at.
 abbrev pub openingChecks : List ℕ → List ℕ → ℕ → List Check
 openingChecks book table records =
@@ -35,6 +35,7 @@ abbrev pub openedState : Line → State
 openedState l = record {
   posts = l .posts;
   tracks = l .tracks;
+  sidings = l .sidings;
   trains = l .trains;
   fleet = tabulate 6 (λ t. fresh (routeOf l t));
   logged = 0;

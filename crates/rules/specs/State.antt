@@ -7,7 +7,7 @@ use lib.ListN.{getD, set}
 use Rattle.common.specs.Below.{ofBool}
 use Rattle.line.specs.Route.{nextPost, distance}
 use Rattle.line.specs.Line.{noRoute}
-use Rattle.line.specs.Holding.{Whereabouts, at, moving}
+use Rattle.line.specs.Holding.{Whereabouts, moving, standing}
 use Rattle.frame.specs.Frame.{moveOf}
 use Rattle.completion.specs.Configuration.{Configuration}
 use Rattle.rules.specs.Types.{Line, Move, Status, Free, Asked, Running, Train, State}
@@ -43,9 +43,10 @@ abbrev pub nextOf : Train → ℕ
 nextOf x = nextPost (x .at .0) (x .route .end .0)
 
 -- "A Running train, from its present post p to q, holds the section between them and a track at each of p and q. ..
--- Another train holds a track at its present post."
-abbrev pub locatedAt : Train → Whereabouts
-locatedAt x = cond (isRunning (x .status)) (moving (x .at .0) (nextOf x)) (at (x .at .0))
+-- Another train holds a track at its present post." 02, card 1: at its end, where there is a siding, it holds none.
+abbrev pub locatedAt : ℕ → Train → Whereabouts
+locatedAt sidings x =
+    cond (isRunning (x .status)) (moving (x .at .0) (nextOf x)) (standing sidings (x .route .end .0) (x .at .0))
 
 -- the posts travelled, and one more for a train that is Running: it "has reached its next post"
 abbrev pub reachedBy : Train → ℕ
@@ -59,13 +60,19 @@ noTrain = record { route = noRoute; at = record { 0 = 0 }; status = Free }
 abbrev pub trainOf : State → ℕ → Train
 trainOf s t = getD (s .fleet) t noTrain
 
--- the state's posts, tracks, trains and routes as a line
+-- the state's posts, tracks, sidings, trains and routes as a line
 abbrev pub lineOf : State → Line
-lineOf s = record { posts = s .posts; tracks = s .tracks; trains = s .trains; routes = map (λ x. x .route) (s .fleet) }
+lineOf s = record {
+  posts = s .posts;
+  tracks = s .tracks;
+  sidings = s .sidings;
+  trains = s .trains;
+  routes = map (λ x. x .route) (s .fleet);
+}
 
 -- where each train is
 abbrev pub located : State → ℕ → Whereabouts
-located s t = locatedAt (trainOf s t)
+located s t = locatedAt (s .sidings) (trainOf s t)
 
 -- "the placing in which every Running train .. has reached its next post"
 abbrev pub reached : State → Configuration
@@ -89,6 +96,7 @@ abbrev pub stateWith : State → List Train → ℕ → State
 stateWith s fleet n = record {
   posts = s .posts;
   tracks = s .tracks;
+  sidings = s .sidings;
   trains = s .trains;
   fleet = fleet;
   logged = n;

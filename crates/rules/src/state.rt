@@ -16,11 +16,12 @@ pub struct Train {
     pub status: Status,
 }
 
-// Places for posts from `posts` on and trains from `trains` on are not read. `logged` counts the
-// records of the journal.
+// `sidings` is the set of posts that have one. Places for posts from `posts` on and trains from
+// `trains` on are not read. `logged` counts the records of the journal.
 pub struct State {
     pub posts: u8,
     pub tracks: [u8; 8],
+    pub sidings: u8,
     pub trains: u8,
     pub fleet: [Train; 6],
     pub logged: u8,
