@@ -55,6 +55,7 @@ after-same (b ∷ bs) cs ds h = check-same b (bs ++ cs) (bs ++ ds) (λ e. after-
 alike-back : (s u : State) → Alike s u → Alike u s
 alike-back s u a = record {
   posts = sym (a .posts);
+  sidings = sym (a .sidings);
   trains = sym (a .trains);
   logged = sym (a .logged);
   tracks = λ p k. sym (a .tracks p (omega (arith, a .posts, a .trains)));
@@ -67,10 +68,10 @@ module _ (s u : State) (a : Alike s u) where
   of-train f t k = ap f (a .train t k)
 
   section-same : (i : ℕ) → sectionHolders (u .trains) (located u) i ≡ sectionHolders (s .trains) (located s) i
-  section-same i = rw (a .trains) (count-cong (s .trains) _ _ (of-train (λ x. holdsSection (locatedAt x) i)))
+  section-same i = rw (a .trains, a .sidings) (count-cong (s .trains) _ _ (of-train (λ x. holdsSection (locatedAt (s .sidings) x) i)))
 
   post-same : (p : ℕ) → postHolders (u .trains) (located u) p ≡ postHolders (s .trains) (located s) p
-  post-same p = rw (a .trains) (count-cong (s .trains) _ _ (of-train (λ x. holdsPost (locatedAt x) p)))
+  post-same p = rw (a .trains, a .sidings) (count-cong (s .trains) _ _ (of-train (λ x. holdsPost (locatedAt (s .sidings) x) p)))
 
   route-same : (t : ℕ) → t < s .trains → routeOf (lineOf u) t ≡ routeOf (lineOf s) t
   route-same t k = route-of u t ∙ of-train (λ x. x .route) t k ∙ sym (route-of s t)
@@ -85,6 +86,7 @@ module _ (s u : State) (a : Alike s u) where
           few-posts = rw (a .posts) (d .line .few-posts);
           some-tracks = λ p k. rw (a .tracks p (posts p k)) (d .line .some-tracks p (posts p k));
           few-tracks = λ p k. rw (a .tracks p (posts p k)) (d .line .few-tracks p (posts p k));
+          on-line = rw (a .posts, a .sidings) (d .line .on-line);
           some-trains = rw (a .trains) (d .line .some-trains);
           few-trains = rw (a .trains) (d .line .few-trains);
           starts = λ t k. rw (a .posts, route-same t (trains t k)) (d .line .starts t (trains t k));
@@ -174,6 +176,7 @@ module _ (s u : State) (a : Alike s u) where
       → Alike (changed s t x m) (changed u t y n)
   changed-alike t x y m n ks ku e z = record {
     posts = a .posts;
+    sidings = a .sidings;
     trains = a .trains;
     logged = z;
     tracks = a .tracks;
@@ -187,6 +190,7 @@ module _ (s u : State) (a : Alike s u) where
   pub logged-alike : Alike (oneLogged s) (oneLogged u)
   logged-alike = record {
     posts = a .posts;
+    sidings = a .sidings;
     trains = a .trains;
     logged = ap (λ (n : ℕ). n + 1) (a .logged);
     tracks = a .tracks;

@@ -15,10 +15,11 @@ use Rattle.common.proofs.Tests.{by-equality, not-passed, and-right}
 use Rattle.common.proofs.Below.{count-none, count-cong}
 use Rattle.common.proofs.Tabulate.{at-tabulate}
 use Rattle.common.proofs.Check.{passed-by, accepts, refuses}
-use Rattle.line.specs.Refusal.{shortStore, posts, tracks, trains, offTheLine, overfull, noWayThrough}
+use Rattle.line.specs.Refusal.{shortStore, posts, tracks, sidings, trains, offTheLine, overfull, noWayThrough}
 use Rattle.line.specs.Line.{routeOf}
 use Rattle.line.specs.Holding.{holdsPost, holdsSection}
 use Rattle.line.specs.Book.{lineIn}
+use Rattle.line.proofs.Holding.{standing-section}
 use Rattle.line.proofs.Travel.{start-between, post-start}
 use Rattle.line.proofs.WellFormed.{WellFormed, well-formed-parts, well-formed}
 use Rattle.journal.specs.Journal.{journalLength}
@@ -51,7 +52,7 @@ module _ (book table : List ℕ) (journal : List Record) where
       let passed = passed-by (openingChecks book table (length journal)) refl e in
       record {
         line = well-formed (lineIn book) (well-formed-parts (lineIn book)
-            (passed posts) (passed tracks) (passed trains) (passed offTheLine));
+            (passed posts) (passed tracks) (passed sidings) (passed trains) (passed offTheLine));
         fits = feasible-of (lineIn book) start (passed overfull);
         bit = passed noWayThrough;
         room = leb-true _ _ (and-right (leb tableLength (length table)) _ (passed shortStore));
@@ -91,7 +92,9 @@ module _ (l : Line) (table : List ℕ) (journal : List Record) (a : Accepted l t
     });
     sections = λ i k.
         let holds : ℕ → Bool = λ t. holdsSection (located (openedState l) t) i in
-        omega (arith, count-none (l .trains) holds (λ t kt. rw (fresh-train t kt)));
+        let none : countBelow (l .trains) holds ≡ 0 =
+        count-none (l .trains) holds (λ t kt. rw (fresh-train t kt) (standing-section (l .sidings) _ _ i)) in
+        omega arith;
     posts = λ p k.
         rw (count-cong (l .trains) (λ t. holdsPost (located (openedState l) t) p)
         (λ t. holdsPost (whereabouts l start t) p)

@@ -14,8 +14,9 @@ use Rattle.common.proofs.Update.{update-own, update-other}
 use Rattle.line.specs.Line.{routeOf, tracksAt}
 use Rattle.line.specs.Route.{sectionOf, routeDistance, postAfter}
 use Rattle.line.specs.Holding.{Whereabouts, holdsPost, holdsSection, postHolders, sectionHolders}
+use Rattle.line.proofs.Holding.{standing-section}
 use Rattle.line.proofs.Travel.{post-travelled, post-next, next-other, next-within}
-use Rattle.completion.specs.Configuration.{Arrived, Completable, whereabouts, moved}
+use Rattle.completion.specs.Configuration.{Arrived, Completable, whereabouts, holders, moved, postAhead}
 use Rattle.completion.specs.Table.{Onward}
 use Rattle.completion.proofs.Agreement.{first-move}
 use Rattle.rules.specs.declared.state.Train.{Train}
@@ -44,7 +45,7 @@ module _ (table : List ℕ) (s : State) (d : Consistent s) (right : Right (lineO
         (post-travelled (trainOf s v .route) (trainOf s v .at .0) (d .each v k .inside))
 
     placed : (v : ℕ) → v < s .trains → located s v ≡ whereabouts (lineOf s) (reached s) v
-    placed v k = rw (stands v k, idle v k)
+    placed v k = rw (stands v k, idle v k, route-of s v)
 
     short-of : (t : ℕ) → t < s .trains → Short s t → Arrived (lineOf s) (reached s) → ⊥
     short-of t k short e =
@@ -66,34 +67,20 @@ module _ (table : List ℕ) (s : State) (d : Consistent s) (right : Right (lineO
 
       free-section : sectionHolders (s .trains) (located s) (sectionOf (mover .at .0) (nextOf mover)) ≡ 0
       free-section = count-none (s .trains) (λ v. holdsSection (located s v) (sectionOf (mover .at .0) (nextOf mover)))
-          (λ v k. rw (idle v k))
+          (λ v k. rw (idle v k) (standing-section (s .sidings) _ _ _))
 
-      -- the next post, with the mover there, has no more trains than tracks; the mover is not there yet
+      -- the completion's own first move says that a track is free
       free-track : postHolders (s .trains) (located s) (nextOf mover) < tracksAt (lineOf s) (nextOf mover)
       free-track =
           let q = nextOf mover in
-          let before : ℕ → Bool = λ v. holdsPost (whereabouts (lineOf s) (reached s) v) q in
-          let after : ℕ → Bool = λ v. holdsPost (whereabouts (lineOf s) (moved (reached s) (m .train)) v) q in
-          let same : postHolders (s .trains) (located s) q ≡ countBelow (s .trains) before =
-          count-cong (s .trains) (λ v. holdsPost (located s v) q) before
+          let same : postHolders (s .trains) (located s) q ≡ holders (lineOf s) (reached s) q =
+          count-cong (s .trains) (λ v. holdsPost (located s v) q)
+          (λ v. holdsPost (whereabouts (lineOf s) (reached s) v) q)
           (λ v k. ap (λ (w : Whereabouts). holdsPost w q) (placed v k)) in
-          let change = count-change (s .trains) before after (m .train) (m .known)
-          (λ v k h. rw (update-other (reached s) (m .train) (reached s (m .train) + 1) v h)) in
-          let was : ofBool (before (m .train)) ≡ 0 =
-          rw (
-            stands (m .train) (m .known),
-            ne-eqb (mover .at .0) q (λ e. next-other _ _ _ (d .each (m .train) (m .known) .inside) away (sym e)),
-          ) in
-          let goes : postAfter (routeOf (lineOf s) (m .train)) (moved (reached s) (m .train) (m .train)) ≡ q =
-          rw (
-            update-own (reached s) (m .train) (reached s (m .train) + 1),
-            reached-idle s (m .train) (idle (m .train) (m .known)),
-            route-of s (m .train),
-          )
+          let goes : postAhead (lineOf s) (reached s) (m .train) ≡ q =
+          rw (reached-idle s (m .train) (idle (m .train) (m .known)), route-of s (m .train))
           (post-next (mover .route) (mover .at .0) (d .each (m .train) (m .known) .inside) away) in
-          let is : ofBool (after (m .train)) ≡ 1 = rw (eq-eqb _ _ goes) in
-          let fits = m .next .feasible .fits q (next-post-below s d (m .train) (m .known) away) in
-          omega arith
+          rw (same, ← goes) (m .free)
 
       mover-grantable : isAsked (mover .status) ≡ true → grantable table s (m .train) ≡ true
       mover-grantable a = is-grantable table s (m .train) (record {

@@ -9,7 +9,7 @@ use Rattle.common.specs.Below.{ofBool}
 use Rattle.common.proofs.Below.{count-cong}
 use Rattle.line.specs.Route.{nextPost, distance}
 use Rattle.line.specs.Line.{routeOf}
-use Rattle.line.specs.Holding.{Whereabouts, at, moving, holdsPost, holdsSection, postHolders, sectionHolders}
+use Rattle.line.specs.Holding.{Whereabouts, moving, standing, holdsPost, holdsSection, postHolders, sectionHolders}
 use Rattle.rules.specs.declared.state.Status.{Status}
 use Rattle.rules.specs.declared.state.Status.the-variants.{Free, Asked, Running}
 use Rattle.rules.specs.declared.state.Train.{Train}
@@ -65,8 +65,10 @@ module _ (table : List ℕ) (s : State) (j : List Record) (o : Observer) (inv : 
   pub seen : o t ≡ seenOf x
   seen = inv .each t kt .seen
 
-  pub told : locatedTold o t ≡ recorded s t
-  told = rw seen (located-as (x .status) (at (x .at .0)) (x .at .0) (nextOf x))
+  pub told : locatedTold (lineOf s) o t ≡ recorded s t
+  told =
+      rw (seen, route-of s t)
+      (located-as (x .status) (standing (s .sidings) (x .route .end .0) (x .at .0)) (x .at .0) (nextOf x))
 
   pub at-post : o t .post ≡ x .at .0
   at-post = ap (λ (y : Seen). y .post) seen
@@ -88,12 +90,12 @@ module _ (table : List ℕ) (s : State) (j : List Record) (o : Observer) (inv : 
 -- ---- who holds
 
 module _ (table : List ℕ) (s : State) (j : List Record) (o : Observer) (inv : Invariant table s j o) where
-  pub sections-told : (i : ℕ) → sectionHolders (s .trains) (locatedTold o) i ≡ sectionHolders (s .trains) (recorded s) i
-  sections-told i = count-cong (s .trains) (λ u. holdsSection (locatedTold o u) i) (λ u. holdsSection (recorded s u) i)
+  pub sections-told : (i : ℕ) → sectionHolders (s .trains) (locatedTold (lineOf s) o) i ≡ sectionHolders (s .trains) (recorded s) i
+  sections-told i = count-cong (s .trains) (λ u. holdsSection (locatedTold (lineOf s) o u) i) (λ u. holdsSection (recorded s u) i)
       (λ u ku. ap (λ (w : Whereabouts). holdsSection w i) (told table s j o inv u ku))
 
-  pub posts-told : (p : ℕ) → postHolders (s .trains) (locatedTold o) p ≡ postHolders (s .trains) (recorded s) p
-  posts-told p = count-cong (s .trains) (λ u. holdsPost (locatedTold o u) p) (λ u. holdsPost (recorded s u) p)
+  pub posts-told : (p : ℕ) → postHolders (s .trains) (locatedTold (lineOf s) o) p ≡ postHolders (s .trains) (recorded s) p
+  posts-told p = count-cong (s .trains) (λ u. holdsPost (locatedTold (lineOf s) o u) p) (λ u. holdsPost (recorded s u) p)
       (λ u ku. ap (λ (w : Whereabouts). holdsPost w p) (told table s j o inv u ku))
 
 -- ---- the claim over a list

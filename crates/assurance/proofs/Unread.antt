@@ -107,6 +107,7 @@ kept-changed : (s v : State) (t : ℕ) (x : Train) (n : ℕ) → Kept s v → t 
 kept-changed s v t x n k known place same = record {
   posts = k .posts;
   tracks = k .tracks;
+  sidings = k .sidings;
   trains = k .trains;
   size = length-set (v .fleet) t x ∙ k .size;
   routes = λ i. changed-each v t x n (λ u y. y .route ≡ trainOf s u .route) place (same ∙ k .routes t) i
@@ -118,6 +119,7 @@ kept-logged : (s v : State) → Kept s v → Kept s (oneLogged v)
 kept-logged s v k = record {
   posts = k .posts;
   tracks = k .tracks;
+  sidings = k .sidings;
   trains = k .trains;
   size = k .size;
   routes = k .routes;
@@ -128,6 +130,7 @@ unchanged : (s : State) → Kept s s
 unchanged s = record {
   posts = refl;
   tracks = refl;
+  sidings = refl;
   trains = refl;
   size = refl;
   routes = λ t. refl;

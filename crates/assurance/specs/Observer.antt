@@ -9,7 +9,7 @@ use Rattle.common.specs.Below.{ofBool}
 use Rattle.common.specs.Update.{update}
 use Rattle.line.specs.Route.{nextPost, distance}
 use Rattle.line.specs.Line.{routeOf}
-use Rattle.line.specs.Holding.{Whereabouts, at, moving}
+use Rattle.line.specs.Holding.{Whereabouts, moving, standing}
 use Rattle.frame.specs.Frame.{readFrame}
 use Rattle.completion.specs.Configuration.{Configuration}
 use Rattle.assurance.specs.Types.{Line, Message, Fa, Fe, Afe, Am, Refused, Verdict, Sent, RefusedBy}
@@ -88,15 +88,15 @@ observe o (e ∷ es) = observe (note o e) es
 
 -- ---- what is told of a train
 
--- "a train with an authority holds as a Running train does, between the posts of its move; any other holds at its post
--- in the tally"
+-- "Holding goes by the dispatcher's rule: a train with an authority holds as a Running train does, between the posts of
+-- its move; any other holds at its post in the tally as a train that is not Running."
 abbrev pub locatedBy : Whereabouts → Claim → Whereabouts
 locatedBy here nothing = here
 locatedBy here asked = here
 locatedBy here (authority p q) = moving p q
 
-abbrev pub locatedTold : Observer → ℕ → Whereabouts
-locatedTold o t = locatedBy (at (o t .post)) (o t .claim)
+abbrev pub locatedTold : Line → Observer → ℕ → Whereabouts
+locatedTold l o t = locatedBy (standing (l .sidings) (routeOf l t .end .0) (o t .post)) (o t .claim)
 
 abbrev pub hasAuthority : Claim → Bool
 hasAuthority nothing = false

@@ -12,6 +12,7 @@ use Rattle.assurance.specs.Types.{Record, State}
 -- two states that may differ only in the places for posts from P on and for trains from T on
 pub record Alike (s u : State) : Type 0 where
   pub posts : u .posts ≡ s .posts
+  pub sidings : u .sidings ≡ s .sidings
   pub trains : u .trains ≡ s .trains
   pub logged : u .logged ≡ s .logged
   pub tracks : (p : ℕ) → p < s .posts → tracksAt (lineOf u) p ≡ tracksAt (lineOf s) p
@@ -29,10 +30,11 @@ abbrev pub Unread : Type 0
 Unread = (s u : State) (table : List ℕ) (journal : List Record) (frame out : List ℕ) → Alike s u
     → SameAnswer (answer s table journal frame out) (answer u table journal frame out)
 
--- P, T, the track counts and the routes are those of s, and so are the places for trains from T on
+-- P, T, the track counts, the sidings and the routes are those of s, and so are the places for trains from T on
 pub record Kept (s v : State) : Type 0 where
   pub posts : v .posts ≡ s .posts
   pub tracks : v .tracks ≡ s .tracks
+  pub sidings : v .sidings ≡ s .sidings
   pub trains : v .trains ≡ s .trains
   pub size : length (v .fleet) ≡ length (s .fleet)
   pub routes : (t : ℕ) → trainOf v t .route ≡ trainOf s t .route

@@ -16,8 +16,8 @@ use Rattle.assurance.specs.Observer.{Observer, atOpening, observe, locat
 -- train t has asked, "the section is free, the next post has a free track, and all trains could still reach their ends"
 pub record CouldGo (l : Line) (o : Observer) (t : ℕ) : Type 0 where
   pub asks : hasAsked (o t .claim) ≡ true
-  pub section : sectionHolders (l .trains) (locatedTold o) (sectionOf (o t .post) (nextTold l o t)) ≡ 0
-  pub post : postHolders (l .trains) (locatedTold o) (nextTold l o t) < tracksAt l (nextTold l o t)
+  pub section : sectionHolders (l .trains) (locatedTold l o) (sectionOf (o t .post) (nextTold l o t)) ≡ 0
+  pub post : postHolders (l .trains) (locatedTold l o) (nextTold l o t) < tracksAt l (nextTold l o t)
   pub completable : Completable l (moved (reachedTold l o) t)
 
 pub record Waiting (l : Line) (o : Observer) : Type 0 where

@@ -51,10 +51,10 @@ pub record Unhindered (l : Line) (o : Observer) : Type 0 where
 
 pub record Assured (l : Line) (r : Ran) (o : Observer) : Type 0 where
   -- "no section has two holders"
-  pub sections : (i t u : ℕ) → t < l .trains → u < l .trains → holdsSection (locatedTold o t) i ≡ true
-      → holdsSection (locatedTold o u) i ≡ true → t ≡ u
+  pub sections : (i t u : ℕ) → t < l .trains → u < l .trains → holdsSection (locatedTold l o t) i ≡ true
+      → holdsSection (locatedTold l o u) i ≡ true → t ≡ u
   -- "no post is held by more trains than it has tracks"
-  pub posts : (p : ℕ) → p < l .posts → postHolders (l .trains) (locatedTold o) p ≤ tracksAt l p
+  pub posts : (p : ℕ) → p < l .posts → postHolders (l .trains) (locatedTold l o) p ≤ tracksAt l p
   -- an authority is for the move from the train's post to its next one, so that the section between them is one
   pub moves : (t p q : ℕ) → t < l .trains → o t .claim ≡ authority p q
       → (p ≡ o t .post) × (q ≡ nextTold l o t)
