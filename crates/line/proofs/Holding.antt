@@ -1,9 +1,12 @@
--- Laws of where a standing train is.
-use mathlib.Core.Path.{_≡_, refl}
-use mathlib.Core.Bool.{true, false, not, _&&_}
-use Prim.Native.Nat.{ℕ}
-use lib.Dec.{eqb}
-use borrow.Author.Tests.{eq-eqb}
+-- Laws of where a standing train is, and of the test whether it is stabled.
+use mathlib.Core.Path.{_≡_, refl, sym}
+use mathlib.Core.Logic.{_≢_}
+use mathlib.Core.Bool.{true, false, not, _&&_, and-false}
+use Prim.Native.Nat.{ℕ, _/_, _^_, _≤_, _<_}
+use native.Mathlib.Nat.{div-eq-of-lt, pow-le-pow-right}
+use native.Mathlib.Omega.{arith}
+use lib.Dec.{eqb, lit<}
+use borrow.Author.Tests.{eq-eqb, ne-eqb}
 use Rattle.common.specs.Bits.{bitAt}
 use Rattle.common.proofs.Tests.{by-cases}
 use Rattle.line.specs.Holding.{at, stabled, isStabled, standing, holdsPost, holdsSection}
@@ -32,3 +35,19 @@ module _ (sidings e : ℕ) where
   pub standing-stabled : bitAt sidings e ≡ true → standing sidings e e ≡ stabled
   unfolding standing
   standing-stabled h = rw (eq-eqb e e refl, h)
+
+-- ---- the test, as code works it out from a byte
+
+module _ (sidings e p : ℕ) where
+  pub short-of-end : p ≢ e → false ≡ isStabled sidings e p
+  short-of-end h = rw (ne-eqb p e h)
+
+  pub siding-at-end : p ≡ e → bitAt sidings p ≡ isStabled sidings e p
+  siding-at-end h = rw (eq-eqb p e h)
+
+  -- a byte has no bit for a number past the eight posts
+  pub past-the-posts : sidings < 256 → 8 ≤ p → false ≡ isStabled sidings e p
+  past-the-posts small h =
+      let top : 2 ^ 8 ≤ 2 ^ p = pow-le-pow-right {n = 2} (lit< tt) {i = 8} {j = p} h in
+      let none : sidings / 2 ^ p ≡ 0 = div-eq-of-lt (omega arith) in
+      rw none (sym (and-false (eqb p e)))

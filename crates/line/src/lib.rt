@@ -16,6 +16,7 @@ pub use route::between;
 pub use route::distance;
 pub use route::next_post;
 pub use route::section;
+pub use route::stabled;
 pub use sorts::PostNo;
 pub use sorts::SectionNo;
 pub use sorts::TrackNo;
