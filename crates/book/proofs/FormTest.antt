@@ -5,7 +5,7 @@ use Prim.Native.Nat.{ℕ, _≤_}
 use lib.Dec.{ltb}
 use borrow.Author.Tests.{le-ltb}
 use Rattle.line.specs.declared.line.Line.{Line}
-use Rattle.line.specs.Line.{wellFormed, postsInRange, tracksInRange, trainsInRange, routesOnLine}
+use Rattle.line.specs.Line.{wellFormed, postsInRange, tracksInRange, sidingsOnLine, trainsInRange, routesOnLine}
 
 -- a route that starts or ends off a line of n posts
 pub off-start : (a e n : ℕ) → n ≤ a → ltb a n && ltb e n ≡ false
@@ -26,10 +26,15 @@ module _ (l : Line) where
     tracks-fail e = rw (posts, e)
 
     module _ (tracks : tracksInRange l ≡ true) where
-      pub trains-fail : trainsInRange l ≡ false → false ≡ wellFormed l
+      pub sidings-fail : sidingsOnLine l ≡ false → false ≡ wellFormed l
       unfolding wellFormed
-      trains-fail e = rw (posts, tracks, e)
+      sidings-fail e = rw (posts, tracks, e)
 
-      pub routes-decide : trainsInRange l ≡ true → routesOnLine l ≡ wellFormed l
-      unfolding wellFormed
-      routes-decide trains = rw (posts, tracks, trains)
+      module _ (sidings : sidingsOnLine l ≡ true) where
+        pub trains-fail : trainsInRange l ≡ false → false ≡ wellFormed l
+        unfolding wellFormed
+        trains-fail e = rw (posts, tracks, sidings, e)
+
+        pub routes-decide : trainsInRange l ≡ true → routesOnLine l ≡ wellFormed l
+        unfolding wellFormed
+        routes-decide trains = rw (posts, tracks, sidings, trains)

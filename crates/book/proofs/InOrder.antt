@@ -12,12 +12,12 @@ use Rattle.common.proofs.Check.{passed-by, second-part, first-part, accepts, re
 use Rattle.line.specs.Refusal as number
 use Rattle.line.specs.declared.line.Line.{Line}
 use Rattle.line.specs.Line.{noRoute}
-use Rattle.line.specs.Book.{countAt, trainsAt, total, byteAt, postsOf, trainsIn, trainsOf, routeIn, lineIn}
-use Rattle.line.specs.Book.{postsChecks, tracksChecks, trainsChecks, routesChecks, bookChecks, acceptedBook, refusedBy}
-use Rattle.line.specs.Book.{readBook}
+use Rattle.line.specs.Book.{countAt, added, trainsAt, total, byteAt, postsOf, editionOf, sidingsOf, trainsIn, trainsOf}
+use Rattle.line.specs.Book.{routeIn, lineIn, postsChecks, tracksChecks, sidingsChecks, trainsChecks, routesChecks}
+use Rattle.line.specs.Book.{bookChecks, acceptedBook, refusedBy, readBook}
 use Rattle.line.proofs.WellFormed.{high, line-is}
-use Rattle.book.specs.Stages.{Stage, Passed, Stopped, stageOf, numberOf, postsStage, tracksStage, trainsStage}
-use Rattle.book.specs.Stages.{routesStage}
+use Rattle.book.specs.Stages.{Stage, Passed, Stopped, stageOf, numberOf, postsStage, tracksStage, sidingsStage}
+use Rattle.book.specs.Stages.{trainsStage, routesStage}
 
 -- ---- a stage, by its answer
 
@@ -46,8 +46,11 @@ module _ {s : Stage} (cs : List Check) (v : ℕ) (e : s ≡ stageOf cs v) where
 abbrev pub Left : List ℕ → List Check → Type 0
 Left b cs = refusal (bookChecks b) ≡ refusal cs
 
+abbrev pub afterSidings : List ℕ → List Check
+afterSidings b = trainsChecks b ++ routesChecks (lineIn b)
+
 abbrev pub afterTracks : List ℕ → List Check
-afterTracks b = trainsChecks b ++ routesChecks (lineIn b)
+afterTracks b = sidingsChecks (lineIn b) ++ afterSidings b
 
 abbrev pub afterPosts : List ℕ → List Check
 afterPosts b = tracksChecks (lineIn b) ++ afterTracks b
@@ -56,8 +59,13 @@ afterPosts b = tracksChecks (lineIn b) ++ afterTracks b
 pub record PostsRead (b : List ℕ) (n : ℕ) : Type 0 where
   pub is : n ≡ postsOf b
   pub few : n ≤ 8
-  pub room : trainsAt n < length b
+  pub room : trainsAt n (added (editionOf b)) < length b
   pub left : Left b (afterPosts b)
+
+-- the sidings s were read
+pub record SidingsRead (b : List ℕ) (s : ℕ) : Type 0 where
+  pub is : s ≡ sidingsOf b
+  pub left : Left b (afterSidings b)
 
 -- t trains were read, their number at place a
 pub record TrainsRead (b : List ℕ) (a t : ℕ) : Type 0 where
@@ -116,6 +124,18 @@ module _ (b : List ℕ) where
           posts .left ∙ second-part (tracksChecks (lineIn b)) (afterTracks b) refl (k .0)
 
     module _ (left : Left b (afterTracks b)) where
+      pub sidings-refused : {s : Stage} {m : ℕ} → s ≡ sidingsStage b → s ≡ Stopped m
+          → refusedBy (numberOf s) ≡ readBook b
+      unfolding sidingsStage
+      sidings-refused e p = stop-at (sidingsChecks (lineIn b)) (afterSidings b) _ left e p
+
+      pub sidings-read : {s : Stage} {m : ℕ} → s ≡ sidingsStage b → s ≡ Passed m → SidingsRead b m
+      unfolding sidingsStage
+      sidings-read e p =
+          let k = passed-of (sidingsChecks (lineIn b)) _ e p in
+          record { is = k .1; left = left ∙ second-part (sidingsChecks (lineIn b)) (afterSidings b) refl (k .0) }
+
+    module _ (left : Left b (afterSidings b)) where
       pub trains-refused : {s : Stage} {m : ℕ} → s ≡ trainsStage b → s ≡ Stopped m → refusedBy (numberOf s) ≡ readBook b
       unfolding trainsStage
       trains-refused e p = stop-at (trainsChecks b) (routesChecks (lineIn b)) _ left e p
@@ -138,13 +158,14 @@ module _ (b : List ℕ) where
           }
 
     -- a line that has all that the book says
-    module _ {a t : ℕ} (trains : TrainsRead b a t) (l : Line) (same : l .posts ≡ n)
-        (counts : l .tracks ≡ padded 8 n (λ p. byteAt b (countAt p)) 0)
+    module _ {s a t : ℕ} (sidings : SidingsRead b s) (trains : TrainsRead b a t) (l : Line) (same : l .posts ≡ n)
+        (counts : l .tracks ≡ padded 8 n (λ p. byteAt b (countAt p)) 0) (set : l .sidings ≡ s)
         (amount : l .trains ≡ t) (ends : l .routes ≡ padded 6 t (routeIn b a) noRoute) where
       line-same : l ≡ lineIn b
       line-same = line-is l (lineIn b)
           (rw (same, posts .is))
           (rw (counts, posts .is))
+          (rw (set, sidings .is))
           (rw (amount, trains .is))
           (rw (ends, trains .is, trains .place))
 

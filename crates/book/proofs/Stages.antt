@@ -12,9 +12,10 @@ use Rattle.common.proofs.Tests.{and-both}
 use Rattle.common.proofs.Check.{Refuses, none, stop, pass, refusal-is}
 use Rattle.line.specs.Refusal as number
 use Rattle.line.specs.declared.line.Line.{Line}
-use Rattle.line.specs.Line.{inRange, tracksInRange, routesOnLine}
-use Rattle.line.specs.Book.{versionAt, total, byteAt, namedLength, postsOf, trainsIn}
-use Rattle.book.specs.Stages.{Passed, Stopped, stageOf, postsStage, tracksStage, trainsStage, routesStage}
+use Rattle.line.specs.Line.{inRange, namesPosts, tracksInRange, routesOnLine}
+use Rattle.line.specs.Book.{total, byteAt, namedLength, postsOf, editionOf, sidingsOf, trainsIn}
+use Rattle.book.specs.Stages.{Passed, Stopped, stageOf, postsStage, tracksStage, sidingsStage, trainsStage}
+use Rattle.book.specs.Stages.{routesStage}
 
 passes : {cs : List Check} (v : ℕ) → Refuses cs 0 → Passed v ≡ stageOf cs v
 unfolding unlessRefused
@@ -39,14 +40,11 @@ module _ (b : List ℕ) where
     whole : leb 4 (length b) && eqb (namedLength b) (length b) ≡ true
     whole = and-both _ _ (le-leb 4 (length b) long) (eq-eqb (namedLength b) (length b) right)
 
-    pub posts-edition : byteAt b versionAt ≢ 1 → Stopped number.otherEdition ≡ postsStage b
+    pub posts-edition : inRange 1 2 (editionOf b) ≡ false → Stopped number.otherEdition ≡ postsStage b
     unfolding postsStage
-    posts-edition h = stops _ (pass whole (stop (ne-eqb (byteAt b versionAt) 1 h)))
+    posts-edition h = stops _ (pass whole (stop h))
 
-    module _ (first : byteAt b versionAt ≡ 1) where
-      edition : eqb (byteAt b versionAt) 1 ≡ true
-      edition = eq-eqb (byteAt b versionAt) 1 first
-
+    module _ (edition : inRange 1 2 (editionOf b) ≡ true) where
       pub posts-range : inRange 2 8 (postsOf b) ≡ false → Stopped number.posts ≡ postsStage b
       unfolding postsStage
       posts-range h = stops _ (pass whole (pass edition (stop h)))
@@ -72,6 +70,17 @@ module _ (l : Line) where
   pub tracks-passed : tracksInRange l ≡ true → Passed (l .posts) ≡ tracksStage l
   unfolding tracksStage
   tracks-passed h = passes _ (pass h none)
+
+-- ---- 23
+
+module _ (b : List ℕ) {n s : ℕ} (e : n ≡ postsOf b) (is : s ≡ sidingsOf b) where
+  pub sidings-off : namesPosts n s ≡ false → Stopped number.sidings ≡ sidingsStage b
+  unfolding sidingsStage
+  sidings-off h = stops _ (stop (rw (is, e) at h))
+
+  pub sidings-passed : namesPosts n s ≡ true → Passed s ≡ sidingsStage b
+  unfolding sidingsStage
+  sidings-passed h = rw is (passes _ (pass (rw (is, e) at h) none))
 
 -- ---- 17, 14
 

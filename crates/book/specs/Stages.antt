@@ -3,7 +3,8 @@ use mathlib.Core.List.{List}
 use Prim.Native.Nat.{ℕ}
 use Rattle.common.specs.Check.{Check, refusal, unlessRefused}
 use Rattle.line.specs.declared.line.Line.{Line}
-use Rattle.line.specs.Book.{postsOf, trainsOf, postsChecks, tracksChecks, trainsChecks, routesChecks}
+use Rattle.line.specs.Book.{postsOf, sidingsOf, trainsOf, lineIn, postsChecks, tracksChecks, sidingsChecks}
+use Rattle.line.specs.Book.{trainsChecks, routesChecks}
 pub use Rattle.book.specs.declared.reading.Stage.{Stage}
 pub use Rattle.book.specs.declared.reading.Stage.the-variants.{Passed, Stopped}
 
@@ -21,6 +22,9 @@ postsStage b = stageOf (postsChecks b) (postsOf b)
 
 unfoldable pub tracksStage : Line → Stage
 tracksStage l = stageOf (tracksChecks l) (l .posts)
+
+unfoldable pub sidingsStage : List ℕ → Stage
+sidingsStage b = stageOf (sidingsChecks (lineIn b)) (sidingsOf b)
 
 unfoldable pub trainsStage : List ℕ → Stage
 trainsStage b = stageOf (trainsChecks b) (trainsOf b)

@@ -1,7 +1,7 @@
 // Whether a line's numbers are in the ranges that a book gives them.
 ghost use mathlib.Core.Path.{_≡_};
 ghost use Prim.Native.Nat.{_≤_};
-ghost use Rattle.line.specs.Line.{tracksInRange, routesOnLine, wellFormed};
+ghost use Rattle.line.specs.Line.{tracksInRange, namesPosts, routesOnLine, wellFormed};
 use line::Line;
 
 // Places for posts from `posts` on and trains from `trains` on are not read.
@@ -15,6 +15,9 @@ pub fn well_formed(line: Line) -> bool
         return false;
     }
     if !tracks_in_range(line) {
+        return false;
+    }
+    if !sidings_on_line(line.posts, line.sidings) {
         return false;
     }
     if line.trains < 1 {
@@ -43,6 +46,14 @@ pub(crate) fn tracks_in_range(line: Line) -> bool
         p += 1;
     }
     true
+}
+
+// Whether a set of posts, each by its bit, names only posts of the line.
+pub(crate) fn sidings_on_line(posts: u8, sidings: u8) -> bool
+    requires { ⌜ posts ≤ 8 ⌝ }
+    ensures { λ r. ⌜ r ≡ namesPosts posts sidings ⌝ }
+{
+    (sidings as u32) < 1u32 << posts
 }
 
 // Whether every train starts and ends on the line.

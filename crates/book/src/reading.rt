@@ -1,14 +1,17 @@
 // Reading a line book. 01: "Book: a two-byte big-endian length (the bytes after it), version byte 1,
-// P, P track counts, T, then start and end of each train, one byte each."
+// P, P track counts, T, then start and end of each train, one byte each." 02, card 1: "Book edition 2
+// has one more byte after the track counts: the bit of value 2^i says that post i has a siding.
+// Edition 1 books have no sidings."
 ghost use mathlib.Core.Path.{_≡_};
 ghost use Prim.Native.Nat.{_≤_, _<_};
 ghost use lib.ListN.{length};
 ghost use Rattle.common.specs.Tabulate.{padded};
 ghost use Rattle.line.specs.Line.{noRoute, inRange};
-ghost use Rattle.line.specs.Book.{countAt, trainsAt, total, byteAt, trainsIn, routeIn, emptyLine, refusedBy};
-ghost use Rattle.line.specs.Book.{readBook, outcomeNumber};
-ghost use Rattle.book.specs.Stages.{numberOf, postsStage, tracksStage, trainsStage, routesStage};
+ghost use Rattle.line.specs.Book.{countAt, added, sidingsAt, trainsAt, total, byteAt, postsOf, sidingsOf, trainsIn};
+ghost use Rattle.line.specs.Book.{routeIn, emptyLine, refusedBy, readBook, outcomeNumber};
+ghost use Rattle.book.specs.Stages.{numberOf, postsStage, tracksStage, sidingsStage, trainsStage, routesStage};
 use crate::form::routes_on_line;
+use crate::form::sidings_on_line;
 use crate::form::tracks_in_range;
 use line::Line;
 use line::NO_ROUTE;
@@ -29,15 +32,17 @@ pub fn number_of(outcome: Outcome) -> u8
     }
 }
 
-// What a stage of the reading answers: how many posts, track counts, trains or routes it read, or
-// the number of the check that it stopped at.
+// What a stage of the reading answers: how many posts, track counts, trains or routes it read or the
+// siding byte, or else the number of the check that it stopped at.
 enum Stage {
     Passed(u8),
     Stopped(u8),
 }
 
-// The version of a book.
-const EDITION: u8 = 1;
+// The versions of a book. The first has no sidings.
+const FIRST_EDITION: u8 = 1;
+
+const LAST_EDITION: u8 = 2;
 
 // Where the version, the number of posts and the track counts stand.
 const VERSION_AT: usize = 2;
@@ -62,7 +67,12 @@ pub fn read(book: &[u8]) -> Reading
     let Stage::Passed(_) = counts else {
         return refused(counts);
     };
-    let at = trains_at(posts);
+    let named = read_sidings(book, posts);
+    let Stage::Passed(sidings) = named else {
+        return refused(named);
+    };
+    line.sidings = sidings;
+    let at = trains_at(posts, book[VERSION_AT]);
     let number = read_trains(book, at);
     let Stage::Passed(trains) = number else {
         return refused(number);
@@ -108,6 +118,7 @@ fn empty_line() -> Line
     Line {
         posts: 0,
         tracks: tracks,
+        sidings: 0,
         trains: 0,
         routes: routes,
     }
@@ -129,29 +140,40 @@ fn read_posts(book: &[u8]) -> Stage
     if word(book[0], book[1]) as usize + 2 != book.len() {
         return Stage::Stopped(refusal::TORN_BOOK);
     }
-    if book[VERSION_AT] != EDITION {
+    let edition = book[VERSION_AT];
+    if !in_range(FIRST_EDITION, LAST_EDITION, edition) {
         return Stage::Stopped(refusal::OTHER_EDITION);
     }
     let posts = book[POSTS_AT];
     if !in_range(2, 8, posts) {
         return Stage::Stopped(refusal::POSTS);
     }
-    if book.len() <= trains_at(posts) {
+    if book.len() <= trains_at(posts, edition) {
         return Stage::Stopped(refusal::TORN_BOOK);
     }
     Stage::Passed(posts)
 }
 
 // Where the number of trains stands.
-fn trains_at(posts: u8) -> usize
-    ensures { λ r. ⌜ r ≡ trainsAt posts ⌝ }
+fn trains_at(posts: u8, edition: u8) -> usize
+    ensures { λ r. ⌜ r ≡ trainsAt posts (added edition) ⌝ }
 {
-    COUNTS_AT + posts as usize
+    COUNTS_AT + posts as usize + added_by(edition)
+}
+
+// How many bytes an edition adds after the track counts.
+fn added_by(edition: u8) -> usize
+    ensures { λ r. ⌜ r ≡ added edition ⌝ }
+{
+    if edition == FIRST_EDITION {
+        return 0;
+    }
+    1
 }
 
 // The track counts of the posts; 0 at the other places.
 fn read_tracks(book: &[u8], posts: u8) -> [u8; 8]
-    requires { ⌜ (posts ≤ 8) × (trainsAt posts ≤ length (now book)) ⌝ }
+    requires { ⌜ (posts ≤ 8) × (sidingsAt posts ≤ length (now book)) ⌝ }
     ensures { λ r. ⌜ r ≡ padded 8 posts (λ p. byteAt (now (book .entry)) (countAt p)) 0 ⌝ }
 {
     let mut tracks = [0u8; 8];
@@ -172,6 +194,29 @@ fn check_tracks(line: Line) -> Stage
         return Stage::Stopped(refusal::TRACKS);
     }
     Stage::Passed(line.posts)
+}
+
+// Checks 23, and reads the siding byte.
+fn read_sidings(book: &[u8], posts: u8) -> Stage
+    requires { ⌜ (posts ≡ postsOf (now book)) × (posts ≤ 8) × (sidingsAt posts < length (now book)) ⌝ }
+    ensures { λ r. ⌜ r ≡ sidingsStage (now (book .entry)) ⌝ }
+{
+    let sidings = siding_byte(book, posts);
+    if !sidings_on_line(posts, sidings) {
+        return Stage::Stopped(refusal::SIDINGS);
+    }
+    Stage::Passed(sidings)
+}
+
+// The siding byte; 0 of the first edition, which has none.
+fn siding_byte(book: &[u8], posts: u8) -> u8
+    requires { ⌜ (posts ≡ postsOf (now book)) × (sidingsAt posts < length (now book)) ⌝ }
+    ensures { λ r. ⌜ r ≡ sidingsOf (now (book .entry)) ⌝ }
+{
+    if book[VERSION_AT] == FIRST_EDITION {
+        return 0;
+    }
+    book[COUNTS_AT + posts as usize]
 }
 
 // Checks 17 and 14, and reads the number of trains, which stands at `at`.

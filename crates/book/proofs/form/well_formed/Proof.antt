@@ -5,9 +5,9 @@ use native.Mathlib.Omega.{arith}
 use borrow.Author.Needs.{needs}
 use borrow.Author.Tests.{not-true, not-false}
 use Rattle.line.specs.declared.line.Line.{Line}
-use Rattle.line.specs.Line.{postsInRange, tracksInRange}
+use Rattle.line.specs.Line.{postsInRange, tracksInRange, sidingsOnLine}
 use Rattle.line.proofs.WellFormed.{ranged, below-range, above-range}
-use Rattle.book.proofs.FormTest.{posts-fail, tracks-fail, trains-fail, routes-decide}
+use Rattle.book.proofs.FormTest.{posts-fail, tracks-fail, sidings-fail, trains-fail, routes-decide}
 use Rattle.book.proofs.form.well_formed.Statement.{statement}
 use Rattle.book.proofs.form.well_formed.Tie as tie
 
@@ -35,16 +35,35 @@ module _ (c : tie.Else3) where
   tracks = sym (c .before .tracks-in-range .ensures) ∙ not-false _ (c .if3 .left)
 
 returns-4 : tie.Need-returns-4
-returns-4 c = let p = c .before .before in trains-fail (line p) (posts p) (tracks p) (below-range 1 6 _ (c .if4 .taken))
+returns-4 c =
+    let p = c .before .before in
+    let off = sym (c .before .sidings-on-line .ensures) ∙ not-true _ (c .if4 .taken) in
+    sidings-fail (line p) (posts p) (tracks p) off
+
+-- and sidings
+abbrev from-sidings : tie.Else4 → tie.Else3
+from-sidings c = c .before .before
+
+sidings : (c : tie.Else4) → sidingsOnLine (line (from-sidings c)) ≡ true
+sidings c = sym (c .before .sidings-on-line .ensures) ∙ not-false _ (c .if4 .left)
 
 returns-5 : tie.Need-returns-5
-returns-5 c = let p = c .before .before .before .before in trains-fail (line p) (posts p) (tracks p)
-    (above-range 1 6 _ (c .if5 .taken))
+returns-5 c =
+    let k = c .before .before in
+    let p = from-sidings k in
+    trains-fail (line p) (posts p) (tracks p) (sidings k) (below-range 1 6 _ (c .if5 .taken))
 
 returns-6 : tie.Need-returns-6
 returns-6 c =
-    let p = c .before .before .before .before .before in
-    c .routes-on-line .ensures ∙ routes-decide (line p) (posts p) (tracks p)
+    let k = c .before .before .before .before in
+    let p = from-sidings k in
+    trains-fail (line p) (posts p) (tracks p) (sidings k) (above-range 1 6 _ (c .if6 .taken))
+
+returns-7 : tie.Need-returns-7
+returns-7 c =
+    let k = c .before .before .before .before .before in
+    let p = from-sidings k in
+    c .routes-on-line .ensures ∙ routes-decide (line p) (posts p) (tracks p) (sidings k)
     (ranged 1 6 (line p .trains) (omega arith) (omega arith))
 
 pub well-formed-spec : {M : Type 1} → statement M
@@ -55,7 +74,9 @@ well-formed-spec =
     returns-2
     (λ c κs. search needs)
     returns-3
+    (λ c κs. search needs)
     returns-4
     returns-5
+    returns-6
     (λ c κs. search needs)
-    returns-6)
+    returns-7)

@@ -9,7 +9,7 @@ use denote.Ref.{now}
 use borrow.Author.Needs.{needs}
 use borrow.Author.Tests.{not-true, not-false}
 use Rattle.line.specs.Line.{inRange}
-use Rattle.line.specs.Book.{namedLength, postsOf}
+use Rattle.line.specs.Book.{namedLength, postsOf, editionOf}
 use Rattle.book.proofs.Stages.{posts-short, posts-torn, posts-edition, posts-range, posts-room, posts-passed}
 use Rattle.book.proofs.reading.read_posts.Statement.{statement}
 use Rattle.book.proofs.reading.read_posts.Tie as tie
@@ -24,12 +24,18 @@ long c = omega arith
 right : (c : tie.Else2) → namedLength (bookAt c) ≡ length (bookAt c)
 right c = omega arith
 
--- that place, from where the number of posts is in range
-abbrev from-range : tie.Else4 → tie.Else2
-from-range c = c .before .before .before .before .before
+-- that place, from where the edition is known; and this one, from where the number of posts is in range
+abbrev from-edition : tie.Else3 → tie.Else2
+from-edition c = c .before .before .before
 
-range : (c : tie.Else4) → inRange 2 8 (postsOf (bookAt (from-range c))) ≡ true
-range c = sym (c .before .in-range .ensures) ∙ not-false _ (c .if4 .left)
+edition : (c : tie.Else3) → inRange 1 2 (editionOf (bookAt (from-edition c))) ≡ true
+edition c = sym (c .before .in-range .ensures) ∙ not-false _ (c .if3 .left)
+
+abbrev from-range : tie.Else4 → tie.Else3
+from-range c = c .before .before .before
+
+range : (c : tie.Else4) → inRange 2 8 (postsOf (bookAt (from-edition (from-range c)))) ≡ true
+range c = sym (c .before .in-range2 .ensures) ∙ not-false _ (c .if4 .left)
 
 returns : tie.Need-returns
 returns c = posts-short _ (c .if1 .taken)
@@ -38,25 +44,28 @@ returns-2 : tie.Need-returns-2
 returns-2 c = posts-torn _ (λ e. c .if2 .taken (rw (c .before .word .ensures) e))
 
 returns-3 : tie.Need-returns-3
-returns-3 c = posts-edition _ (long (c .before .before)) (right (c .before .before)) (c .if3 .taken)
+returns-3 c =
+    let a = c .before .before .before in
+    posts-edition _ (long a) (right a) (sym (c .before .in-range .ensures) ∙ not-true _ (c .if3 .taken))
 
 returns-4 : tie.Need-returns-4
 returns-4 c =
-    let a = c .before .before .before .before .before in
-    let off = sym (c .before .in-range .ensures) ∙ not-true _ (c .if4 .taken) in
-    posts-range _ (long a) (right a) (c .before .before .before .if3 .left) off
+    let e = c .before .before .before in
+    let a = from-edition e in
+    let off = sym (c .before .in-range2 .ensures) ∙ not-true _ (c .if4 .taken) in
+    posts-range _ (long a) (right a) (edition e) off
 
 returns-5 : tie.Need-returns-5
 returns-5 c =
-    let e = c .before .before in
-    let a = from-range e in
-    posts-room _ (long a) (right a) (e .before .before .before .if3 .left) (range e) (omega arith)
+    let r = c .before .before in
+    let a = from-edition (from-range r) in
+    posts-room _ (long a) (right a) (edition (from-range r)) (range r) (omega arith)
 
 returns-6 : tie.Need-returns-6
 returns-6 c =
-    let e = c .before .before in
-    let a = from-range e in
-    posts-passed _ (long a) (right a) (e .before .before .before .if3 .left) (range e) (omega arith)
+    let r = c .before .before in
+    let a = from-edition (from-range r) in
+    posts-passed _ (long a) (right a) (edition (from-range r)) (range r) (omega arith)
 
 pub read-posts-spec : {M : Type 1} → statement M
 read-posts-spec =
@@ -70,6 +79,7 @@ read-posts-spec =
     (λ c. search needs)
     returns-2
     (λ c. search needs)
+    (λ c κs. search needs)
     returns-3
     (λ c. search needs)
     (λ c κs. search needs)

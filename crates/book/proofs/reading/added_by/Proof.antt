@@ -1,0 +1,14 @@
+-- `book::reading::added_by` meets its contract: its one test is that of the definition.
+use mathlib.Core.Path.{sym}
+use Rattle.line.proofs.Bytes.{added-first, added-later}
+use Rattle.book.proofs.reading.added_by.Statement.{statement}
+use Rattle.book.proofs.reading.added_by.Tie as tie
+
+returns : tie.Need-returns
+returns c = sym (added-first _ (c .if1 .taken))
+
+returns-2 : tie.Need-returns-2
+returns-2 c = sym (added-later _ (c .if1 .left))
+
+pub added-by-spec : {M : Type 1} → statement M
+added-by-spec = tie.close (tie.spec returns returns-2)
