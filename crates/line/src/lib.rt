@@ -3,6 +3,7 @@
 mod line;
 pub mod refusal;
 mod route;
+mod siding;
 mod sorts;
 pub mod word;
 
@@ -16,7 +17,8 @@ pub use route::between;
 pub use route::distance;
 pub use route::next_post;
 pub use route::section;
-pub use route::stabled;
+pub use siding::names_posts;
+pub use siding::stabled;
 pub use sorts::PostNo;
 pub use sorts::SectionNo;
 pub use sorts::TrackNo;

@@ -2,7 +2,6 @@
 ghost use mathlib.Core.Path.{_≡_};
 ghost use mathlib.Core.Bool.{_&&_};
 ghost use lib.Dec.{leb};
-ghost use Rattle.line.specs.Holding.{isStabled};
 ghost use Rattle.line.specs.Route.{nextPost, sectionOf, distance, between};
 use crate::sorts::PostNo;
 use crate::sorts::SectionNo;
@@ -66,18 +65,4 @@ fn in_order(a: PostNo, b: PostNo, c: PostNo) -> bool
     ensures { λ r. ⌜ r ≡ leb (a .0) (b .0) && leb (b .0) (c .0) ⌝ }
 {
     a.0 <= b.0 && b.0 <= c.0
-}
-
-// Whether a train that stands at post `at` is stabled: `at` is its end, and one of the posts with a
-// siding. A number past the eight posts has no bit in the set.
-pub fn stabled(sidings: u8, end: PostNo, at: PostNo) -> bool
-    ensures { λ r. ⌜ r ≡ isStabled sidings (end .0) (at .0) ⌝ }
-{
-    if at.0 != end.0 {
-        return false;
-    }
-    if 8 <= at.0 {
-        return false;
-    }
-    (sidings >> at.0) % 2 == 1
 }

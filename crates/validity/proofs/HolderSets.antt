@@ -15,7 +15,8 @@ use Rattle.common.specs.Bits.{setBelow}
 use Rattle.common.proofs.Bits.{ones-set, set-none, set-low, set-more}
 use Rattle.common.proofs.Tests.{by-equality}
 use Rattle.line.specs.Route.{sectionOf}
-use Rattle.line.specs.Holding.{holdsPost, holdsSection, postHolders, sectionHolders}
+use Rattle.line.specs.Holding.{isStabled, holdsPost, holdsSection, postHolders, sectionHolders}
+use Rattle.line.proofs.Holding.{standing-holds, standing-section}
 use Rattle.validity.specs.Types.{State, Holders}
 use Rattle.rules.specs.State.{isRunning, nextOf, trainOf, located}
 use Rattle.validity.specs.Holders.{HeldBy, Held}
@@ -82,19 +83,41 @@ module _ (s : State) (n : ℕ) (small : n < 6) (posts sections : List ℕ) (h : 
   abbrev here : ℕ
   here = trainOf s n .at .0
 
-  -- "Another train holds a track at its present post."
-  pub sets-standing : isRunning (trainOf s n .status) ≡ false → Sets s (n + 1) (stored posts here n) sections
-  sets-standing e = record {
-    eight-posts = stored-size posts here n ∙ h .eight-posts;
-    eight-sections = h .eight-sections;
-    held = record {
-      posts = λ p k.
-          stored-at posts here n (omega (arith, h .eight-posts)) small p
-          ∙ joined-more n (λ t. holdsPost (located s t) p) _ (h .held .posts p k) (eqb here p) (rw e);
-      sections = λ i k.
-          joined-more n (λ t. holdsSection (located s t) i) _ (h .held .sections i k) false (rw e);
-    };
-  }
+  abbrev end : ℕ
+  end = trainOf s n .route .end .0
+
+  module _ (e : isRunning (trainOf s n .status) ≡ false) where
+    no-section : (i : ℕ) → i < 8 → getD sections i 0 ≡ setBelow (n + 1) (λ t. holdsSection (located s t) i)
+    no-section i k =
+        joined-more n (λ t. holdsSection (located s t) i) _ (h .held .sections i k) false
+        (rw e (sym (standing-section (s .sidings) end here i)))
+
+    -- "Another train holds a track at its present post."
+    pub sets-standing : isStabled (s .sidings) end here ≡ false → Sets s (n + 1) (stored posts here n) sections
+    sets-standing away = record {
+      eight-posts = stored-size posts here n ∙ h .eight-posts;
+      eight-sections = h .eight-sections;
+      held = record {
+        posts = λ p k.
+            stored-at posts here n (omega (arith, h .eight-posts)) small p
+            ∙ joined-more n (λ t. holdsPost (located s t) p) _ (h .held .posts p k) (eqb here p)
+            (rw e (sym (standing-holds (s .sidings) end here p ∙ rw away)));
+        sections = no-section;
+      };
+    }
+
+    -- one that is stabled holds none
+    pub sets-stabled : isStabled (s .sidings) end here ≡ true → Sets s (n + 1) posts sections
+    sets-stabled away = record {
+      eight-posts = h .eight-posts;
+      eight-sections = h .eight-sections;
+      held = record {
+        posts = λ p k.
+            joined-more n (λ t. holdsPost (located s t) p) _ (h .held .posts p k) false
+            (rw e (sym (standing-holds (s .sidings) end here p ∙ rw away)));
+        sections = no-section;
+      };
+    }
 
   -- "A Running train, from its present post p to q, holds the section between them and a track at each of p and q."
   pub sets-running : isRunning (trainOf s n .status) ≡ true → (q i : ℕ) → q ≡ nextOf (trainOf s n) → q < 8

@@ -13,7 +13,8 @@ use Rattle.common.specs.Below.{allBelow}
 use Rattle.common.proofs.Tests.{same-test, and-left, and-right, and-both}
 use Rattle.common.proofs.Below.{all-below, below-all, all-cong}
 use Rattle.line.specs.Route.{between}
-use Rattle.line.specs.Line.{inRange, postsInRange, tracksInRange, trainsInRange, routesOnLine, wellFormed}
+use Rattle.line.specs.Line.{inRange, namesPosts, postsInRange, tracksInRange, sidingsOnLine, trainsInRange}
+use Rattle.line.specs.Line.{routesOnLine, wellFormed}
 use Rattle.line.proofs.Travel.{between-of}
 use Rattle.line.proofs.WellFormed.{high, ranged, below-range, above-range}
 use Rattle.journal.specs.Journal.{journalLength}
@@ -88,17 +89,19 @@ all-and n f g = same-test (allBelow n (λ k. f k && g k)) (allBelow n f && allBe
     let two = all-below n g (and-right (allBelow n f) (allBelow n g) e) in
     below-all n _ (λ k l. and-both (f k) (g k) (one k l) (two k l)))
 
--- a line of posts r, tracks k, trains t and routes o; trains v, sections s, posts p and numbers q, in two orders
-in-turn : (r k t o v s p q : Bool)
-    → r && (k && (t && o)) && v && s && p && q ≡ r && t && (o && v) && (k && (p && s)) && q
-in-turn false k t o v s p q = refl
-in-turn true k false o v s p q = rw (and-false k)
-in-turn true k true false v s p q = rw (and-false k)
-in-turn true false true true v s p q = rw (and-false v)
-in-turn true true true true false s p q = refl
-in-turn true true true true true false p q = rw (and-false p)
-in-turn true true true true true true false q = refl
-in-turn true true true true true true true q = refl
+-- a line of posts r, tracks k, sidings d, trains t and routes o; trains v, sections s, posts p and numbers q, in two
+-- orders
+in-turn : (r k d t o v s p q : Bool)
+    → r && (k && (d && (t && o))) && v && s && p && q ≡ (r && d && t) && (o && v) && (k && (p && s)) && q
+in-turn false k d t o v s p q = refl
+in-turn true k false t o v s p q = rw (and-false k)
+in-turn true k true false o v s p q = rw (and-false k)
+in-turn true k true true false v s p q = rw (and-false k)
+in-turn true false true true true v s p q = rw (and-false v)
+in-turn true true true true true false s p q = refl
+in-turn true true true true true true false p q = rw (and-false p)
+in-turn true true true true true true true false q = refl
+in-turn true true true true true true true true q = refl
 
 module _ (s : State) where
   trains-together : allBelow (s .trains) (λ t. recordValid (s .posts) (trainOf s t))
@@ -115,7 +118,7 @@ module _ (s : State) where
       ∙ ap (λ (b : Bool). tracksInRange (lineOf s) && b) (all-and (s .posts) _ _)
 
   abbrev counts : Bool
-  counts = countsValid (s .posts) (s .trains)
+  counts = countsValid (s .posts) (s .sidings) (s .trains)
 
   abbrev trains : Bool
   trains = allBelow (s .trains) (λ t. recordValid (s .posts) (trainOf s t))
@@ -129,7 +132,8 @@ module _ (s : State) where
   grouped : consistent s ≡ counts && trains && places && numbers
   unfolding consistent wellFormed
   grouped =
-      in-turn (postsInRange (lineOf s)) (tracksInRange (lineOf s)) (trainsInRange (lineOf s)) (routesOnLine (lineOf s))
+      in-turn (postsInRange (lineOf s)) (tracksInRange (lineOf s)) (sidingsOnLine (lineOf s))
+      (trainsInRange (lineOf s)) (routesOnLine (lineOf s))
       (allBelow (s .trains) (λ t. trainValid (trainOf s t))) (sectionsValid s) (postsValid s) numbers
       ∙ rw (trains-together, places-together)
 
@@ -138,10 +142,10 @@ module _ (s : State) where
 
   module _ (e : counts ≡ true) where
     pub eight-posts : s .posts ≤ 8
-    eight-posts = high 2 8 (s .posts) (and-left (inRange 2 8 (s .posts)) _ e)
+    eight-posts = high 2 8 (s .posts) (search (and-left, and-right))
 
     pub six-trains : s .trains ≤ 6
-    six-trains = high 1 6 (s .trains) (and-right (inRange 2 8 (s .posts)) _ e)
+    six-trains = high 1 6 (s .trains) (search (and-left, and-right))
 
     pub trains-fail : trains ≡ false → false ≡ consistent s
     trains-fail f = sym (grouped ∙ rw (e, f))

@@ -3,14 +3,15 @@ use mathlib.Core.Bool.{Bool, _&&_}
 use Prim.Native.Nat.{ℕ}
 use lib.Dec.{leb, ltb}
 use lib.ListN.{getD}
-use Rattle.line.specs.Line.{inRange}
+use Rattle.line.specs.Line.{inRange, namesPosts}
 use Rattle.line.specs.Holding.{postHolders, sectionHolders}
 use Rattle.rules.specs.State.{located}
 use Rattle.rules.specs.Valid.{trainValid}
 use Rattle.validity.specs.Types.{Route, Train, State}
 
-abbrev pub countsValid : ℕ → ℕ → Bool
-countsValid posts trains = inRange 2 8 posts && inRange 1 6 trains
+-- so many posts and trains, and sidings at posts of the line
+abbrev pub countsValid : ℕ → ℕ → ℕ → Bool
+countsValid posts sidings trains = inRange 2 8 posts && namesPosts posts sidings && inRange 1 6 trains
 
 -- a route on a line of so many posts
 abbrev pub onLine : ℕ → Route → Bool

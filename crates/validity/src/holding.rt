@@ -20,12 +20,14 @@ pub struct Holders {
 }
 
 // 01: "A Running train, from its present post p to q, holds the section between them and a track at
-// each of p and q. .. Another train holds a track at its present post."
+// each of p and q. .. Another train holds a track at its present post." 02, card 1: one that is
+// stabled holds none.
 pub fn holders_of(state: State) -> Holders
     requires { ⌜ (state .trains ≤ 6) × Placed state ⌝ }
     ensures { λ r. ⌜ Held state r ⌝ }
 {
     let fleet = state.fleet;
+    let sidings = state.sidings;
     let mut posts = [0u8; 8];
     let mut sections = [0u8; 8];
     let mut t: usize = 0;
@@ -35,13 +37,15 @@ pub fn holders_of(state: State) -> Holders
         t += 1;
         let status = train.status;
         let p = train.at.0 as usize;
-        posts[p] = posts[p] | own;
         if is_running(status) {
             let next = next_post(train);
             let q = next.0 as usize;
             let i = line::section(train.at, next).0 as usize;
+            posts[p] = posts[p] | own;
             posts[q] = posts[q] | own;
             sections[i] = sections[i] | own;
+        } else if !line::stabled(sidings, train.route.end, train.at) {
+            posts[p] = posts[p] | own;
         }
     }
     Holders { posts, sections }

@@ -33,7 +33,7 @@ pub fn valid(state: State) -> bool
 fn consistent(state: State) -> bool
     ensures { λ r. ⌜ r ≡ consistent state ⌝ }
 {
-    if !counts_valid(state.posts, state.trains) {
+    if !counts_valid(state.posts, state.sidings, state.trains) {
         return false;
     }
     if !trains_valid(state) {
@@ -45,14 +45,17 @@ fn consistent(state: State) -> bool
     numbers_valid(state)
 }
 
-// There are 2 to 8 posts and 1 to 6 trains.
-fn counts_valid(posts: u8, trains: u8) -> bool
-    ensures { λ r. ⌜ r ≡ countsValid posts trains ⌝ }
+// There are 2 to 8 posts, sidings at some of them, and 1 to 6 trains.
+fn counts_valid(posts: u8, sidings: u8, trains: u8) -> bool
+    ensures { λ r. ⌜ r ≡ countsValid posts sidings trains ⌝ }
 {
     if posts < 2 {
         return false;
     }
     if 8 < posts {
+        return false;
+    }
+    if !line::names_posts(posts, sidings) {
         return false;
     }
     1 <= trains && trains <= 6

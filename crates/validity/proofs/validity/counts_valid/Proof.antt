@@ -1,5 +1,9 @@
 -- `counts_valid` meets its contract: the first test that fails decides, and else the last.
-use borrow.Author.Tests.{le-leb, lt-leb}
+use mathlib.Core.Path.{_≡_, sym, _∙_}
+use mathlib.Core.Bool.{true}
+use borrow.Author.Needs.{needs}
+use borrow.Author.Tests.{le-leb, lt-leb, not-true, not-false}
+use Rattle.line.specs.Line.{inRange, namesPosts}
 use Rattle.line.proofs.WellFormed.{ranged, below-range, above-range}
 use Rattle.validity.proofs.validity.counts_valid.Statement.{statement}
 use Rattle.validity.proofs.validity.counts_valid.Tie as tie
@@ -10,17 +14,32 @@ returns c = rw (below-range 2 8 (c .before .args .posts) (c .if1 .taken))
 returns-2 : tie.Need-returns-2
 returns-2 c = rw (above-range 2 8 (c .before .before .args .posts) (c .if2 .taken))
 
+-- the posts are in their range
+module _ (c : tie.Else2) where
+  posts : inRange 2 8 (c .before .before .args .posts) ≡ true
+  posts = ranged 2 8 (c .before .before .args .posts) (c .before .if1 .left) (c .if2 .left)
+
 returns-3 : tie.Need-returns-3
 returns-3 c =
-    let a = c .before .before .before .args in
-    let posts = ranged 2 8 (a .posts) (c .before .before .if1 .left) (c .before .if2 .left) in
-    rw (posts, le-leb 1 (a .trains) (c .if3 .taken))
+    rw (posts (c .before .before), sym (c .before .names-posts .ensures) ∙ not-true _ (c .if3 .taken))
+
+-- and the sidings at some of them
+module _ (c : tie.Else3) where
+  abbrev sidings : tie.Else2
+  sidings = c .before .before
+
+  named : namesPosts (sidings .before .before .args .posts) (sidings .before .before .args .sidings) ≡ true
+  named = sym (c .before .names-posts .ensures) ∙ not-false _ (c .if3 .left)
 
 returns-4 : tie.Need-returns-4
 returns-4 c =
-    let a = c .before .before .before .args in
-    let posts = ranged 2 8 (a .posts) (c .before .before .if1 .left) (c .before .if2 .left) in
-    rw (posts, lt-leb 1 (a .trains) (c .if3 .left))
+    let e = c .before in
+    rw (posts (sidings e), named e, le-leb 1 (sidings e .before .before .args .trains) (c .if4 .taken))
+
+returns-5 : tie.Need-returns-5
+returns-5 c =
+    let e = c .before in
+    rw (posts (sidings e), named e, lt-leb 1 (sidings e .before .before .args .trains) (c .if4 .left))
 
 pub counts-valid-spec : {M : Type 1} → statement M
-counts-valid-spec = tie.close (tie.spec returns returns-2 returns-3 returns-4)
+counts-valid-spec = tie.close (tie.spec returns returns-2 (λ c κs. search needs) returns-3 returns-4 returns-5)

@@ -2,8 +2,8 @@
 use borrow.Author.Needs.{needs}
 use native.Mathlib.Omega.{arith}
 use Rattle.line.proofs.Holding.{short-of-end, past-the-posts, siding-at-end}
-use Rattle.line.proofs.route.stabled.Statement.{statement}
-use Rattle.line.proofs.route.stabled.Tie as tie
+use Rattle.line.proofs.siding.stabled.Statement.{statement}
+use Rattle.line.proofs.siding.stabled.Tie as tie
 
 returns : tie.Need-returns
 returns c = short-of-end _ _ _ (c .if1 .taken)
