@@ -2,3 +2,4 @@
 pub mod Examples
 pub mod Books
 pub mod Further
+pub mod Sidings

@@ -4,3 +4,4 @@ pub mod Reading
 pub mod Examples
 pub mod Books
 pub mod Further
+pub mod Sidings

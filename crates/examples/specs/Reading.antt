@@ -13,10 +13,11 @@ use Rattle.common.specs.Update.{update}
 use Rattle.line.specs.Route.{nextPost, between, postAfter}
 use Rattle.line.specs.Line.{wellFormed}
 use Rattle.line.specs.declared.line.Reading.{Reading}
-use Rattle.line.specs.Book.{lineIn, readBook, outcomeNumber}
+use Rattle.line.specs.Book.{added, lineIn, readBook, outcomeNumber}
+use Rattle.line.specs.Holding.{standing}
 use Rattle.frame.specs.Frame.{moveOf, messageOf, readFrame, bytesOf}
 use Rattle.journal.specs.Journal.{journalLength, blank, recordOf}
-use Rattle.completion.specs.Configuration.{codeBelow, within, fits, arrived, feasible}
+use Rattle.completion.specs.Configuration.{codeBelow, within, fits, arrived, feasible, freeTrack}
 use Rattle.completion.specs.Table.{tableLength, movesOn, completableBy, completableIn, tableOf}
 use Rattle.rules.specs.Valid.{consistent, valid}
 use Rattle.rules.specs.Granting.{grantable, oldest, grants}
@@ -43,7 +44,7 @@ am t p q = Am (moveOf t p q)
 -- ---- books read alone, and openings
 
 unfoldable pub readAlone : List ℕ → Reading
-unfolding readBook refusal unlessRefused valuesFrom padded allBelow
+unfolding readBook refusal unlessRefused valuesFrom padded allBelow added
 readAlone book = readBook book
 
 -- the number by which each is refused; 0 where it is read
@@ -53,8 +54,8 @@ numbersOf books = map (λ b. outcomeNumber (readAlone b .outcome)) books
 
 -- the opening of a book with blank stores
 unfoldable pub openedBlank : List ℕ → Opening
-unfolding openingWith refusal unlessRefused valuesFrom padded countBelow allBelow anyBelow setBelow postAfter
-    codeBelow within fits arrived feasible movesOn completableBy completableIn tableOf
+unfolding openingWith refusal unlessRefused valuesFrom padded countBelow allBelow anyBelow setBelow added postAfter
+    standing codeBelow within fits arrived feasible freeTrack movesOn completableBy completableIn tableOf
 openedBlank book = opening book (replicate tableLength 0) (replicate journalLength blank)
 
 -- the number by which a book is refused; 0 where it opens
@@ -66,7 +67,7 @@ refusalOf book = openedBlank book .number
 -- inputs put to a box in the state s, with a table and a journal
 unfoldable pub ranWith : State → List ℕ → List Record → List Input → Ran
 unfolding run answer refusal unlessRefused replaced accepted framesOf recordOf readFrame messageOf bytesOf valid
-    consistent wellFormed between nextPost countBelow allBelow grantable oldest grants update codeBelow
+    consistent wellFormed between nextPost standing countBelow allBelow grantable oldest grants update codeBelow
 ranWith s table journal inputs = run table s journal inputs
 
 -- a frame with a blank out buffer of 42 bytes
@@ -96,5 +97,5 @@ loggedRecords r = take (r .state .logged) (r .journal)
 
 -- what the observer has of train t
 unfoldable pub seenIn : List ℕ → Ran → ℕ → Seen
-unfolding padded valuesFrom observe noteAnswers update readFrames readFrame refusal unlessRefused messageOf
+unfolding padded valuesFrom added observe noteAnswers update readFrames readFrame refusal unlessRefused messageOf
 seenIn book r t = observe (atOpening (lineIn book)) (r .exchanges) t

@@ -86,6 +86,7 @@ pub fn empty_state() -> State
     State {
         posts: 0,
         tracks,
+        sidings: 0,
         trains: 0,
         fleet,
         logged: 0,
@@ -106,6 +107,7 @@ fn opened_state(line: Line) -> State
     State {
         posts: line.posts,
         tracks,
+        sidings: line.sidings,
         trains: line.trains,
         fleet,
         logged: 0,
