@@ -8,7 +8,7 @@ use Prim.Native.Nat.{ℕ, zero, suc, _+_, _*_, _/_, _%_, _≤_, _<_}
 use native.Mathlib.Omega.{arith}
 use lib.Dec.{leb, ltb}
 use lib.ListN.{length, getD, drop, length-append, length-drop, List·getD-append}
-use lib.Seq.{drop-cons, getD-drop, getD-at, getD-append-add}
+use lib.Seq.{drop-cons, getD-drop, getD-append-add}
 use borrow.Author.Tests.{leb-true, ltb-true, eqb-true, le-leb, lt-ltb, eq-eqb, ne-eqb}
 use Rattle.common.specs.Check.{refusal, unlessRefused}
 use Rattle.common.specs.Tabulate.{tabulate}
@@ -251,7 +251,8 @@ module _ (v : ℕ) (l : Line) where
     passes-back : refusal (bookChecks (bookBytes v l)) ≡ 0
     unfolding bookBytes bodyOf
     passes-back =
-        let whole = length-bytes ∙ ap (λ (m : Line). total (trainsAt (m .posts) (added v)) (m .trains)) (sym line-back) in
+        let whole = length-bytes
+        ∙ ap (λ (m : Line). total (trainsAt (m .posts) (added v)) (m .trains)) (sym line-back) in
         all-pass (bookBytes v l) length-field (says .known) (rw line-back well) whole
 
     read-back : readBook (bookBytes v l) ≡ acceptedBook l

@@ -1,14 +1,20 @@
--- What is shown of the line book, beside the contract of `book::read`. `proofs/Claims.antt` has the proofs.
+-- What is shown of the line book, beside the contract of `book::read`, and of sidings. `proofs/Claims.antt` and
+-- `proofs/Sidings.antt` have the proofs.
 use mathlib.Core.Path.{_≡_}
 use mathlib.Core.Logic.{_≢_}
-use mathlib.Core.Bool.{true}
+use mathlib.Core.Bool.{true, false}
 use mathlib.Core.List.{List}
 use Prim.Native.Nat.{ℕ, _≤_}
 use lib.ListN.{length}
+use Rattle.common.specs.Bits.{bitAt}
+use Rattle.common.specs.Check.{refusal}
 use Rattle.line.specs.Refusal as number
 use Rattle.line.specs.Sorts.{Line}
-use Rattle.line.specs.Line.{noRoute, routeOf, tracksAt, inRange, wellFormed}
-use Rattle.line.specs.Book.{added, trainsAt, total, editionOf, acceptedBook, readBook, outcomeNumber, bookBytes}
+use Rattle.line.specs.Line.{noRoute, routeOf, tracksAt, inRange, namesPosts, tracksInRange, sidingsOnLine}
+use Rattle.line.specs.Line.{wellFormed}
+use Rattle.line.specs.Book.{trainsAt, total, editionOf, lineIn, postsChecks, acceptedBook, readBook}
+use Rattle.line.specs.Book.{outcomeNumber, bookBytes}
+use Rattle.line.specs.Holding.{standing, holdsPost}
 
 -- a line whose places for posts from P on and trains from T on are 0
 pub record Padded (l : Line) : Type 0 where
@@ -44,3 +50,19 @@ pub record LineBook : Type 0 where
   pub not-2 : (b : List ℕ) → outcomeNumber (readBook b .outcome) ≢ number.shortStore
   pub not-19 : (b : List ℕ) → outcomeNumber (readBook b .outcome) ≢ number.overfull
   pub not-20 : (b : List ℕ) → outcomeNumber (readBook b .outcome) ≢ number.noWayThrough
+
+-- which siding bytes a line of n posts can have, and which trains a siding frees of their track
+pub record Sidings : Type 0 where
+  -- "the byte names a post not in the line": one that passes has no bit from n on, and one without such a bit passes
+  pub only-posts : (n set : ℕ) → namesPosts n set ≡ true → (p : ℕ) → n ≤ p → bitAt set p ≡ false
+  pub all-posts : (n set : ℕ) → ((p : ℕ) → n ≤ p → bitAt set p ≡ false) → namesPosts n set ≡ true
+  -- 23 "stands directly after 16": once the checks up to the number of posts pass, 16 comes first, and then 23
+  pub tracks-first : (b : List ℕ) → refusal (postsChecks b) ≡ 0 → tracksInRange (lineIn b) ≡ false
+      → outcomeNumber (readBook b .outcome) ≡ number.tracks
+  pub then-sidings : (b : List ℕ) → refusal (postsChecks b) ≡ 0 → tracksInRange (lineIn b) ≡ true
+      → sidingsOnLine (lineIn b) ≡ false → outcomeNumber (readBook b .outcome) ≡ number.sidings
+  -- "A train standing at its end there holds no track."
+  pub put-away : (set e : ℕ) → bitAt set e ≡ true → (x : ℕ) → holdsPost (standing set e e) x ≡ false
+  -- "Another train holds a track at its present post.": short of its end, and where there is no siding
+  pub short-of-end : (set e p : ℕ) → p ≢ e → holdsPost (standing set e p) p ≡ true
+  pub no-siding : (set e p : ℕ) → bitAt set p ≡ false → holdsPost (standing set e p) p ≡ true

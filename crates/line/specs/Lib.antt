@@ -4,5 +4,5 @@ pub mod Sorts
 pub mod Route
 pub mod Line
 pub mod Book
-pub mod Claims
 pub mod Holding
+pub mod Claims

@@ -1,5 +1,6 @@
 -- Each claim, by its proof.
 use Rattle.line.proofs.Claims.{line-book}
+use Rattle.line.proofs.Sidings.{sidings}
 use Rattle.frame.proofs.RoundTrip.{round-trip as frames-read-back}
 use Rattle.journal.proofs.Records.{logged-as-sent}
 use Rattle.journal.proofs.Appended.{only-appended}
@@ -34,6 +35,7 @@ use Rattle.promises.specs.Claims.{Parts, Cab, OneFrame, WholeLists, InUs
 pub parts : Parts
 parts = record {
   book = line-book;
+  sidings = sidings;
   frames = frames-read-back;
   records = logged-as-sent;
   appended = only-appended;

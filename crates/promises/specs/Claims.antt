@@ -1,5 +1,5 @@
 -- Each claim over the definitions that the contracts cite, by name. It is stated in the file that its `use` line names.
-use Rattle.line.specs.Claims.{LineBook}
+use Rattle.line.specs.Claims.{LineBook, Sidings}
 use Rattle.frame.specs.RoundTrip.{FramesReadBack}
 use Rattle.journal.specs.Journal.{LoggedAsSent, OnlyAppended}
 use Rattle.completion.specs.Configuration.{StartAndEnd}
@@ -31,6 +31,8 @@ use Rattle.examples.specs.Further.{OlderThen, Stores, FullPost, Parked, SixTrai
 pub record Parts : Type 0 where
   -- a book is read as one line or refused, and only the bytes of a line are read as it
   pub book : LineBook
+  -- which siding bytes are read; a train at its end in a siding holds no track, and every other train one
+  pub sidings : Sidings
   -- demand 2: frames read back as written, and only such frames are read
   pub frames : FramesReadBack
   -- a record has the bytes of its frame; appending touches no other record
