@@ -30,6 +30,7 @@ use Rattle.console.proofs.Transcript.{transcribes}
 use Rattle.examples.proofs.Examples.{examples, printed-run}
 use Rattle.examples.proofs.Books.{books}
 use Rattle.examples.proofs.Further.{older-then, stores, full-post, parked, six-trains, both-home, precedence}
+use Rattle.examples.proofs.Sidings.{siding-byte, still-needs-a-track, put-away, siding-state}
 use Rattle.promises.specs.Claims.{Parts, Cab, OneFrame, WholeLists, InUse, Evaluated}
 
 pub parts : Parts
@@ -95,4 +96,8 @@ evaluated = record {
   six-trains = six-trains;
   both-home = both-home;
   precedence = precedence;
+  siding-byte = siding-byte;
+  still-needs-a-track = still-needs-a-track;
+  put-away = put-away;
+  siding-state = siding-state;
 }

@@ -26,6 +26,7 @@ use Rattle.console.specs.Transcript.{Transcribes}
 use Rattle.examples.specs.Examples.{Examples, PrintedRun}
 use Rattle.examples.specs.Books.{Books}
 use Rattle.examples.specs.Further.{OlderThen, Stores, FullPost, Parked, SixTrains, BothHome, Precedence}
+use Rattle.examples.specs.Sidings.{SidingByte, StillNeedsATrack, PutAway, SidingState}
 
 -- any book, frame, record, table
 pub record Parts : Type 0 where
@@ -106,3 +107,7 @@ pub record Evaluated : Type 0 where
   pub six-trains : SixTrains
   pub both-home : BothHome
   pub precedence : Precedence
+  pub siding-byte : SidingByte
+  pub still-needs-a-track : StillNeedsATrack
+  pub put-away : PutAway
+  pub siding-state : SidingState
