@@ -9,9 +9,9 @@ use lib.Seq.{length-take-le, getD-append-add, getD-drop, getD-set-same, getD-set
 use Rattle.common.specs.Part.{replaced, replacedIfRoom}
 use Rattle.common.proofs.Part.{length-replaced, replaced-if, replaced-before}
 use Rattle.common.proofs.Tests.{by-order, by-equality}
-use Rattle.encoding.specs.Parts.{headBytes, postsByte, tracksByte, trainsByte, headLength}
+use Rattle.encoding.specs.Parts.{headBytes, postsByte, tracksByte, sidingsByte, trainsByte, headLength}
 use Rattle.encoding.proofs.Parts.{At, same-place}
-use Rattle.encoding.proofs.Fields.{head-length, posts-at, tracks-at, trains-at}
+use Rattle.encoding.proofs.Fields.{head-length, posts-at, tracks-at, sidings-at, trains-at}
 
 -- ---- a list with a part replaced, byte by byte
 
@@ -108,23 +108,26 @@ begun e {s} {b} {p} size is y h n q =
 
 -- ---- the head
 
-module _ (posts : ℕ) (tracks : List ℕ) (trains : ℕ) (eight : length tracks ≡ 8) where
-  -- as the code writes it: a byte, the tracks at once, a byte
+module _ (posts : ℕ) (tracks : List ℕ) (sidings trains : ℕ) (eight : length tracks ≡ 8) where
+  -- as the code writes it: a byte, the tracks at once, two bytes
   pub head-put : (s : List ℕ) {after : List ℕ} → headLength ≤ length s
       → after ≡ replacedIfRoom (set s postsByte posts) tracksByte tracks
-      → set after trainsByte trains ≡ replaced s 0 (headBytes posts tracks trains)
+      → set (set after sidingsByte sidings) trainsByte trains ≡ replaced s 0 (headBytes posts tracks sidings trains)
   head-put s {after} room e =
-      let head = headBytes posts tracks trains in
-      let ten = head-length posts tracks trains eight in
+      let head = headBytes posts tracks sidings trains in
+      let eleven = head-length posts tracks sidings trains eight in
       let b = replaced s 0 head in
       let size : length b ≡ length s = length-replaced s 0 head (omega arith) in
       let there : At b 0 head = replaced-at s 0 head (omega arith) in
-      let first = posts-at posts tracks trains eight there .byte 0 (omega arith) in
-      let last = trains-at posts tracks trains eight there .byte 0 (omega arith) in
+      let first = posts-at posts tracks sidings trains eight there .byte 0 (omega arith) in
+      let next = sidings-at posts tracks sidings trains eight there .byte 0 (omega arith) in
+      let last = trains-at posts tracks sidings trains eight there .byte 0 (omega arith) in
       let one = byte-more (none-filled {s = s} {b = b} (sym size)) posts first (omega arith) in
       let nine =
-      part-more one (tracks-at posts tracks trains eight there) refl e (omega arith) trainsByte (omega arith) in
-      let all = byte-more nine trains last (omega arith) in
-      ext-getD 0 (set after trainsByte trains) b (all .size)
+      part-more one (tracks-at posts tracks sidings trains eight there) refl e (omega arith) sidingsByte
+      (omega arith) in
+      let ten = byte-more nine sidings next (omega arith) in
+      let all = byte-more ten trains last (omega arith) in
+      ext-getD 0 (set (set after sidingsByte sidings) trainsByte trains) b (all .size)
       (λ k h. by-order k headLength (all .first k)
       (λ l. all .rest k l ∙ sym (replaced-after s 0 head (omega arith) k (omega arith))))

@@ -1,4 +1,4 @@
-// The first ten bytes of a line and of a state: posts, tracks of posts 0 to 7, trains.
+// The first eleven bytes of a line and of a state: posts, tracks of posts 0 to 7, sidings, trains.
 ghost use mathlib.Core.Path.{_≡_};
 ghost use Prim.Native.Nat.{_≤_};
 ghost use lib.ListN.{length};
@@ -11,16 +11,19 @@ pub const POSTS_AT: usize = 0;
 
 pub const TRACKS_AT: usize = POSTS_AT + 1;
 
-pub const TRAINS_AT: usize = TRACKS_AT + 8;
+pub const SIDINGS_AT: usize = TRACKS_AT + 8;
+
+pub const TRAINS_AT: usize = SIDINGS_AT + 1;
 
 pub const HEAD_LENGTH: usize = TRAINS_AT + 1;
 
 // Writes them to the beginning of `to`.
-pub fn put_head(posts: u8, tracks: [u8; 8], trains: u8, to: &mut [u8])
+pub fn put_head(posts: u8, tracks: [u8; 8], sidings: u8, trains: u8, to: &mut [u8])
     requires { ⌜ headLength ≤ length (now to) ⌝ }
-    ensures { λ _. ⌜ now (to .exit) ≡ replaced (now (to .entry)) 0 (headBytes posts tracks trains) ⌝ }
+    ensures { λ _. ⌜ now (to .exit) ≡ replaced (now (to .entry)) 0 (headBytes posts tracks sidings trains) ⌝ }
 {
     to[POSTS_AT] = posts;
     put(&tracks, to, TRACKS_AT);
+    to[SIDINGS_AT] = sidings;
     to[TRAINS_AT] = trains;
 }

@@ -1,4 +1,4 @@
-// A line as 22 bytes.
+// A line as 23 bytes.
 ghost use mathlib.Core.Path.{_≡_};
 ghost use lib.ListN.{length};
 ghost use Rattle.encoding.specs.LineBytes.{lineLength, routeEnds, lineBytes};
@@ -13,13 +13,13 @@ pub const ROUTE_LENGTH: usize = 2;
 
 pub const LINE_LENGTH: usize = HEAD_LENGTH + ROUTE_LENGTH * 6;
 
-// Writes the 22 bytes of a line.
+// Writes the 23 bytes of a line.
 pub fn put_line(line: Line, to: &mut [u8])
     requires { ⌜ length (now to) ≡ lineLength ⌝ }
     ensures { λ _. ⌜ now (to .exit) ≡ lineBytes line ⌝ }
 {
     let tracks = line.tracks;
-    put_head(line.posts, tracks, line.trains, to);
+    put_head(line.posts, tracks, line.sidings, line.trains, to);
     let mut t: usize = 0;
     while t < 6 {
         let bytes = route_ends(line.routes[t]);

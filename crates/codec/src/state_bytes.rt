@@ -1,4 +1,4 @@
-// A state as 41 bytes: which bytes encode one, reading it and writing it.
+// A state as 42 bytes: which bytes encode one, reading it and writing it.
 ghost use mathlib.Core.Path.{_≡_};
 ghost use Prim.Native.Nat.{_+_, _≤_};
 ghost use lib.ListN.{length};
@@ -7,6 +7,7 @@ ghost use Rattle.encoding.specs.StateBytes.{standingBytes, trainLength, trainBy
 ghost use Rattle.encoding.specs.StateBytes.{encodesStatus, encodesState, statusOf, trainIn, tracksIn, fleetIn, stateIn};
 use crate::head_bytes::HEAD_LENGTH;
 use crate::head_bytes::POSTS_AT;
+use crate::head_bytes::SIDINGS_AT;
 use crate::head_bytes::TRACKS_AT;
 use crate::head_bytes::TRAINS_AT;
 use crate::head_bytes::put_head;
@@ -69,6 +70,7 @@ pub fn state_in(bytes: &[u8]) -> State
     State {
         posts: bytes[POSTS_AT],
         tracks,
+        sidings: bytes[SIDINGS_AT],
         trains: bytes[TRAINS_AT],
         fleet,
         logged: bytes[LOGGED_AT],
@@ -127,13 +129,13 @@ fn status_of(status: u8, number: u8) -> Status
     }
 }
 
-// Writes the 41 bytes of a state.
+// Writes the 42 bytes of a state.
 pub fn put_state(state: State, to: &mut [u8])
     requires { ⌜ length (now to) ≡ stateLength ⌝ }
     ensures { λ _. ⌜ now (to .exit) ≡ stateBytes state ⌝ }
 {
     let tracks = state.tracks;
-    put_head(state.posts, tracks, state.trains, to);
+    put_head(state.posts, tracks, state.sidings, state.trains, to);
     let mut t: usize = 0;
     while t < 6 {
         let bytes = train_bytes(state.fleet[t]);

@@ -7,8 +7,8 @@ use lib.ListN.{length, getD, length-append}
 use Rattle.line.specs.Line.{routeOf, noRoute}
 use Rattle.rules.specs.State.{trainOf, noTrain}
 use Rattle.encoding.specs.Types.{Line, State}
-use Rattle.encoding.specs.Parts.{joined, each, headParts, headBytes, postsByte, tracksByte, trainsByte}
-use Rattle.encoding.specs.Parts.{headLength}
+use Rattle.encoding.specs.Parts.{joined, each, headParts, headBytes, postsByte, tracksByte, sidingsByte}
+use Rattle.encoding.specs.Parts.{trainsByte, headLength}
 use Rattle.encoding.specs.LineBytes.{lineLength, routeLength, routeEnds, routeAt, lineParts, lineBytes}
 use Rattle.encoding.specs.StateBytes.{stateLength, trainLength, standingBytes, trainBytes, trainAt, loggedAt}
 use Rattle.encoding.specs.StateBytes.{stateParts, stateBytes}
@@ -16,17 +16,17 @@ use Rattle.encoding.proofs.Parts.{At, AllAt, same-place, bytes-at, with
 
 -- ---- the head
 
-module _ (posts : ℕ) (tracks : List ℕ) (trains : ℕ) (eight : length tracks ≡ 8) where
+module _ (posts : ℕ) (tracks : List ℕ) (sidings trains : ℕ) (eight : length tracks ≡ 8) where
   abbrev head : List ℕ
-  head = headBytes posts tracks trains
+  head = headBytes posts tracks sidings trains
 
   pub head-length : length head ≡ headLength
   unfolding headBytes joined
   head-length = simp length-append (omega arith)
 
-  head-parts : AllAt head 0 (headParts posts tracks trains)
+  head-parts : AllAt head 0 (headParts posts tracks sidings trains)
   unfolding headBytes
-  head-parts = joined-at (headParts posts tracks trains)
+  head-parts = joined-at (headParts posts tracks sidings trains)
 
   -- in bytes that begin with it
   module _ {b : List ℕ} (a : At b 0 head) where
@@ -36,14 +36,17 @@ module _ (posts : ℕ) (tracks : List ℕ) (trains : ℕ) (eight : length tracks
     pub tracks-at : At b tracksByte tracks
     tracks-at = within a (head-parts .1 .0) (omega (arith, head-length)) refl
 
+    pub sidings-at : At b sidingsByte (sidings ∷ [])
+    sidings-at = within a (head-parts .1 .1 .0) (omega (arith, head-length)) (omega arith)
+
     pub trains-at : At b trainsByte (trains ∷ [])
-    trains-at = within a (head-parts .1 .1 .0) (omega (arith, head-length)) (omega arith)
+    trains-at = within a (head-parts .1 .1 .1 .0) (omega (arith, head-length)) (omega arith)
 
 -- ---- a line
 
 module _ (l : Line) (eight : length (l .tracks) ≡ 8) (six : length (l .routes) ≡ 6) where
-  line-head-length : length (headBytes (l .posts) (l .tracks) (l .trains)) ≡ headLength
-  line-head-length = head-length (l .posts) (l .tracks) (l .trains) eight
+  line-head-length : length (headBytes (l .posts) (l .tracks) (l .sidings) (l .trains)) ≡ headLength
+  line-head-length = head-length (l .posts) (l .tracks) (l .sidings) (l .trains) eight
 
   routes-length : length (each routeEnds (l .routes)) ≡ routeLength * 6
   routes-length = length-each routeEnds routeLength (λ r. refl) (l .routes) ∙ ap (λ (n : ℕ). routeLength * n) six
@@ -56,7 +59,7 @@ module _ (l : Line) (eight : length (l .tracks) ≡ 8) (six : length (l .routes)
   unfolding lineBytes joined
   line-length = simp length-append (omega (arith, line-head-length, routes-length))
 
-  pub line-head : At (lineBytes l) 0 (headBytes (l .posts) (l .tracks) (l .trains))
+  pub line-head : At (lineBytes l) 0 (headBytes (l .posts) (l .tracks) (l .sidings) (l .trains))
   line-head = line-parts .0
 
   pub at-route : (t : ℕ) → t < 6 → At (lineBytes l) (routeAt t) (routeEnds (routeOf l t))
@@ -67,8 +70,8 @@ module _ (l : Line) (eight : length (l .tracks) ≡ 8) (six : length (l .routes)
 -- ---- a state
 
 module _ (s : State) (eight : length (s .tracks) ≡ 8) (six : length (s .fleet) ≡ 6) where
-  pub state-head-length : length (headBytes (s .posts) (s .tracks) (s .trains)) ≡ headLength
-  state-head-length = head-length (s .posts) (s .tracks) (s .trains) eight
+  pub state-head-length : length (headBytes (s .posts) (s .tracks) (s .sidings) (s .trains)) ≡ headLength
+  state-head-length = head-length (s .posts) (s .tracks) (s .sidings) (s .trains) eight
 
   pub fleet-length : length (each trainBytes (s .fleet)) ≡ trainLength * 6
   fleet-length = length-each trainBytes trainLength (λ x. refl) (s .fleet) ∙ ap (λ (n : ℕ). trainLength * n) six
@@ -81,7 +84,7 @@ module _ (s : State) (eight : length (s .tracks) ≡ 8) (six : length (s .fleet)
   unfolding stateBytes joined
   state-length = simp length-append (omega (arith, state-head-length, fleet-length))
 
-  pub state-head : At (stateBytes s) 0 (headBytes (s .posts) (s .tracks) (s .trains))
+  pub state-head : At (stateBytes s) 0 (headBytes (s .posts) (s .tracks) (s .sidings) (s .trains))
   state-head = state-parts .0
 
   pub at-train : (t : ℕ) → t < 6 → At (stateBytes s) (trainAt t) (trainBytes (trainOf s t))

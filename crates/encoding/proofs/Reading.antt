@@ -47,12 +47,20 @@ module _ (b : List ℕ) where
   pub six : length (read .fleet) ≡ 6
   six = length-tabulate 6 _
 
-  pub head-stands : At b 0 (headBytes (read .posts) (read .tracks) (read .trains))
+  pub head-stands : At b 0 (headBytes (read .posts) (read .tracks) (read .sidings) (read .trains))
   unfolding headBytes
   head-stands =
       let tracks : At b tracksByte (read .tracks) = record { byte = λ j l. at-tabulate 8 _ j 0 (rw eight at l) } in
-      at-joined (headParts (read .posts) (read .tracks) (read .trains))
-      (bytes-at (refl, tt), (tracks, (bytes-at (same-place b (omega (arith, eight)), tt), tt)))
+      at-joined (headParts (read .posts) (read .tracks) (read .sidings) (read .trains)) (
+        bytes-at (refl, tt),
+        (
+          tracks,
+          (
+            bytes-at (same-place b (omega (arith, eight)), tt),
+            (bytes-at (same-place b (omega (arith, eight)), tt), tt),
+          ),
+        ),
+      )
 
   route-stands : (t : ℕ) → t < 6 → At b (trainAt t) (routeEnds (trainOf read t .route))
   route-stands t h = rw (at-tabulate 6 (λ u. trainIn b (trainAt u)) t noTrain h) (bytes-at (rw add-zero, (refl, tt)))
@@ -67,8 +75,9 @@ module _ (b : List ℕ) where
 
   -- where the line that is read is that of s, its bytes are there
   module _ (s : State) (same : lineOf read ≡ lineOf s) where
-    pub head-kept : At b 0 (headBytes (s .posts) (s .tracks) (s .trains))
-    head-kept = subst (λ (l : Line). At b 0 (headBytes (l .posts) (l .tracks) (l .trains))) same head-stands
+    pub head-kept : At b 0 (headBytes (s .posts) (s .tracks) (s .sidings) (s .trains))
+    head-kept =
+        subst (λ (l : Line). At b 0 (headBytes (l .posts) (l .tracks) (l .sidings) (l .trains))) same head-stands
 
     pub route-kept : (t : ℕ) → t < 6 → At b (trainAt t) (routeEnds (trainOf s t .route))
     route-kept t h =

@@ -31,8 +31,8 @@ use Rattle.encoding.proofs.Parts.{At, same-place, bytes-at, within, joi
 use Rattle.encoding.proofs.Parts.{length-each, each-at}
 use Rattle.encoding.proofs.Units as units
 use Rattle.encoding.proofs.Statuses.{encoded-length, by-trains}
-use Rattle.encoding.proofs.Fields.{posts-at, tracks-at, trains-at, state-head-length, fleet-length}
-use Rattle.encoding.proofs.Fields.{state-length, state-head, at-train, at-logged}
+use Rattle.encoding.proofs.Fields.{posts-at, tracks-at, sidings-at, trains-at, state-head-length}
+use Rattle.encoding.proofs.Fields.{fleet-length, state-length, state-head, at-train, at-logged}
 use Rattle.encoding.proofs.Reading.{eight, six, head-stands, fleet-stands}
 use Rattle.encoding.proofs.Journals.{own-records, length-with}
 
@@ -118,12 +118,12 @@ module _ (s : State) (shaped : Shaped s) where
   abbrev bytes : List ℕ
   bytes = stateBytes s
 
-  begins : At bytes 0 (headBytes (s .posts) (s .tracks) (s .trains))
+  begins : At bytes 0 (headBytes (s .posts) (s .tracks) (s .sidings) (s .trains))
   begins = state-head s (shaped .eight) (shaped .six)
 
   tracks-back : tracksIn bytes ≡ s .tracks
   tracks-back =
-      let at = tracks-at (s .posts) (s .tracks) (s .trains) (shaped .eight) begins in
+      let at = tracks-at (s .posts) (s .tracks) (s .sidings) (s .trains) (shaped .eight) begins in
       tabulate-cong 8 _ (λ p. getD (s .tracks) p 0) (λ p h. sym (at .byte p (omega (arith, shaped .eight))))
       ∙ elements 8 (s .tracks) 0 (shaped .eight)
 
@@ -135,9 +135,17 @@ module _ (s : State) (shaped : Shaped s) where
 
   pub state-back : stateIn bytes ≡ s
   state-back =
-      let posts = posts-at (s .posts) (s .tracks) (s .trains) (shaped .eight) begins .byte 0 (omega arith) in
-      let trains = trains-at (s .posts) (s .tracks) (s .trains) (shaped .eight) begins .byte 0 (omega arith) in
-      rw (← posts, tracks-back, ← trains, fleet-back, at-logged s (shaped .eight) (shaped .six))
+      let posts = posts-at (s .posts) (s .tracks) (s .sidings) (s .trains) (shaped .eight) begins in
+      let sidings = sidings-at (s .posts) (s .tracks) (s .sidings) (s .trains) (shaped .eight) begins in
+      let trains = trains-at (s .posts) (s .tracks) (s .sidings) (s .trains) (shaped .eight) begins in
+      rw (
+        ← posts .byte 0 (omega arith),
+        tracks-back,
+        ← sidings .byte 0 (omega arith),
+        ← trains .byte 0 (omega arith),
+        fleet-back,
+        at-logged s (shaped .eight) (shaped .six),
+      )
 
   pub state-encoded : encodesState bytes ≡ true
   state-encoded =
@@ -153,12 +161,12 @@ module _ (b : List ℕ) (h : encodesState b ≡ true) where
   pub state-only : stateBytes read ≡ b
   unfolding stateBytes
   state-only =
-      let ten = state-head-length read (eight b) (six b) in
+      let eleven = state-head-length read (eight b) (six b) in
       whole-at (at-joined (stateParts read) (
         head-stands b,
         (
-          fleet-stands b h (omega (arith, ten)),
-          (bytes-at (same-place b (omega (arith, ten, fleet-length read (eight b) (six b))), tt), tt),
+          fleet-stands b h (omega (arith, eleven)),
+          (bytes-at (same-place b (omega (arith, eleven, fleet-length read (eight b) (six b))), tt), tt),
         ),
       ))
       (state-length read (eight b) (six b) ∙ sym (encoded-length b h))

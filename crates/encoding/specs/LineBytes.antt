@@ -1,4 +1,4 @@
--- A line as 22 bytes: posts; tracks of posts 0 to 7; trains; then start and end of trains 0 to 5.
+-- A line as 23 bytes: posts; tracks of posts 0 to 7; sidings; trains; then start and end of trains 0 to 5.
 use mathlib.Core.List.{List, [], _∷_}
 use Prim.Native.Nat.{ℕ, _+_, _*_}
 use Rattle.encoding.specs.Types.{Route, Line}
@@ -11,7 +11,7 @@ abbrev pub routeEnds : Route → List ℕ
 routeEnds r = r .start .0 ∷ r .end .0 ∷ []
 
 abbrev pub lineParts : Line → List (List ℕ)
-lineParts l = headBytes (l .posts) (l .tracks) (l .trains) ∷ each routeEnds (l .routes) ∷ []
+lineParts l = headBytes (l .posts) (l .tracks) (l .sidings) (l .trains) ∷ each routeEnds (l .routes) ∷ []
 
 unfoldable pub lineBytes : Line → List ℕ
 lineBytes l = joined (lineParts l)

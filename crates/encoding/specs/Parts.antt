@@ -13,12 +13,13 @@ each f l = joined (map f l)
 
 -- ---- what a line and a state begin with
 
--- posts; tracks of posts 0 to 7; trains
-abbrev pub headParts : ℕ → List ℕ → ℕ → List (List ℕ)
-headParts posts tracks trains = (posts ∷ []) ∷ tracks ∷ (trains ∷ []) ∷ []
+-- posts; tracks of posts 0 to 7; sidings, a set of posts; trains. Any byte is such a set: that the posts in it are on
+-- the line is for `wellFormed` to say.
+abbrev pub headParts : ℕ → List ℕ → ℕ → ℕ → List (List ℕ)
+headParts posts tracks sidings trains = (posts ∷ []) ∷ tracks ∷ (sidings ∷ []) ∷ (trains ∷ []) ∷ []
 
-unfoldable pub headBytes : ℕ → List ℕ → ℕ → List ℕ
-headBytes posts tracks trains = joined (headParts posts tracks trains)
+unfoldable pub headBytes : ℕ → List ℕ → ℕ → ℕ → List ℕ
+headBytes posts tracks sidings trains = joined (headParts posts tracks sidings trains)
 
 -- where each of them is, and how many bytes they are
 abbrev pub postsByte : ℕ
@@ -27,8 +28,11 @@ postsByte = 0
 abbrev pub tracksByte : ℕ
 tracksByte = postsByte + 1
 
+abbrev pub sidingsByte : ℕ
+sidingsByte = tracksByte + 8
+
 abbrev pub trainsByte : ℕ
-trainsByte = tracksByte + 8
+trainsByte = sidingsByte + 1
 
 abbrev pub headLength : ℕ
 headLength = trainsByte + 1

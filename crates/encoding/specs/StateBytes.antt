@@ -1,5 +1,5 @@
--- A state as 41 bytes: posts; tracks of posts 0 to 7; trains; then for trains 0 to 5 five bytes: start, end, present
--- post, status, number of its FA; last the journal count.
+-- A state as 42 bytes: posts; tracks of posts 0 to 7; sidings; trains; then for trains 0 to 5 five bytes: start, end,
+-- present post, status, number of its FA; last the journal count.
 use mathlib.Core.Bool.{Bool, cond, _&&_, _||_}
 use mathlib.Core.List.{List, [], _∷_, _++_}
 use Prim.Native.Nat.{ℕ, _+_, _*_}
@@ -10,7 +10,8 @@ use Rattle.common.specs.Tabulate.{tabulate}
 use Rattle.line.specs.Book.{byteAt, route}
 use Rattle.rules.specs.State.{askedAs}
 use Rattle.encoding.specs.Types.{Status, Free, AskedAs, Running, Train, State}
-use Rattle.encoding.specs.Parts.{joined, each, headBytes, postsByte, tracksByte, trainsByte, headLength}
+use Rattle.encoding.specs.Parts.{joined, each, headBytes, postsByte, tracksByte, sidingsByte, trainsByte}
+use Rattle.encoding.specs.Parts.{headLength}
 use Rattle.encoding.specs.LineBytes.{routeLength, routeEnds}
 
 -- ---- the bytes of a state
@@ -29,7 +30,8 @@ abbrev pub trainBytes : Train → List ℕ
 trainBytes x = routeEnds (x .route) ++ standingBytes x
 
 abbrev pub stateParts : State → List (List ℕ)
-stateParts s = headBytes (s .posts) (s .tracks) (s .trains) ∷ each trainBytes (s .fleet) ∷ (s .logged ∷ []) ∷ []
+stateParts s =
+    headBytes (s .posts) (s .tracks) (s .sidings) (s .trains) ∷ each trainBytes (s .fleet) ∷ (s .logged ∷ []) ∷ []
 
 unfoldable pub stateBytes : State → List ℕ
 stateBytes s = joined (stateParts s)
@@ -56,7 +58,7 @@ encodesStatus k n = leb k 2 && (eqb k 1 || eqb n 0)
 abbrev pub encodesTrain : List ℕ → ℕ → Bool
 encodesTrain b i = encodesStatus (byteAt b (i + 3)) (byteAt b (i + 4))
 
--- 41 bytes with a status above 2, or with a number other than 0 where the status is not 1, encode no state; so does
+-- 42 bytes with a status above 2, or with a number other than 0 where the status is not 1, encode no state; so does
 -- any other length.
 unfoldable pub encodesState : List ℕ → Bool
 encodesState b = eqb (length b) stateLength && allBelow 6 (λ t. encodesTrain b (trainAt t))
@@ -84,6 +86,7 @@ abbrev pub stateIn : List ℕ → State
 stateIn b = record {
   posts = byteAt b postsByte;
   tracks = tracksIn b;
+  sidings = byteAt b sidingsByte;
   trains = byteAt b trainsByte;
   fleet = fleetIn b;
   logged = byteAt b loggedAt;

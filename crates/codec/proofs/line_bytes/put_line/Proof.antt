@@ -5,7 +5,7 @@ use native.Mathlib.Omega.{arith}
 use denote.Ref.{now}
 use lib.ListN.{length, length-map}
 use borrow.Author.Needs.{needs}
-use Rattle.encoding.specs.Parts.{headLength}
+use Rattle.encoding.specs.Parts.{headBytes, headLength}
 use Rattle.encoding.specs.LineBytes.{routeAt, lineBytes}
 use Rattle.encoding.proofs.Fields.{head-length, line-length, line-head, at-route}
 use Rattle.codec.proofs.Filled.{Filled, begun, part-more, filled}
@@ -34,17 +34,18 @@ module _ (c : tie.Start Inv-loop μ-loop) where
 
   -- the path goes down what is known of an argument of this type
   six : length (c .args .t1 .routes) ≡ 6
-  six = simp length-map at (c .good .0 .1 .1 .1 .1 .1 .0 .1 .0 .1)
+  six = simp length-map at (c .good .0 .1 .1 .1 .1 .1 .1 .0 .1 .0 .1)
 
 loop-holds : tie.Need-loop-holds Inv-loop μ-loop
 loop-holds c =
     let s = c .before .before .before .before .before .before in
     let l = s .args .t1 in
-    let ten = head-length (l .posts) (l .tracks) (l .trains) (eight s) in
+    let eleven = head-length (l .posts) (l .tracks) (l .sidings) (l .trains) (eight s) in
     let size = line-length l (eight s) (six s) in (
       omega arith,
-      begun (now (s .args .to)) (s .pre ∙ sym size) (c .before .before .put-head .ensures)
-          (line-head l (eight s) (six s)) (omega arith) headLength (sym ten),
+      begun (now (s .args .to)) {p = headBytes (l .posts) (l .tracks) (l .sidings) (l .trains)}
+          (s .pre ∙ sym size) (c .before .before .put-head .ensures) (line-head l (eight s) (six s))
+          (omega arith) headLength (sym eleven),
     )
 
 loop-again : tie.Need-loop-again Inv-loop μ-loop

@@ -28,7 +28,7 @@ module _ (c : tie.Start Inv-loop μ-loop) where
 
   -- the path goes down what is known of an argument of this type
   six : length (c .args .state .fleet) ≡ 6
-  six = simp length-map at (c .good .0 .1 .1 .1 .1 .1 .0 .1 .0 .1)
+  six = simp length-map at (c .good .0 .1 .1 .1 .1 .1 .1 .0 .1 .0 .1)
 
   size : length (stateBytes (c .args .state)) ≡ loggedAt + 1
   size = state-length (c .args .state) eight six
@@ -37,10 +37,10 @@ loop-holds : tie.Need-loop-holds Inv-loop μ-loop
 loop-holds c =
     let s = c .before .before in
     let v = s .args .state in
-    let ten = head-length (v .posts) (v .tracks) (v .trains) (eight s) in (
+    let eleven = head-length (v .posts) (v .tracks) (v .sidings) (v .trains) (eight s) in (
       omega arith,
       already (none-filled (s .pre .0 ∙ sym (size s))) (head-kept (now (s .args .to)) v (s .pre .1))
-          (state-head v (eight s) (six s)) headLength (omega (arith, ten)),
+          (state-head v (eight s) (six s)) headLength (omega (arith, eleven)),
     )
 
 mul-put : tie.Need-mul-put Inv-loop μ-loop

@@ -4,7 +4,9 @@ use Rattle.codec.proofs.state_bytes.state_in.Statement.{statement}
 use Rattle.codec.proofs.state_bytes.state_in.Tie as tie
 
 returns : tie.Need-returns
-returns c = rw (c .before .before .before .before .tracks-in .ensures, c .before .before .before .fleet-in .ensures)
+returns c =
+    let f = c .before .before .before .before in
+    rw (f .before .tracks-in .ensures, f .fleet-in .ensures)
 
 pub state-in-spec : {M : Type 1} → statement M
 state-in-spec =
@@ -12,6 +14,7 @@ state-in-spec =
     (tie.spec
     (λ c κs. search needs)
     (λ c κs. search needs)
+    (λ c. search needs)
     (λ c. search needs)
     (λ c. search needs)
     (λ c. search needs)
