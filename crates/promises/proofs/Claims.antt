@@ -5,6 +5,7 @@ use Rattle.frame.proofs.RoundTrip.{round-trip as frames-read-back}
 use Rattle.journal.proofs.Records.{logged-as-sent}
 use Rattle.journal.proofs.Appended.{only-appended}
 use Rattle.completion.proofs.StartAndEnd.{start-and-end}
+use Rattle.completion.proofs.WithoutSidings.{without-sidings}
 use Rattle.completion.proofs.Rule.{table-rule, unique-codes}
 use Rattle.completion.proofs.Agreement.{first-move}
 use Rattle.driver.proofs.Validity.{validity}
@@ -41,6 +42,7 @@ parts = record {
   records = logged-as-sent;
   appended = only-appended;
   start-and-end = start-and-end;
+  without-sidings = without-sidings;
   table = table-rule;
   codes = unique-codes;
   first-move = first-move;

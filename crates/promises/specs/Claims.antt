@@ -2,7 +2,7 @@
 use Rattle.line.specs.Claims.{LineBook, Sidings}
 use Rattle.frame.specs.RoundTrip.{FramesReadBack}
 use Rattle.journal.specs.Journal.{LoggedAsSent, OnlyAppended}
-use Rattle.completion.specs.Configuration.{StartAndEnd}
+use Rattle.completion.specs.Configuration.{StartAndEnd, WithoutSidings}
 use Rattle.completion.specs.Table.{TableRule, UniqueCodes, FirstMove}
 use Rattle.driver.specs.Validity.{Validity}
 use Rattle.driver.specs.Refusals.{UnitRefusals}
@@ -39,8 +39,10 @@ pub record Parts : Type 0 where
   -- a record has the bytes of its frame; appending touches no other record
   pub records : LoggedAsSent
   pub appended : OnlyAppended
-  -- before their first moves trains stand at their starts, after their last at their ends
+  -- before their first moves trains stand at their starts, after their last at their ends or stabled there
   pub start-and-end : StartAndEnd
+  -- on a line without sidings, where trains stand and which placings have a way through is as 01 has it
+  pub without-sidings : WithoutSidings
   -- the table's bit is set exactly for configurations with a way through; from each of these there is a first move
   pub table : TableRule
   pub codes : UniqueCodes
