@@ -3,7 +3,7 @@
 
 use crate::frame::{read_frame, write_frame, Message, Move, FRAME_BYTES};
 use crate::journal::{log, Record, JOURNAL_RECORDS, RECORDS_A_FRAME};
-use crate::line::{read_book, Line};
+use crate::line::{has_siding, on_the_line, read_book, Line};
 use crate::table::{bit, code, fill, lawful, TABLE_BYTES};
 
 /// Bytes an out buffer must have: six frames.
@@ -32,6 +32,8 @@ pub struct Train {
 pub struct State {
     pub posts: u8,
     pub tracks: [u8; 8],
+    /// The bit of value 2^i says that post i has a siding.
+    pub sidings: u8,
     pub trains: u8,
     pub train: [Train; 6],
     pub journal: u8,
@@ -77,9 +79,11 @@ impl Train {
         self.running_to().map(|to| section(self.at, to))
     }
 
-    /// The train holds a track at the post.
-    fn holds_post(&self, post: u8) -> bool {
-        self.at == post || self.running_to() == Some(post)
+    /// The train holds a track at the post, which has a siding or not. One
+    /// that stands at its end in a siding holds none.
+    fn holds_post(&self, post: u8, siding: bool) -> bool {
+        let put_away = siding && self.at == self.end;
+        (self.at == post && !put_away) || self.running_to() == Some(post)
     }
 }
 
@@ -88,6 +92,7 @@ impl State {
     pub const EMPTY: State = State {
         posts: 0,
         tracks: [0; 8],
+        sidings: 0,
         trains: 0,
         train: [Train::EMPTY; 6],
         journal: 0,
@@ -100,7 +105,8 @@ impl State {
 
     /// How many trains hold the post.
     pub fn holders_of_post(&self, post: u8) -> usize {
-        let holds = |t: &&Train| t.holds_post(post);
+        let siding = has_siding(self.sidings, post);
+        let holds = |t: &&Train| t.holds_post(post, siding);
         self.present().iter().filter(holds).count()
     }
 
@@ -120,6 +126,7 @@ fn section(p: u8, q: u8) -> u8 {
 pub fn sound(state: &State) -> bool {
     let ranges = (2..=8).contains(&state.posts)
         && (1..=6).contains(&state.trains)
+        && on_the_line(state.sidings, state.posts)
         && usize::from(state.journal) <= JOURNAL_RECORDS;
     if !ranges {
         return false;
@@ -145,7 +152,11 @@ pub fn sound(state: &State) -> bool {
             return false;
         }
     }
+    requests_in_order(state)
+}
 
+/// FA numbers are distinct and below the journal's count.
+fn requests_in_order(state: &State) -> bool {
     let mut seen = Vec::new();
     for t in state.present() {
         if let Standing::Asked(number) = t.standing {
@@ -185,6 +196,7 @@ fn place(line: &Line) -> State {
     let mut state = State {
         posts: line.posts,
         tracks: line.tracks,
+        sidings: line.sidings,
         trains: line.trains,
         ..State::EMPTY
     };

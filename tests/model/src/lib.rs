@@ -1,8 +1,8 @@
-//! A model of the two ends of Zugleitbetrieb, written from the paper alone.
+//! A model of the two ends of Zugleitbetrieb, written from the papers alone.
 //!
 //! Every public function is total: it answers for any bytes, any lent slice
 //! and any numbers in a state, and never panics. A refusal is the paper's
-//! number, 1 to 22; 0 stands for "not refused" where a number is returned.
+//! number, 1 to 23; 0 stands for "not refused" where a number is returned.
 
 #![forbid(unsafe_code)]
 

@@ -1,8 +1,8 @@
-//! The line and its book: posts with tracks, trains with start and end, and
-//! the reader of the book's bytes (refusals 14, 4, 15, 16, 17, 18).
+//! The line and its book: posts with tracks and sidings, trains with start and
+//! end, and the reader of the book's bytes (refusals 14, 4, 15, 16, 23, 17, 18).
 
-/// Bytes of the longest book, of 8 posts and 6 trains.
-pub const LONGEST_BOOK: usize = 5 + 8 + 2 * 6;
+/// Bytes of the longest book, of edition 2, 8 posts and 6 trains.
+pub const LONGEST_BOOK: usize = 6 + 8 + 2 * 6;
 
 /// A line. Places for posts from `posts` on and trains from `trains` on are 0
 /// when the line was read from a book, and are never read.
@@ -10,6 +10,8 @@ pub const LONGEST_BOOK: usize = 5 + 8 + 2 * 6;
 pub struct Line {
     pub posts: u8,
     pub tracks: [u8; 8],
+    /// The bit of value 2^i says that post i has a siding.
+    pub sidings: u8,
     pub trains: u8,
     pub starts: [u8; 6],
     pub ends: [u8; 6],
@@ -24,19 +26,32 @@ impl Line {
         let posts = usize::from(self.posts);
         let trains = usize::from(self.trains);
         self.tracks[..posts].iter().all(|n| (1..=4).contains(n))
+            && on_the_line(self.sidings, self.posts)
             && self.starts[..trains].iter().all(|p| *p < self.posts)
             && self.ends[..trains].iter().all(|p| *p < self.posts)
     }
 }
 
+/// A byte of sidings names only posts below `posts`, which is at most 8.
+pub(crate) fn on_the_line(sidings: u8, posts: u8) -> bool {
+    u16::from(sidings) >> posts == 0
+}
+
+/// A byte of sidings names the post, whatever number is handed in.
+pub(crate) fn has_siding(sidings: u8, post: u8) -> bool {
+    post < 8 && sidings & (1 << post) != 0
+}
+
 /// Reads a book alone, without table or placing.
 pub fn read_book(book: &[u8]) -> Result<Line, u8> {
-    check_head(book)?;
-    let tracks = read_tracks(&book[3..])?;
-    let routes = read_routes(&book[4 + tracks.len()..])?;
+    let edition = read_head(book)?;
+    let (tracks, rest) = read_tracks(edition, &book[3..])?;
+    let (sidings, rest) = read_sidings(edition, tracks.len() as u8, rest)?;
+    let routes = read_routes(rest)?;
     let mut line = Line {
         posts: tracks.len() as u8,
         tracks: [0; 8],
+        sidings,
         trains: routes.len() as u8 / 2,
         starts: [0; 6],
         ends: [0; 6],
@@ -46,7 +61,7 @@ pub fn read_book(book: &[u8]) -> Result<Line, u8> {
         line.starts[train] = pair[0];
         line.ends[train] = pair[1];
     }
-    // Posts, tracks and trains are checked: only a start or end can be off.
+    // All else is checked: only a start or end can be off.
     if line.in_range() {
         Ok(line)
     } else {
@@ -54,9 +69,9 @@ pub fn read_book(book: &[u8]) -> Result<Line, u8> {
     }
 }
 
-/// 14: under 4 bytes, or a length that is not that of the bytes after it;
-/// then 4.
-fn check_head(book: &[u8]) -> Result<(), u8> {
+/// The edition, 1 or 2. 14: under 4 bytes, or a length that is not that of the
+/// bytes after it; then 4.
+fn read_head(book: &[u8]) -> Result<u8, u8> {
     if book.len() < 4 {
         return Err(14);
     }
@@ -64,27 +79,40 @@ fn check_head(book: &[u8]) -> Result<(), u8> {
     if named != book.len() - 2 {
         return Err(14);
     }
-    if book[2] != 1 {
-        return Err(4);
+    match book[2] {
+        edition @ 1..=2 => Ok(edition),
+        _ => Err(4),
     }
-    Ok(())
 }
 
-/// The track counts, from the number of posts on: 15, then 14 where the bytes
-/// end before the number of trains, then 16.
-fn read_tracks(bytes: &[u8]) -> Result<&[u8], u8> {
+/// The track counts, from the number of posts on, and the bytes after them:
+/// 15, then 14 where the bytes end before the number of trains, then 16.
+fn read_tracks(edition: u8, bytes: &[u8]) -> Result<(&[u8], &[u8]), u8> {
     if !(2..=8).contains(&bytes[0]) {
         return Err(15);
     }
     let posts = usize::from(bytes[0]);
-    if bytes.len() < 1 + posts + 1 {
+    let sidings = usize::from(edition == 2);
+    if bytes.len() < 1 + posts + sidings + 1 {
         return Err(14);
     }
-    let tracks = &bytes[1..1 + posts];
+    let (tracks, rest) = bytes[1..].split_at(posts);
     if tracks.iter().any(|n| !(1..=4).contains(n)) {
         return Err(16);
     }
-    Ok(tracks)
+    Ok((tracks, rest))
+}
+
+/// The byte of sidings and the bytes after it: 23 where it names a post not in
+/// the line. Edition 1 has no such byte, and no sidings.
+fn read_sidings(edition: u8, posts: u8, bytes: &[u8]) -> Result<(u8, &[u8]), u8> {
+    if edition == 1 {
+        return Ok((0, bytes));
+    }
+    if !on_the_line(bytes[0], posts) {
+        return Err(23);
+    }
+    Ok((bytes[0], &bytes[1..]))
 }
 
 /// Starts and ends, from the number of trains on: 17, then 14 where the book

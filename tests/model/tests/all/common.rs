@@ -36,10 +36,13 @@ pub fn record(kind: u8, train: u8, from: u8, to: u8) -> Record {
     }
 }
 
-/// The book of a line given by its tracks and its trains' starts and ends.
-pub fn book(tracks: &[u8], trains: &[(u8, u8)]) -> Vec<u8> {
-    let mut rest = vec![1, tracks.len() as u8];
+/// The book of a line given by its tracks and its trains' starts and ends: of
+/// edition 2 where it has a byte of sidings, else of edition 1.
+pub fn book_of(tracks: &[u8], sidings: Option<u8>, trains: &[(u8, u8)]) -> Vec<u8> {
+    let edition = if sidings.is_some() { 2 } else { 1 };
+    let mut rest = vec![edition, tracks.len() as u8];
     rest.extend(tracks);
+    rest.extend(sidings);
     rest.push(trains.len() as u8);
     for (start, end) in trains {
         rest.extend([*start, *end]);
@@ -47,6 +50,10 @@ pub fn book(tracks: &[u8], trains: &[(u8, u8)]) -> Vec<u8> {
     let mut book = vec![0, rest.len() as u8];
     book.extend(rest);
     book
+}
+
+pub fn book(tracks: &[u8], trains: &[(u8, u8)]) -> Vec<u8> {
+    book_of(tracks, None, trains)
 }
 
 /// A box with its stores, as a run needs them.
@@ -147,5 +154,11 @@ impl Rng {
             .map(|_| (self.within(0, p - 1), self.within(0, p - 1)))
             .collect();
         (tracks, trains)
+    }
+
+    /// The sidings of a line of so many posts: no byte, or any that names none but these.
+    pub fn sidings(&mut self, posts: usize) -> Option<u8> {
+        let byte = self.byte() & (255 >> (8 - posts));
+        self.chance(70).then_some(byte)
     }
 }

@@ -18,6 +18,7 @@ fn a_x_opens() {
     let expected = State {
         posts: 3,
         tracks: [1, 2, 1, 0, 0, 0, 0, 0],
+        sidings: 0,
         trains: 2,
         train,
         journal: 0,

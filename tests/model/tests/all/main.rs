@@ -3,6 +3,7 @@
 mod common;
 mod examples;
 mod runs;
+mod sidings;
 mod table;
 mod total;
 mod vectors;

@@ -14,6 +14,7 @@ enum Has {
 /// The paper's tally; `order` is the trains asked, oldest first.
 struct Tally {
     tracks: Vec<u8>,
+    sidings: u8,
     starts: Vec<u8>,
     ends: Vec<u8>,
     post: Vec<u8>,
@@ -22,9 +23,10 @@ struct Tally {
 }
 
 impl Tally {
-    fn new(tracks: &[u8], trains: &[(u8, u8)]) -> Tally {
+    fn new(tracks: &[u8], sidings: u8, trains: &[(u8, u8)]) -> Tally {
         Tally {
             tracks: tracks.to_vec(),
+            sidings,
             starts: trains.iter().map(|t| t.0).collect(),
             ends: trains.iter().map(|t| t.1).collect(),
             post: trains.iter().map(|t| t.0).collect(),
@@ -50,12 +52,26 @@ impl Tally {
         }
     }
 
+    /// At its end, where that has a siding.
+    fn put_away(&self, t: usize) -> bool {
+        !self.short_of_end(t) && self.sidings >> self.post[t] & 1 == 1
+    }
+
     /// Posts held by a train, from the move it has an authority for.
     fn posts_held(&self, t: usize) -> Vec<u8> {
         match self.has[t] {
             Has::Authority(from, to) => vec![from, to],
+            _ if self.put_away(t) => vec![],
             _ => vec![self.post[t]],
         }
+    }
+
+    /// Some post has more trains standing at it than tracks: no more than the tracks hold one.
+    fn crowded(&self) -> bool {
+        let standing = |p: u8| self.post.iter().filter(|at| **at == p).count();
+        (0..)
+            .zip(&self.tracks)
+            .any(|(p, tracks)| standing(p) > usize::from(*tracks))
     }
 
     fn holders(&self, post: u8) -> usize {
@@ -208,7 +224,7 @@ struct Run {
     /// Every FE that went out, in order.
     authorities: Vec<[u8; 3]>,
     right_table: bool,
-    refused: [u64; 23],
+    refused: [u64; 24],
     accepted: u64,
     most_sent: usize,
 }
@@ -219,6 +235,7 @@ impl Run {
         loop {
             let tracks = rng.within(1, 4);
             let (tracks, trains) = rng.line(8, 6, tracks);
+            let sidings = rng.sidings(tracks.len());
             // Small lines open far more often: pass most of them over.
             if tracks.len() + trains.len() < 10 && rng.chance(90) {
                 continue;
@@ -230,7 +247,8 @@ impl Run {
                 .map(|_| record(rng.byte(), rng.byte(), rng.byte(), rng.byte()))
                 .collect();
             let before = journal.clone();
-            let (state, refusal) = open(&book(&tracks, &trains), &mut table, &journal);
+            let book = book_of(&tracks, sidings, &trains);
+            let (state, refusal) = open(&book, &mut table, &journal);
             assert_eq!(journal, before);
             if refusal == 0 {
                 assert_eq!(state.journal, 0);
@@ -238,10 +256,10 @@ impl Run {
                     state,
                     table,
                     journal,
-                    tally: Tally::new(&tracks, &trains),
+                    tally: Tally::new(&tracks, sidings.unwrap_or(0), &trains),
                     authorities: vec![],
                     right_table: true,
-                    refused: [0; 23],
+                    refused: [0; 24],
                     accepted: 0,
                     most_sent: 0,
                 };
@@ -380,9 +398,9 @@ impl Run {
 #[test]
 fn demand_three() {
     let mut rng = Rng(0xD3);
-    let mut refused = [0u64; 23];
+    let mut refused = [0u64; 24];
     let mut accepted = 0;
-    let mut home = 0;
+    let (mut home, mut crowded) = (0, 0);
     for _ in 0..3000 {
         let mut run = Run::open(&mut rng);
         run.check();
@@ -396,6 +414,7 @@ fn demand_three() {
         }
         accepted += run.accepted;
         home += u32::from((0..run.tally.trains()).all(|t| !run.tally.short_of_end(t)));
+        crowded += u32::from(run.tally.crowded());
     }
     // The runs meet every refusal that a run can meet, and no other.
     for (number, n) in refused.iter().enumerate() {
@@ -403,7 +422,7 @@ fn demand_three() {
         assert_eq!(*n > 0, meets, "refusal {number}: {n}");
     }
     assert!(accepted > 30_000, "{accepted}");
-    assert!(home > 300, "{home}");
+    assert!(home > 300 && crowded > 300, "{home} {crowded}");
 }
 
 /// Crews that ask and report in any order all come home, within 168 records.
@@ -431,7 +450,7 @@ fn all_come_home() {
             run.put(&f, &mut [0; OUT_BYTES]);
         }
         assert!((0..trains).all(|t| !run.tally.short_of_end(t)));
-        assert_eq!(run.refused, [0; 23]);
+        assert_eq!(run.refused, [0; 24]);
         most = most.max(run.state.journal);
     }
     assert!((60..=168).contains(&most), "{most}");
@@ -501,6 +520,6 @@ fn both_ends() {
             }
         }
         assert!(units.iter().all(|u| u.at == u.end));
-        assert_eq!(run.refused, [0; 23]);
+        assert_eq!(run.refused, [0; 24]);
     }
 }

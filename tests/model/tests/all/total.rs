@@ -24,6 +24,7 @@ fn garbage(rng: &mut Rng) -> State {
     let mut s = State::EMPTY;
     s.posts = number(rng);
     s.trains = number(rng);
+    s.sidings = number(rng);
     for n in s.tracks.iter_mut() {
         *n = number(rng);
     }
@@ -44,6 +45,8 @@ fn near(rng: &mut Rng) -> State {
     let mut s = garbage(rng);
     s.posts = rng.within(2, 8);
     s.trains = rng.within(1, 6);
+    let named = if rng.chance(90) { s.posts } else { 8 };
+    s.sidings = rng.sidings(named.into()).unwrap_or(0);
     for n in s.tracks.iter_mut() {
         *n = rng.within(1, 4);
     }
@@ -71,6 +74,9 @@ fn sound_again(s: &State) -> bool {
     if s.posts < 2 || s.posts > 8 || s.trains < 1 || s.trains > 6 || s.journal > 176 {
         return false;
     }
+    if u32::from(s.sidings) >= 2u32.pow(s.posts.into()) {
+        return false;
+    }
     let mut posts = [0u8; 8];
     let mut sections = [0u8; 7];
     let mut numbers = vec![];
@@ -79,7 +85,8 @@ fn sound_again(s: &State) -> bool {
             return false;
         }
         let (end, at, standing) = (train.end, train.at, train.standing);
-        posts[usize::from(at)] |= 1 << t;
+        let in_siding = at == end && s.sidings / 2u8.pow(at.into()) % 2 == 1;
+        posts[usize::from(at)] |= u8::from(!in_siding) << t;
         match standing {
             Standing::Free => {}
             _ if at == end => return false,
@@ -114,47 +121,55 @@ fn some_frame(s: &State, rng: &mut Rng) -> Vec<u8> {
     }
 }
 
+/// Puts some frame to the state, with stores that may be short, and checks what came of it.
+fn put_some_frame(s: &State, table: &[u8], rng: &mut Rng) -> Verdict {
+    let records = JOURNAL_RECORDS - usize::from(!rng.chance(95));
+    let mut journal = vec![record(8, 8, 8, 8); records];
+    let most = OUT_BYTES as u64;
+    let room = if rng.chance(95) {
+        most
+    } else {
+        rng.below(most)
+    };
+    let mut out = vec![0xCC; room as usize];
+    let f = some_frame(s, rng);
+    let (after, verdict) = answer(s, table, &mut journal, &f, &mut out);
+    match verdict {
+        Verdict::Refused(n) => {
+            assert_eq!(after, *s);
+            assert_eq!(n == 1, !sound(s));
+            assert!(out.iter().all(|b| *b == 0xCC));
+            assert!(journal.iter().all(|r| *r == record(8, 8, 8, 8)));
+        }
+        Verdict::Sent(n) => {
+            assert!(sound(s) && sound(&after), "{s:?} {after:?}");
+            assert_eq!(usize::from(after.journal), usize::from(s.journal) + 1 + n);
+        }
+    }
+    verdict
+}
+
 #[test]
 fn states_of_all_sorts() {
     let mut rng = Rng(0x5EED);
     let table: Vec<u8> = rng.bytes(TABLE_BYTES);
-    let (mut good, mut strange, mut answered) = (0, 0, 0);
+    let (mut good, mut strange, mut answered, mut crowded) = (0, 0, 0, 0);
     for round in 0..60_000 {
         let s = match round % 4 {
             0 => garbage(&mut rng),
             _ => near(&mut rng),
         };
         assert_eq!(sound(&s), sound_again(&s), "{s:?}");
-        let records = JOURNAL_RECORDS - usize::from(!rng.chance(95));
-        let mut journal = vec![record(8, 8, 8, 8); records];
-        let most = OUT_BYTES as u64;
-        let room = if rng.chance(95) {
-            most
-        } else {
-            rng.below(most)
-        };
-        let mut out = vec![0xCC; room as usize];
-        let f = some_frame(&s, &mut rng);
-        let (after, verdict) = answer(&s, &table, &mut journal, &f, &mut out);
-        match verdict {
-            Verdict::Refused(n) => {
-                assert_eq!(after, s);
-                assert_eq!(n == 1, !sound(&s));
-                assert!(out.iter().all(|b| *b == 0xCC));
-                assert!(journal.iter().all(|r| *r == record(8, 8, 8, 8)));
-                strange += u32::from(n == 1);
-            }
-            Verdict::Sent(n) => {
-                assert!(sound(&s) && sound(&after), "{s:?} {after:?}");
-                assert_eq!(usize::from(after.journal), usize::from(s.journal) + 1 + n);
-                answered += 1;
-            }
+        match put_some_frame(&s, &table, &mut rng) {
+            Verdict::Refused(n) => strange += u32::from(n == 1),
+            Verdict::Sent(_) => answered += 1,
         }
         good += u32::from(sound(&s));
+        crowded += u32::from(sound(&s) && !sound(&State { sidings: 0, ..s }));
     }
     assert!(
-        good > 3000 && strange > 10_000 && answered > 500,
-        "{good} {strange} {answered}"
+        good > 3000 && strange > 10_000 && answered > 500 && crowded > 500,
+        "{good} {strange} {answered} {crowded}"
     );
 }
 
@@ -185,7 +200,7 @@ fn units_of_all_sorts() {
 /// A book of a random line, as it is, with one or two bytes altered, or of another length.
 fn some_book(rng: &mut Rng) -> Vec<u8> {
     let (tracks, trains) = rng.line(4, 3, 4);
-    let mut b = book(&tracks, &trains);
+    let mut b = book_of(&tracks, rng.sidings(tracks.len()), &trains);
     let altered = match rng.below(4) {
         0 => 0,
         1 => 1,
@@ -213,14 +228,20 @@ fn is_book_of(b: &[u8], line: &Line) -> bool {
     let t = usize::from(line.trains);
     let pairs: Vec<(u8, u8)> = (0..t).map(|t| (line.starts[t], line.ends[t])).collect();
     let unread = [&line.tracks[p..], &line.starts[t..], &line.ends[t..]].concat();
-    book(&line.tracks[..p], &pairs) == b && unread.iter().all(|n| *n == 0)
+    let sidings = if b[2] == 1 {
+        assert_eq!(line.sidings, 0);
+        None
+    } else {
+        Some(line.sidings)
+    };
+    book_of(&line.tracks[..p], sidings, &pairs) == b && unread.iter().all(|n| *n == 0)
 }
 
 /// Random books: each is refused by the first check it fails.
 #[test]
 fn books_of_all_sorts() {
     let mut rng = Rng(0xB00C);
-    let mut met = [0u32; 23];
+    let mut met = [0u32; 24];
     let mut table = vec![0; TABLE_BYTES];
     let journal = [Record::BLANK; JOURNAL_RECORDS];
     for _ in 0..20_000 {
@@ -236,7 +257,7 @@ fn books_of_all_sorts() {
             Err(n) => assert_eq!(refusal, n),
         }
     }
-    for n in [0, 4, 14, 15, 16, 17, 18, 19, 20] {
+    for n in [0, 4, 14, 15, 16, 17, 18, 19, 20, 23] {
         assert!(met[n] > 0, "{n}");
     }
 }
@@ -254,7 +275,10 @@ fn noise_of_all_lengths() {
         }
         match read_book(&noise) {
             Ok(line) => assert!(is_book_of(&noise, &line)),
-            Err(number) => assert_eq!(number == 4, named && noise[2] != 1, "{noise:?}"),
+            Err(number) => {
+                let other = named && !matches!(noise[2], 1 | 2);
+                assert_eq!(number == 4, other, "{noise:?}");
+            }
         }
         let whole = length == FRAME_BYTES && noise[..2] == [0, 5];
         assert_eq!(read_frame(&noise) == Err(3), !whole);

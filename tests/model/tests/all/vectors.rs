@@ -47,7 +47,8 @@ fn books_in_order_of_checks() {
     assert_eq!(number(&[0]), 14);
     assert_eq!(number(&[0, 0]), 14);
     assert_eq!(number(&[0, 1, 1]), 14);
-    assert_eq!(number(&[0, 2, 2, 9]), 4);
+    assert_eq!(number(&[0, 2, 0, 9]), 4);
+    assert_eq!(number(&[0, 2, 3, 9]), 4);
     assert_eq!(number(&[0, 2, 1, 9]), 15);
     assert_eq!(number(&[0, 2, 1, 2]), 14);
     assert_eq!(number(&[0, 4, 1, 2, 0, 0]), 14);
@@ -78,6 +79,7 @@ fn a_book_read_alone() {
     let expected = Line {
         posts: 3,
         tracks: [2, 1, 2, 0, 0, 0, 0, 0],
+        sidings: 0,
         trains: 3,
         starts: [0, 0, 2, 0, 0, 0],
         ends: [2, 2, 0, 0, 0, 0],
@@ -152,6 +154,7 @@ fn fill_refuses() {
         bad(|l| l.trains = 7),
         bad(|l| l.tracks[2] = 0),
         bad(|l| l.tracks[2] = 5),
+        bad(|l| l.sidings = 8),
         bad(|l| l.starts[1] = 3),
         bad(|l| l.ends[1] = 255),
     ] {
@@ -787,7 +790,7 @@ fn after_x(rest: &[u8]) -> String {
     printed(&[&X[..], rest].concat())
 }
 
-/// A book is two bytes and as many as they name, at most 25 in all, or what there is.
+/// A book is two bytes and as many as they name, at most 26 in all, or what there is.
 #[test]
 fn program_books() {
     assert_eq!(printed(&[]), "book 14\n");
@@ -797,20 +800,22 @@ fn program_books() {
     assert_eq!(printed(&[0, 2, 1, 9]), "book 15\n");
     assert_eq!(printed(&X[..11]), "book 14\n");
     assert_eq!(printed(&[255; 100]), "book 14\n");
-    // 24 after the length: 25 bytes are taken, never 26.
+    // 25 after the length: 26 bytes are taken, never 27.
     let mut long = vec![0; 60];
-    long[..4].copy_from_slice(&[0, 24, 2, 9]);
+    long[..4].copy_from_slice(&[0, 25, 3, 9]);
     assert_eq!(printed(&long), "book 14\n");
-    assert_eq!(printed(&long[..26]), "book 14\n");
-    long[1] = 23;
+    assert_eq!(printed(&long[..27]), "book 14\n");
+    long[1] = 24;
     assert_eq!(printed(&long), "book 4\n");
-    // The longest book is read whole, and a frame after it.
+    // The longest book of each edition is read whole, and a frame after it.
     let trains = [(0, 7), (7, 0), (3, 4), (4, 3), (1, 1), (6, 6)];
-    let longest = book(&[4; 8], &trains);
-    assert_eq!(longest.len(), 25);
-    assert_eq!(printed(&longest), "end 0 0\n");
-    let one = [&longest[..], &frame(FA, 0, 0, 1)].concat();
-    assert_eq!(printed(&one), "0 FA 0 0 1\n1 FE 0 0 1\nend 2 0\n");
+    for (sidings, bytes) in [(None, 25), (Some(0), 26), (Some(255), 26)] {
+        let longest = book_of(&[4; 8], sidings, &trains);
+        assert_eq!(longest.len(), bytes);
+        assert_eq!(printed(&longest), "end 0 0\n");
+        let one = [&longest[..], &frame(FA, 0, 0, 1)].concat();
+        assert_eq!(printed(&one), "0 FA 0 0 1\n1 FE 0 0 1\nend 2 0\n");
+    }
     // A named length below the true one: the book ends where it says.
     let mut short = book(&[1, 1], &[(0, 1), (1, 0)]);
     short[1] = 7;
