@@ -1,18 +1,23 @@
-//! Books: well formed ones of all sizes, and damaged ones for each refusal number of a book.
+//! Books: well formed ones of all sizes and both editions, and damaged ones for each refusal number of a book.
 
-use inputs::books::{book, with_length, Parts};
+use inputs::books::{with_length, Parts};
 use inputs::random::Random;
 use inputs::sizes::LONGEST_BOOK;
 
 /// A well formed book. It may still be overfull or have no way through.
 pub fn well_formed(random: &mut Random) -> Vec<u8> {
-    parts(random).bytes()
+    let parts = parts(random);
+    if random.one_in(4) {
+        put_away(parts, random)
+    } else {
+        parts.bytes()
+    }
 }
 
 /// A book of some kind, damaged or not.
 pub fn any(random: &mut Random) -> (&'static str, Vec<u8>) {
     let parts = parts(random);
-    match random.below(16) {
+    match random.below(19) {
         0 | 1 => ("book: well formed", parts.bytes()),
         2 => ("book: cut short", cut(parts, random)),
         3 => ("book: longer than it says", lengthened(parts, random)),
@@ -29,7 +34,13 @@ pub fn any(random: &mut Random) -> (&'static str, Vec<u8>) {
         11 => ("book: off the line", off_the_line(parts, random)),
         12 => ("book: overfull", overfull(parts, random)),
         13 => ("book: head on, single tracks", head_on(random)),
-        14 => (
+        14 => ("book: ends at a siding", put_away(parts, random)),
+        15 => ("book: siding off the line", siding_off(parts, random)),
+        16 => (
+            "book: siding off the line and another fault",
+            siding_off_and_more(parts, random),
+        ),
+        17 => (
             "book: any byte altered",
             byte_altered(parts, 0..LONGEST_BOOK, random),
         ),
@@ -45,7 +56,14 @@ fn parts(random: &mut Random) -> Parts {
     let post = |random: &mut Random| random.between(0, posts - 1);
     let tracks: Vec<u8> = (0..posts).map(|_| random.between(1, most)).collect();
     let routes: Vec<_> = (0..trains).map(|_| [post(random), post(random)]).collect();
-    Parts::new(&tracks, &routes)
+    Parts::new(&tracks, sidings(posts, random), &routes)
+}
+
+/// Sidings at some posts, at all or at none, or a book of edition 1.
+fn sidings(posts: u8, random: &mut Random) -> Option<u8> {
+    let all = 255 >> (8 - posts);
+    let some = random.byte() & all;
+    random.pick(&[None, None, Some(0), Some(all), Some(some), Some(some)])
 }
 
 /// Cut, sometimes with a length that says so.
@@ -83,10 +101,11 @@ fn posts_out(mut parts: Parts, random: &mut Random) -> Vec<u8> {
     parts.bytes()
 }
 
-/// The length is right, yet the bytes end among the track counts.
-fn without_trains(parts: Parts, random: &mut Random) -> Vec<u8> {
+/// The length is right, yet the bytes end before the number of trains.
+fn without_trains(mut parts: Parts, random: &mut Random) -> Vec<u8> {
+    parts.routes.clear();
     let mut bytes = parts.bytes();
-    bytes.truncate(4 + random.below(parts.tracks.len() + 1));
+    bytes.truncate(4 + random.below(bytes.len() - 4));
     with_length(bytes)
 }
 
@@ -136,11 +155,54 @@ fn overfull(mut parts: Parts, random: &mut Random) -> Vec<u8> {
     parts.bytes()
 }
 
-/// Two trains that must pass each other where no post has two tracks.
+/// Two trains that must pass each other where no post has two tracks. A siding at an end would let a placing be lawful
+/// in which both are there.
 fn head_on(random: &mut Random) -> Vec<u8> {
     let posts = random.between(2, 8);
     let last = posts - 1;
-    book(&vec![1; usize::from(posts)], &[[0, last], [last, 0]])
+    let tracks = vec![1; usize::from(posts)];
+    Parts::new(&tracks, sidings(posts, random), &[[0, last], [last, 0]]).bytes()
+}
+
+/// Most trains end at one post with few tracks and a siding, and some are parked there.
+fn put_away(mut parts: Parts, random: &mut Random) -> Vec<u8> {
+    let end = random.between(0, parts.posts - 1);
+    parts.tracks[usize::from(end)] = random.between(1, 2);
+    parts.sidings = Some(parts.sidings.unwrap_or(0) | 1 << end);
+    for route in &mut parts.routes {
+        match random.below(4) {
+            0 => {}
+            1 => *route = [end, end],
+            _ => route[1] = end,
+        }
+    }
+    parts.bytes()
+}
+
+fn siding_off(mut parts: Parts, random: &mut Random) -> Vec<u8> {
+    name_a_post_off_the_line(&mut parts, random);
+    parts.bytes()
+}
+
+/// The order of the checks decides which fault is told.
+fn siding_off_and_more(mut parts: Parts, random: &mut Random) -> Vec<u8> {
+    name_a_post_off_the_line(&mut parts, random);
+    match random.below(5) {
+        0 => posts_out(parts, random),
+        1 => tracks_out(parts, random),
+        2 => trains_out(parts, random),
+        3 => total_differs(parts, random),
+        _ => off_the_line(parts, random),
+    }
+}
+
+/// The sidings of at most seven posts, and a bit past them, often the first.
+fn name_a_post_off_the_line(parts: &mut Parts, random: &mut Random) {
+    parts.posts = parts.posts.min(7);
+    parts.tracks.truncate(7);
+    let far = random.between(parts.posts, 7);
+    let bit = 1 << random.pick(&[parts.posts, far]);
+    parts.sidings = Some(parts.sidings.unwrap_or(0) | bit);
 }
 
 /// Random bytes, often with a right head, so that they are read further.
@@ -148,7 +210,7 @@ fn noise(random: &mut Random) -> Vec<u8> {
     let len = random.below(40);
     let mut bytes = random.bytes(len);
     if len >= 4 && !random.one_in(4) {
-        bytes[2] = 1;
+        bytes[2] = random.between(1, 2);
         bytes[3] = random.between(0, 10);
         for byte in &mut bytes[4..] {
             *byte %= 10;

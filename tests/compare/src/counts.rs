@@ -15,8 +15,8 @@ pub enum Entry {
 }
 
 const ENTRIES: [(&str, &[u8]); 6] = [
-    ("read_book", &[1, 4, 14, 15, 16, 17, 18]),
-    ("open", &[1, 2, 4, 14, 15, 16, 17, 18, 19, 20]),
+    ("read_book", &[1, 4, 14, 15, 16, 17, 18, 23]),
+    ("open", &[1, 2, 4, 14, 15, 16, 17, 18, 19, 20, 23]),
     ("answer", &[1, 2, 3, 4, 5, 6, 7, 8, 9, 10, 11, 12, 13]),
     ("make_unit", &[1, 18]),
     ("press", &[1, 2, 8, 21]),
@@ -34,8 +34,32 @@ const PHASES: [&str; 6] = [
     "Arrived",
 ];
 
-/// Refusal numbers 0 (none) to 22.
-const NUMBERS: usize = 23;
+/// What comes of sidings alone, in the order of the names.
+#[derive(Debug, Clone, Copy, PartialEq, Eq)]
+pub enum Case {
+    StartFits,
+    WayFits,
+    TrackBefore,
+    PutAway,
+    Crowded,
+    Declined,
+    OffTheLine,
+    NoSiding,
+}
+
+const CASES: [&str; 8] = [
+    "opened, overfull without them",
+    "opened, no way through without them",
+    "no way through, lawful placings all the way",
+    "a train put away",
+    "more trains put away than tracks",
+    "declined, no track before the siding",
+    "a strange state, siding off the line",
+    "a strange state, no siding for its trains",
+];
+
+/// Refusal numbers 0 (none) to 23.
+const NUMBERS: usize = 24;
 
 const MOST_SENT: usize = OUT_BYTES / FRAME_BYTES;
 
@@ -45,6 +69,7 @@ pub struct Counts {
     sent: [u64; MOST_SENT + 1],
     statuses: [u64; STATUSES.len()],
     phases: [u64; PHASES.len()],
+    cases: [u64; CASES.len()],
 }
 
 impl Counts {
@@ -55,6 +80,7 @@ impl Counts {
             sent: [0; MOST_SENT + 1],
             statuses: [0; STATUSES.len()],
             phases: [0; PHASES.len()],
+            cases: [0; CASES.len()],
         }
     }
 
@@ -85,6 +111,10 @@ impl Counts {
         self.phases[usize::from(phase)] += 1;
     }
 
+    pub fn case(&mut self, case: Case) {
+        self.cases[case as usize] += 1;
+    }
+
     /// Frames put to the box, accepted and refused.
     pub fn frames(&self) -> u64 {
         self.refusals[Entry::Answer as usize].iter().sum()
@@ -111,6 +141,7 @@ impl Counts {
         }
         failings.extend(never("status", &STATUSES, &self.statuses));
         failings.extend(never("phase", &PHASES, &self.phases));
+        failings.extend(never("case of sidings:", &CASES, &self.cases));
         failings
     }
 
@@ -134,6 +165,7 @@ impl Counts {
             &PHASES,
             &self.phases,
         );
+        print_names("what came of sidings", &CASES, &self.cases);
         let accepted = self.refusals[Entry::Answer as usize][0];
         println!("frames answered: {}, accepted: {accepted}", self.frames());
     }

@@ -14,6 +14,7 @@ mod model_ends;
 mod openings;
 mod pair;
 mod runs;
+mod sidings;
 mod states;
 mod stores;
 mod tables;

@@ -1,9 +1,11 @@
 //! Both sides called with the same input, and everything they answer and write compared.
 
-use crate::counts::{Counts, Entry};
+use crate::counts::{Case, Counts, Entry};
 use crate::lent::{Lent, Side};
+use crate::sidings;
 use boundary::Ends;
 use inputs::encoding::{train_at, trains_in, PHASE_AT};
+use inputs::sizes::FRAME_BYTES;
 
 /// The text of the first difference: the input in full and both outputs.
 #[derive(Debug)]
@@ -66,7 +68,9 @@ impl Pair {
             ("table", table),
             ("journal", journal),
         ];
-        self.settle(Entry::Open, &[], results, &buffers, &[])
+        let reply = self.settle(Entry::Open, &[], results, &buffers, &[])?;
+        self.count_cases(sidings::of_opening(book.bytes(), reply.refusal));
+        Ok(reply)
     }
 
     /// The table, 32,768 bytes that are only read, is not compared here but by `unchanged`, once
@@ -99,8 +103,12 @@ impl Pair {
         ];
         let reply = self.settle(Entry::Answer, &[], results, &buffers, &[("table", table)])?;
         if reply.refusal == 0 {
+            let sent = &out.bytes()[..FRAME_BYTES * reply.sent];
             self.counts.sent(reply.sent);
             self.count_statuses(state.bytes());
+            self.count_cases(sidings::of_answer(state.bytes(), table.bytes(), sent));
+        } else if reply.refusal == 1 {
+            self.count_cases(sidings::of_strange(state.bytes()));
         }
         Ok(reply)
     }
@@ -180,6 +188,12 @@ impl Pair {
     fn count_statuses(&mut self, state: &[u8]) {
         for train in trains_in(state) {
             self.counts.status(train[train_at::STATUS]);
+        }
+    }
+
+    fn count_cases(&mut self, cases: impl IntoIterator<Item = Case>) {
+        for case in cases {
+            self.counts.case(case);
         }
     }
 

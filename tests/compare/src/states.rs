@@ -2,7 +2,9 @@
 
 use inputs::encoding::{state_bytes, state_of, train_at, ASKED, RUNNING};
 use inputs::random::Random;
-use inputs::sizes::{FLEET_AT, JOURNAL_RECORDS, RECORDS_A_FRAME, STATE_BYTES, TRAIN_BYTES};
+use inputs::sizes::{
+    FLEET_AT, JOURNAL_RECORDS, RECORDS_A_FRAME, SIDINGS_AT, STATE_BYTES, TRAIN_BYTES,
+};
 use model::{Standing, State, Train};
 
 /// A state of some kind. `opened` is the first state of a book, for states of its line.
@@ -28,6 +30,7 @@ pub fn any(opened: &[u8], random: &mut Random) -> (&'static str, Vec<u8>) {
                 state_bytes(&broken).to_vec(),
             )
         }
+        6 => ("state: sidings altered", sidings_altered(bytes, random)),
         _ => ("state: valid", bytes),
     }
 }
@@ -65,10 +68,12 @@ fn moved(first: State, random: &mut Random) -> State {
     first
 }
 
-/// A line of any size with trains that stand where there is room.
+/// A line of any size with trains that stand where there is room or are put away.
 fn made_up(random: &mut Random) -> State {
+    let posts = random.between(2, 8);
     let mut state = State {
-        posts: random.between(2, 8),
+        posts,
+        sidings: random_sidings(posts, random),
         ..State::EMPTY
     };
     let most = random.between(1, 4);
@@ -76,17 +81,37 @@ fn made_up(random: &mut Random) -> State {
         *tracks = random.between(1, most);
     }
     for _ in 0..random.between(1, 6) {
-        let free: Vec<u8> = (0..state.posts)
-            .filter(|post| room(&state, *post) > 0)
-            .collect();
-        if free.is_empty() {
+        let Some(train) = one_more(&state, random) else {
             break;
-        }
-        let at = random.pick(&free);
-        state.train[usize::from(state.trains)] = train_at(at, state.posts, random);
+        };
+        state.train[usize::from(state.trains)] = train;
         state.trains += 1;
     }
     state
+}
+
+/// Sidings at no post, at each, or at any.
+fn random_sidings(posts: u8, random: &mut Random) -> u8 {
+    let some = random.byte();
+    random.pick(&[0, 255, some, some]) >> (8 - posts)
+}
+
+/// A train put away in some siding, or one that stands where a track is free.
+fn one_more(state: &State, random: &mut Random) -> Option<Train> {
+    let posts = 0..state.posts;
+    let has_siding = |post: &u8| state.sidings >> post & 1 == 1;
+    let sidings: Vec<u8> = posts.clone().filter(has_siding).collect();
+    if !sidings.is_empty() && random.one_in(3) {
+        let end = random.pick(&sidings);
+        let train = train_at(end, state.posts, random);
+        return Some(Train { end, ..train });
+    }
+    let free: Vec<u8> = posts.filter(|post| room(state, *post) > 0).collect();
+    if free.is_empty() {
+        return None;
+    }
+    let at = random.pick(&free);
+    Some(train_at(at, state.posts, random))
 }
 
 /// Six trains before six sections and room for all: many can be granted at once.
@@ -94,6 +119,7 @@ fn crowd(random: &mut Random) -> State {
     let mut state = State {
         posts: 8,
         tracks: [4; 8],
+        sidings: random_sidings(8, random),
         trains: 6,
         ..State::EMPTY
     };
@@ -206,6 +232,16 @@ fn trains_of(state: &mut State) -> &mut [Train] {
 /// Tracks of the post less the trains that hold one there.
 fn room(state: &State, post: u8) -> i32 {
     i32::from(state.tracks[usize::from(post)]) - state.holders_of_post(post) as i32
+}
+
+/// Another byte of sidings: with one bit flipped, on the line or off it, or any.
+fn sidings_altered(mut bytes: Vec<u8>, random: &mut Random) -> Vec<u8> {
+    bytes[SIDINGS_AT] = if random.one_in(4) {
+        random.byte()
+    } else {
+        bytes[SIDINGS_AT] ^ 1 << random.below(8)
+    };
+    bytes
 }
 
 /// One train, track count or number changed without a look at the rules. It may still be valid.

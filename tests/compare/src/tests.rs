@@ -1,12 +1,14 @@
 //! The comparison can fail: whatever one side answers or writes otherwise is seen.
 
-use crate::counts::Entry;
+use crate::counts::{Case, Entry};
 use crate::model_ends::Model;
 use crate::pair::Pair;
-use crate::{all, states, Options};
+use crate::{all, sidings, states, Options};
 use boundary::Ends;
+use inputs::books::{book, book_2, X};
 use inputs::encoding::{state_bytes, state_of};
 use inputs::random::Random;
+use model::State;
 use std::cell::Cell;
 
 /// Where the altered bit is: in the result or in the buffer of this place among the written ones.
@@ -154,9 +156,36 @@ fn what_is_never_reached_fails() {
 #[test]
 fn states_valid_by_construction_are_sound_and_come_back_from_their_bytes() {
     let random = &mut Random::new(5);
+    let mut by_sidings = 0;
     for _ in 0..200_000 {
         let state = states::valid(&[], random);
         assert!(model::sound(&state), "{state:?}");
         assert_eq!(state_of(&state_bytes(&state)), Some(state));
+        by_sidings += u32::from(!model::sound(&State {
+            sidings: 0,
+            ..state
+        }));
+    }
+    assert!(by_sidings > 10_000, "{by_sidings}");
+}
+
+#[test]
+fn what_sidings_bring_about_is_told() {
+    let swap = [[0, 1], [1, 0]];
+    let parked = [[1, 1], [1, 1], [0, 1]];
+    for (book, refusal, case) in [
+        (
+            book_2(&[2, 1], 2, &[[0, 1], [0, 1]]),
+            0,
+            Some(Case::WayFits),
+        ),
+        (book_2(&[1, 1], 2, &parked), 0, Some(Case::StartFits)),
+        (book_2(&[1, 1], 2, &swap), 20, Some(Case::TrackBefore)),
+        (book_2(&[1, 1], 0, &swap), 20, None),
+        (book(&[1, 1], &swap), 20, None),
+        (book_2(&[2, 2], 3, &swap), 0, None),
+        (X.to_vec(), 0, None),
+    ] {
+        assert_eq!(sidings::of_opening(&book, refusal), case, "{book:?}");
     }
 }

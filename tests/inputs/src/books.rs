@@ -12,16 +12,19 @@ pub const Y: [u8; 14] = [0, 12, 1, 3, 2, 1, 2, 3, 0, 2, 0, 2, 2, 0];
 pub struct Parts {
     pub posts: u8,
     pub tracks: Vec<u8>,
+    /// Edition 2's byte; a book without it is of edition 1.
+    pub sidings: Option<u8>,
     pub trains: u8,
     /// Start and end of each train.
     pub routes: Vec<[u8; 2]>,
 }
 
 impl Parts {
-    pub fn new(tracks: &[u8], routes: &[[u8; 2]]) -> Parts {
+    pub fn new(tracks: &[u8], sidings: Option<u8>, routes: &[[u8; 2]]) -> Parts {
         Parts {
             posts: tracks.len() as u8,
             tracks: tracks.to_vec(),
+            sidings,
             trains: routes.len() as u8,
             routes: routes.to_vec(),
         }
@@ -29,17 +32,24 @@ impl Parts {
 
     /// The book of these parts, with the length that they have.
     pub fn bytes(&self) -> Vec<u8> {
-        let mut bytes = vec![0, 0, 1, self.posts];
+        let edition = if self.sidings.is_some() { 2 } else { 1 };
+        let mut bytes = vec![0, 0, edition, self.posts];
         bytes.extend(&self.tracks);
+        bytes.extend(self.sidings);
         bytes.push(self.trains);
         bytes.extend(self.routes.iter().flatten());
         with_length(bytes)
     }
 }
 
-/// The book of these track counts and routes.
+/// The book of edition 1 of these track counts and routes.
 pub fn book(tracks: &[u8], routes: &[[u8; 2]]) -> Vec<u8> {
-    Parts::new(tracks, routes).bytes()
+    Parts::new(tracks, None, routes).bytes()
+}
+
+/// The book of edition 2 of these track counts, sidings and routes.
+pub fn book_2(tracks: &[u8], sidings: u8, routes: &[[u8; 2]]) -> Vec<u8> {
+    Parts::new(tracks, Some(sidings), routes).bytes()
 }
 
 /// The bytes with the length in their first two that they have.
@@ -52,10 +62,18 @@ pub fn with_length(mut bytes: Vec<u8>) -> Vec<u8> {
 #[cfg(test)]
 mod tests {
     use super::*;
+    use crate::sizes::LONGEST_BOOK;
 
     #[test]
     fn the_papers_books_are_those_of_their_parts() {
         assert_eq!(X[..], book(&[1, 2, 1], &[[0, 2], [2, 0]]));
         assert_eq!(Y[..], book(&[2, 1, 2], &[[0, 2], [0, 2], [2, 0]]));
+    }
+
+    #[test]
+    fn a_book_of_edition_2_has_a_byte_after_the_track_counts() {
+        let with = [0, 11, 2, 3, 1, 2, 1, 5, 2, 0, 2, 2, 0];
+        assert_eq!(with[..], book_2(&[1, 2, 1], 5, &[[0, 2], [2, 0]]));
+        assert_eq!(book_2(&[1; 8], 0, &[[0, 7]; 6]).len(), LONGEST_BOOK);
     }
 }

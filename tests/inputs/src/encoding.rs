@@ -1,8 +1,8 @@
 //! States, units, lines and records as the bytes of the C interface.
 
 use crate::sizes::{
-    COUNT_AT, FLEET_AT, LINE_BYTES, RECORD_BYTES, ROUTE_BYTES, STATE_BYTES, TRACKS_AT, TRAINS_AT,
-    TRAIN_BYTES, UNIT_BYTES,
+    COUNT_AT, FLEET_AT, LINE_BYTES, RECORD_BYTES, ROUTE_BYTES, SIDINGS_AT, STATE_BYTES, TRACKS_AT,
+    TRAINS_AT, TRAIN_BYTES, UNIT_BYTES,
 };
 use model::{Button, Line, Record, Standing, State, Train, Unit, UnitState};
 
@@ -41,7 +41,8 @@ pub const NO_BUTTON: u8 = BUTTONS.len() as u8;
 pub fn line_bytes(line: &Line) -> [u8; LINE_BYTES] {
     let mut bytes = [0; LINE_BYTES];
     bytes[0] = line.posts;
-    bytes[TRACKS_AT..TRAINS_AT].copy_from_slice(&line.tracks);
+    bytes[TRACKS_AT..SIDINGS_AT].copy_from_slice(&line.tracks);
+    bytes[SIDINGS_AT] = line.sidings;
     bytes[TRAINS_AT] = line.trains;
     let places = bytes[FLEET_AT..].chunks_exact_mut(ROUTE_BYTES);
     for ((start, end), place) in line.starts.iter().zip(&line.ends).zip(places) {
@@ -53,7 +54,8 @@ pub fn line_bytes(line: &Line) -> [u8; LINE_BYTES] {
 pub fn state_bytes(state: &State) -> [u8; STATE_BYTES] {
     let mut bytes = [0; STATE_BYTES];
     bytes[0] = state.posts;
-    bytes[TRACKS_AT..TRAINS_AT].copy_from_slice(&state.tracks);
+    bytes[TRACKS_AT..SIDINGS_AT].copy_from_slice(&state.tracks);
+    bytes[SIDINGS_AT] = state.sidings;
     bytes[TRAINS_AT] = state.trains;
     let places = bytes[FLEET_AT..].chunks_exact_mut(TRAIN_BYTES);
     for (train, place) in state.train.iter().zip(places) {
@@ -76,11 +78,12 @@ pub fn state_of(bytes: &[u8]) -> Option<State> {
     }
     let mut state = State {
         posts: bytes[0],
+        sidings: bytes[SIDINGS_AT],
         trains: bytes[TRAINS_AT],
         journal: bytes[COUNT_AT],
         ..State::EMPTY
     };
-    state.tracks.copy_from_slice(&bytes[TRACKS_AT..TRAINS_AT]);
+    state.tracks.copy_from_slice(&bytes[TRACKS_AT..SIDINGS_AT]);
     let places = bytes[FLEET_AT..].chunks_exact(TRAIN_BYTES);
     for (train, place) in state.train.iter_mut().zip(places) {
         *train = train_of(place)?;
@@ -153,4 +156,31 @@ pub fn unit_of(bytes: &[u8]) -> Option<Unit> {
         at,
         state: *PHASES.get(usize::from(phase))?,
     })
+}
+
+#[cfg(test)]
+mod tests {
+    use super::*;
+    use crate::books::book_2;
+    use crate::crews;
+
+    /// Three posts, a siding at the last, two trains.
+    const BEGINNING: [u8; FLEET_AT] = [3, 1, 2, 1, 0, 0, 0, 0, 0, 4, 2];
+
+    #[test]
+    fn a_line_and_a_state_are_as_the_header_has_them() {
+        let book = book_2(&[1, 2, 1], 4, &[[0, 2], [2, 1]]);
+        let line = line_bytes(&model::read_book(&book).unwrap());
+        assert_eq!(line[..FLEET_AT], BEGINNING);
+        assert_eq!(line[FLEET_AT..], [0, 2, 2, 1, 0, 0, 0, 0, 0, 0, 0, 0]);
+        let mut state = crews::open(&book).unwrap().state;
+        state.train[1].standing = Standing::Asked(6);
+        state.journal = 7;
+        let bytes = state_bytes(&state);
+        assert_eq!(bytes[..FLEET_AT], BEGINNING);
+        assert_eq!(bytes[FLEET_AT..][..10], [0, 2, 0, 0, 0, 2, 1, 2, 1, 6]);
+        assert_eq!(bytes[COUNT_AT..], [7]);
+        assert_eq!((line.len(), bytes.len()), (23, 42));
+        assert_eq!(state_of(&bytes), Some(state));
+    }
 }

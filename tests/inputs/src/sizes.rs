@@ -7,9 +7,11 @@ pub use model::{
 pub const RECORD_BYTES: usize = 4;
 pub const JOURNAL_BYTES: usize = RECORD_BYTES * JOURNAL_RECORDS;
 
-/// A line and a state begin alike: the posts, the tracks of eight posts, the trains. Then come the six trains.
+/// A line and a state begin alike: the posts, the tracks of eight posts, the byte of sidings, the trains. Then come the
+/// six trains.
 pub const TRACKS_AT: usize = 1;
-pub const TRAINS_AT: usize = TRACKS_AT + 8;
+pub const SIDINGS_AT: usize = TRACKS_AT + 8;
+pub const TRAINS_AT: usize = SIDINGS_AT + 1;
 pub const FLEET_AT: usize = TRAINS_AT + 1;
 
 /// Of a train a line has its start and end.
