@@ -1,6 +1,6 @@
 //! Every stored input by name: refused books, refused frames, torn tails, and whole runs.
 
-use inputs::books::{book, with_length, X, Y};
+use inputs::books::{book, book_2, with_length, X, Y};
 use inputs::crews;
 use inputs::frames::{frame, AFE, AM, FA, FE};
 use inputs::random::Random;
@@ -9,8 +9,11 @@ use inputs::sizes::FRAME_BYTES;
 type Input = (String, Vec<u8>);
 type Frame = [u8; FRAME_BYTES];
 
+/// Book X as one of edition 2, with a siding at each end of the line.
+const X_2: [u8; 13] = [0, 11, 2, 3, 1, 2, 1, 5, 2, 0, 2, 2, 0];
+
 /// Books that are refused, most of them book X with one byte changed.
-const BOOKS: [(&str, &[u8]); 19] = [
+const BOOKS: [(&str, &[u8]); 28] = [
     ("book-empty", &[]),
     ("book-one-byte", &[0]),
     ("book-length-only", &[0, 0]),
@@ -19,7 +22,31 @@ const BOOKS: [(&str, &[u8]); 19] = [
     ("book-length-too-small", &x_with(1, 0x09)),
     ("book-length-high-byte", &x_with(0, 1)),
     ("book-ends-early", X.split_at(9).0),
-    ("book-other-edition", &x_with(2, 2)),
+    ("book-other-edition", &x_with(2, 3)),
+    ("book-edition-0", &x_with(2, 0)),
+    ("book-edition-2-without-its-byte", &x_with(2, 2)),
+    ("book-edition-2-ends-early", &[0, 6, 2, 3, 1, 2, 1, 8]),
+    (
+        "book-edition-2-total-differs",
+        &[0, 10, 2, 3, 1, 2, 1, 5, 2, 0, 2, 2],
+    ),
+    (
+        "book-siding-off-the-line",
+        &[0, 11, 2, 3, 1, 2, 1, 8, 2, 0, 2, 2, 0],
+    ),
+    ("book-siding-before-no-train", &[0, 7, 2, 3, 1, 2, 1, 8, 0]),
+    (
+        "book-five-tracks-before-siding",
+        &[0, 9, 2, 3, 5, 2, 1, 8, 1, 0, 2],
+    ),
+    (
+        "book-siding-still-needs-a-track",
+        &[0, 10, 2, 2, 1, 1, 2, 2, 0, 1, 1, 0],
+    ),
+    (
+        "book-parked-without-a-siding",
+        &[0, 11, 1, 2, 1, 1, 3, 1, 1, 1, 1, 0, 1],
+    ),
     ("book-one-post", &x_with(3, 1)),
     ("book-nine-posts", &x_with(3, 9)),
     ("book-posts-past-the-end", &[0, 3, 1, 8, 1]),
@@ -34,21 +61,21 @@ const BOOKS: [(&str, &[u8]); 19] = [
 
 const ASK: Frame = frame(FA, 0, 0, 1);
 
+/// The paper's run.
+const RUN: [Frame; 8] = [
+    ASK,
+    frame(FA, 1, 2, 1),
+    frame(AM, 0, 0, 1),
+    frame(FA, 0, 1, 2),
+    frame(AM, 1, 2, 1),
+    frame(FA, 1, 1, 0),
+    frame(AM, 0, 1, 2),
+    frame(AM, 1, 1, 0),
+];
+
 /// Frames after book X.
 const ON_X: [(&str, &[Frame]); 17] = [
-    (
-        "frame-run-of-the-paper",
-        &[
-            ASK,
-            frame(FA, 1, 2, 1),
-            frame(AM, 0, 0, 1),
-            frame(FA, 0, 1, 2),
-            frame(AM, 1, 2, 1),
-            frame(FA, 1, 1, 0),
-            frame(AM, 0, 1, 2),
-            frame(AM, 1, 1, 0),
-        ],
-    ),
+    ("frame-run-of-the-paper", &RUN),
     ("frame-none", &[]),
     ("frame-other-length", &[[0, 6, 1, 1, 0, 0, 1], ASK]),
     ("frame-high-length-byte", &[[1, 5, 1, 1, 0, 0, 1]]),
@@ -97,6 +124,7 @@ pub fn all() -> Vec<Input> {
     inputs.extend(BOOKS.map(|(name, bytes)| (name.to_string(), bytes.to_vec())));
     inputs.extend(ON_X.map(|(name, frames)| on(&X, name, frames)));
     inputs.extend(made_books());
+    inputs.extend(sidings());
     inputs.extend(frames());
     inputs.extend(tails());
     inputs.extend(runs());
@@ -112,11 +140,13 @@ const fn x_with(at: usize, byte: u8) -> [u8; X.len()] {
 }
 
 /// Six trains on eight posts, three each way.
+const LARGEST: ([u8; 8], [[u8; 2]; 6]) = (
+    [4, 3, 2, 2, 2, 2, 3, 4],
+    [[0, 7], [7, 0], [0, 6], [7, 1], [1, 7], [6, 0]],
+);
+
 fn largest() -> Vec<u8> {
-    book(
-        &[4, 3, 2, 2, 2, 2, 3, 4],
-        &[[0, 7], [7, 0], [0, 6], [7, 1], [1, 7], [6, 0]],
-    )
+    book(&LARGEST.0, &LARGEST.1)
 }
 
 /// A book and frames.
@@ -129,7 +159,8 @@ fn made_books() -> Vec<Input> {
     let on_line = |name, tracks: &[u8], routes: &[[u8; 2]], frames: &[Frame]| {
         on(&book(tracks, routes), name, frames)
     };
-    let longer = with_length([&largest()[..], &[0, 0]].concat());
+    let longest = book_2(&LARGEST.0, 0x81, &LARGEST.1);
+    let longer = with_length([&longest[..], &[0, 0]].concat());
     let arrival = frame(AM, 0, 0, 1);
     let parked = [[0, 0], [0, 1], [1, 1]];
     vec![
@@ -138,7 +169,8 @@ fn made_books() -> Vec<Input> {
         on_line("book-no-way-through", &[1, 1, 1], &[[0, 2], [2, 0]], &[]),
         on_line("book-ends-overfull", &[1, 1, 1], &[[0, 2], [1, 2]], &[]),
         on_line("book-smallest", &[1, 1], &[[0, 1]], &[ASK, arrival]),
-        on(&largest(), "book-longest", &[ASK]),
+        on(&longest, "book-longest", &[ASK]),
+        on(&largest(), "book-longest-of-edition-1", &[ASK]),
         on(&longer, "book-longer-than-the-longest", &[ASK]),
         on(&[0xFF; 60], "book-names-ffff", &[]),
         on_line(
@@ -146,6 +178,41 @@ fn made_books() -> Vec<Input> {
             &[2, 2],
             &parked,
             &[frame(FA, 1, 0, 1), ASK],
+        ),
+    ]
+}
+
+/// Books with the frames in which sidings tell, or are to make no difference.
+fn sidings() -> Vec<Input> {
+    let second = frame(FA, 1, 0, 1);
+    let (arrival, its_arrival) = (frame(AM, 0, 0, 1), frame(AM, 1, 0, 1));
+    let two = |name, sidings| {
+        let book = book_2(&[2, 1], sidings, &[[0, 1], [0, 1]]);
+        on(&book, name, &[ASK, second, arrival, its_arrival])
+    };
+    let everywhere = book_2(&[1, 2, 1], 7, &[[0, 2], [2, 0]]);
+    let through = book_2(&[1, 1, 1], 2, &[[0, 1], [1, 2]]);
+    let going = [ASK, frame(FA, 1, 1, 2), frame(AM, 1, 1, 2)];
+    let parked = book_2(&[1, 1], 2, &[[1, 1], [1, 1], [0, 1]]);
+    let under_way = book_2(&[1, 1, 1], 2, &[[0, 1], [2, 1]]);
+    vec![
+        on(&X_2, "book-edition-2", &RUN),
+        on(&everywhere, "book-siding-at-every-post", &RUN),
+        on(&X_2, "frame-edition-2", &[[0, 5, 2, 1, 0, 0, 1], ASK]),
+        two("book-siding-lets-in-two", 2),
+        two("book-no-siding-for-two", 0),
+        two("book-siding-at-the-other-post", 1),
+        on(
+            &book(&[2, 1], &[[0, 1], [0, 1]]),
+            "book-edition-1-for-two",
+            &[],
+        ),
+        on(&through, "book-siding-without-a-free-track", &going),
+        on(&parked, "book-parked-in-a-siding", &[frame(FA, 2, 0, 1)]),
+        on(
+            &under_way,
+            "book-siding-held-under-way",
+            &[ASK, frame(FA, 1, 2, 1), arrival],
         ),
     ]
 }
@@ -179,7 +246,18 @@ fn tails() -> Vec<Input> {
 /// Runs in which crews ask and report in a random order, among stray frames, until all are home.
 fn runs() -> Vec<Input> {
     let mut inputs = Vec::new();
-    for (name, book) in [("x", X.to_vec()), ("y", Y.to_vec()), ("largest", largest())] {
+    // Three trains end at either single track.
+    let put_away = book_2(
+        &[1, 2, 2, 2, 2, 2, 2, 1],
+        0x81,
+        &[[0, 7], [7, 0], [1, 7], [6, 0], [2, 7], [5, 0]],
+    );
+    for (name, book) in [
+        ("x", X.to_vec()),
+        ("y", Y.to_vec()),
+        ("largest", largest()),
+        ("sidings", put_away),
+    ] {
         for seed in 1..=6 {
             let random = &mut Random::of_stored_runs(seed * 7919);
             inputs.extend(run_home(format!("run-{name}-{seed}"), &book, random));
@@ -189,6 +267,9 @@ fn runs() -> Vec<Input> {
         let random = &mut Random::of_stored_runs(seed * 104_729);
         let book = random_book(random);
         inputs.extend(run_home(format!("run-random-{seed}"), &book, random));
+        let book = random_book_2(random);
+        let name = format!("run-random-sidings-{seed}");
+        inputs.extend(run_home(name, &book, random));
     }
     inputs
 }
@@ -196,16 +277,33 @@ fn runs() -> Vec<Input> {
 /// A random book that opens.
 fn random_book(random: &mut Random) -> Vec<u8> {
     loop {
-        let posts = random.between(3, 8);
-        let tracks: Vec<u8> = (0..posts).map(|_| random.between(1, 4)).collect();
-        let routes: Vec<[u8; 2]> = (0..random.between(3, 6))
-            .map(|_| [(); 2].map(|()| random.between(0, posts - 1)))
-            .collect();
+        let (tracks, routes) = random_line(random);
         let book = book(&tracks, &routes);
         if crews::open(&book).is_some() {
             return book;
         }
     }
+}
+
+/// A random book that opens by its sidings alone.
+fn random_book_2(random: &mut Random) -> Vec<u8> {
+    loop {
+        let (tracks, routes) = random_line(random);
+        let sidings = random.byte() >> (8 - tracks.len());
+        let [with, without] = [sidings, 0].map(|sidings| book_2(&tracks, sidings, &routes));
+        if crews::open(&with).is_some() && crews::open(&without).is_none() {
+            return with;
+        }
+    }
+}
+
+fn random_line(random: &mut Random) -> (Vec<u8>, Vec<[u8; 2]>) {
+    let posts = random.between(3, 8);
+    let tracks = (0..posts).map(|_| random.between(1, 4)).collect();
+    let routes = (0..random.between(3, 6))
+        .map(|_| [(); 2].map(|()| random.between(0, posts - 1)))
+        .collect();
+    (tracks, routes)
 }
 
 /// The book and the frames of a run of it; none where the book is refused.
