@@ -1,7 +1,7 @@
 /*
  * The run of 01 from C: opens book X, answers eight frames that two drivers' units give, and prints
- * the journal. Then one unit goes once through its flow. Exit status 0 where all went as the paper
- * says, else 1.
+ * the journal. Then one unit goes once through its flow, and a book with sidings is opened. Exit
+ * status 0 where all went as the paper says, else 1.
  *
  *   rt staticlib quangevit
  *   cc -Wall -Wextra -I crates/quangevit tests/c/example.c target/staticlib/libquangevit.a -o example
@@ -23,6 +23,7 @@ static const uint8_t RUN[RECORDS][QUANGEVIT_RECORD_BYTES] = {
     {QUANGEVIT_AM, 1, 1, 0},
 };
 
+static uint8_t line[QUANGEVIT_LINE_BYTES];
 static uint8_t state[QUANGEVIT_STATE_BYTES];
 static uint8_t table[QUANGEVIT_TABLE_BYTES];
 static uint8_t journal[QUANGEVIT_JOURNAL_BYTES];
@@ -65,6 +66,12 @@ static void send(const uint8_t *frame) {
         for (t = 0; t < 2; t++)
             expect(hear(t, out + QUANGEVIT_FRAME_BYTES * k) == QUANGEVIT_ACCEPTED,
                    "an answer is not heard");
+}
+
+/* Opens a book; answers the number of the refusal. */
+static uint32_t open_book(const uint8_t *book, size_t book_len) {
+    return quangevit_open(book, book_len, state, sizeof state, table, sizeof table, journal,
+                          sizeof journal);
 }
 
 /* The driver of train t asks for the next move. */
@@ -138,18 +145,26 @@ static void flow(void) {
     press_refused(0, QUANGEVIT_ASK, QUANGEVIT_AT_ITS_END);
 }
 
+/* Book X as one of edition 2: with a siding at each end, then at a post that is not in the line. */
+static void sidings(void) {
+    uint8_t book[] = {0x00, 0x0B, 2, 3, 1, 2, 1, 5, 2, 0, 2, 2, 0};
+    expect(open_book(book, sizeof book) == QUANGEVIT_ACCEPTED, "a book with sidings does not open");
+    expect(state[QUANGEVIT_STATE_SIDINGS_AT] == 5, "other sidings");
+    book[7] = 8;
+    expect(quangevit_read_book(book, sizeof book, line, sizeof line) == QUANGEVIT_SIDINGS,
+           "a siding off the line is read");
+}
+
 int main(void) {
-    static uint8_t line[QUANGEVIT_LINE_BYTES];
-    static const uint8_t line_x[QUANGEVIT_LINE_BYTES] = {3, 1, 2, 1, 0, 0, 0, 0, 0, 2, 0, 2, 2, 0};
+    static const uint8_t line_x[QUANGEVIT_LINE_BYTES] = {3, 1, 2, 1, 0, 0, 0, 0,
+                                                         0, 0, 2, 0, 2, 2, 0};
     const uint8_t *route = line + QUANGEVIT_LINE_ROUTES_AT;
     unsigned t;
     expect(quangevit_version() == QUANGEVIT_VERSION, "the library has another version");
     expect(quangevit_read_book(BOOK_X, sizeof BOOK_X, line, sizeof line) == QUANGEVIT_ACCEPTED,
            "book X is not read");
     expect(memcmp(line, line_x, sizeof line) == 0, "book X is another line");
-    expect(quangevit_open(BOOK_X, sizeof BOOK_X, state, sizeof state, table, sizeof table, journal,
-                          sizeof journal) == QUANGEVIT_ACCEPTED,
-           "book X does not open");
+    expect(open_book(BOOK_X, sizeof BOOK_X) == QUANGEVIT_ACCEPTED, "book X does not open");
     for (t = 0; t < 2; t++, route += QUANGEVIT_ROUTE_BYTES)
         expect(quangevit_make_unit((uint8_t)t, route[QUANGEVIT_ROUTE_START_AT],
                                    route[QUANGEVIT_ROUTE_END_AT], units[t],
@@ -168,5 +183,6 @@ int main(void) {
     expect(memcmp(journal, RUN, sizeof RUN) == 0, "other records");
     expect(refused_frames == 0, "a frame is refused");
     flow();
+    sidings();
     return off;
 }

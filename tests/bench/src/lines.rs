@@ -1,10 +1,12 @@
 //! The lines that are measured, from the smallest to the largest.
 
-use inputs::books;
+use inputs::books::Parts;
 
 pub struct Line {
     pub name: &'static str,
     tracks: &'static [u8],
+    /// None in edition 1.
+    sidings: Option<u8>,
     routes: &'static [[u8; 2]],
 }
 
@@ -12,11 +14,20 @@ const fn line(name: &'static str, tracks: &'static [u8], routes: &'static [[u8; 
     Line {
         name,
         tracks,
+        sidings: None,
         routes,
     }
 }
 
-pub const LINES: [Line; 7] = [
+/// The line with a siding at each end of it.
+const fn with_sidings(line: Line) -> Line {
+    Line {
+        sidings: Some(1 | 1 << (line.tracks.len() - 1)),
+        ..line
+    }
+}
+
+pub const LINES: [Line; 9] = [
     line("1-train-2-posts", &[1, 1], &[[0, 1]]),
     line("2-trains-3-posts-X", &[1, 2, 1], &[[0, 2], [2, 0]]),
     line("3-trains-3-posts-Y", &[2, 1, 2], &[[0, 2], [0, 2], [2, 0]]),
@@ -40,10 +51,20 @@ pub const LINES: [Line; 7] = [
         &[4; 8],
         &[[0, 7], [7, 0], [0, 7], [7, 0], [0, 7], [7, 0]],
     ),
+    with_sidings(line(
+        "4-trains-5-posts-sidings",
+        &[1, 2, 2, 2, 1],
+        &[[0, 4], [4, 0], [1, 4], [3, 0]],
+    )),
+    with_sidings(line(
+        "6-trains-8-posts-sidings",
+        &[1, 2, 2, 2, 2, 2, 2, 1],
+        &[[0, 7], [7, 0], [1, 7], [6, 0], [2, 7], [5, 0]],
+    )),
 ];
 
 impl Line {
     pub fn book(&self) -> Vec<u8> {
-        books::book(self.tracks, self.routes)
+        Parts::new(self.tracks, self.sidings, self.routes).bytes()
     }
 }

@@ -4,7 +4,7 @@
 //!
 //! SHIM is `read.c` as a shared object. What must be printed is what the model says of a reader with the same reads.
 
-use inputs::books::X;
+use inputs::books::{book_2, X};
 use inputs::frames::{frame, FA};
 use std::io::{self, Read, Write};
 use std::process::{self, Command, Stdio};
@@ -72,10 +72,16 @@ fn printed(program: &str, shim: &str, bytes: &[u8], reads: Reads) -> io::Result<
     Ok(String::from_utf8_lossy(&output.stdout).into_owned())
 }
 
-/// A short input: the paper's book X, two requests and three bytes of a frame.
-fn short_input() -> Vec<u8> {
+/// A short input: a book, two requests and three bytes of a frame.
+fn short_input(book: &[u8]) -> Vec<u8> {
     let ask = frame(FA, 0, 0, 1);
-    [&X[..], &ask, &ask, &ask[..3]].concat()
+    [book, &ask, &ask, &ask[..3]].concat()
+}
+
+/// The longest book, with a siding where all trains end.
+fn longest_book() -> Vec<u8> {
+    let routes = [[0, 7], [0, 7], [0, 7], [0, 7], [1, 7], [1, 7]];
+    book_2(&[4, 3, 1, 1, 1, 1, 1, 1], 0x80, &routes)
 }
 
 /// Every input with the ways in which it is read.
@@ -92,11 +98,19 @@ fn cases() -> io::Result<Vec<(String, Vec<u8>, Reads)>> {
             add(&path.to_string_lossy(), &bytes, most, NEVER, 0);
         }
     }
-    let short = short_input();
-    for fails in 0..=short.len() {
-        for error in ERRORS {
-            for most in [1, 5, 4096] {
-                add("the short input", &short, most, fails, error);
+    let short = [
+        ("the short input", short_input(&X)),
+        (
+            "the short input after the longest book",
+            short_input(&longest_book()),
+        ),
+    ];
+    for (name, bytes) in &short {
+        for fails in 0..=bytes.len() {
+            for error in ERRORS {
+                for most in [1, 5, 4096] {
+                    add(name, bytes, most, fails, error);
+                }
             }
         }
     }
