@@ -158,7 +158,9 @@ module _ (s : State) (d : Consistent s) (t : ℕ) (known : t < s .trains) where
     post = λ p k.
         let x = trainOf s t in
         let away = isStabled (s .sidings) (x .route .end .0) (nextOf x) in
-        rw (runs, standing-holds (s .sidings) (x .route .end .0) (nextOf x) p)
+        let held : holdsPost (locatedAt (s .sidings) (arrivedNext x)) p ≡ not away && eqb (nextOf x) p =
+        standing-holds (s .sidings) (x .route .end .0) (nextOf x) p in
+        rw (runs, held)
         (omega (arith, d .posts p k, fewer-held away (eqb (x .at .0) p) (eqb (nextOf x) p)));
     number = λ u ku h p. absurd (false≢true p);
   })
