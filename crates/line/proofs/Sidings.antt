@@ -60,10 +60,6 @@ module _ (b : List ℕ) (first : refusal (postsChecks b) ≡ 0) where
 
 -- ---- the trains that stand
 
-put-away : (set e : ℕ) → bitAt set e ≡ true → (x : ℕ) → holdsPost (standing set e e) x ≡ false
-unfolding standing
-put-away set e h x = rw (eq-eqb e e refl, h)
-
 short-of-end : (set e p : ℕ) → p ≢ e → holdsPost (standing set e p) p ≡ true
 unfolding standing
 short-of-end set e p h = rw (ne-eqb p e h, eq-eqb p p refl)
@@ -71,6 +67,10 @@ short-of-end set e p h = rw (ne-eqb p e h, eq-eqb p p refl)
 no-siding : (set e p : ℕ) → bitAt set p ≡ false → holdsPost (standing set e p) p ≡ true
 unfolding standing
 no-siding set e p h = rw (h, and-false (eqb p e), eq-eqb p p refl)
+
+put-away : (set e : ℕ) → bitAt set e ≡ true → (x : ℕ) → holdsPost (standing set e e) x ≡ false
+unfolding standing
+put-away set e h x = rw (eq-eqb e e refl, h)
 
 pub sidings : Sidings
 sidings = record {
