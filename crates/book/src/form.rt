@@ -1,8 +1,9 @@
 // Whether a line's numbers are in the ranges that a book gives them.
 ghost use mathlib.Core.Path.{_≡_};
 ghost use Prim.Native.Nat.{_≤_};
-ghost use Rattle.line.specs.Line.{tracksInRange, namesPosts, routesOnLine, wellFormed};
+ghost use Rattle.line.specs.Line.{tracksInRange, routesOnLine, wellFormed};
 use line::Line;
+use line::names_posts;
 
 // Places for posts from `posts` on and trains from `trains` on are not read.
 pub fn well_formed(line: Line) -> bool
@@ -17,7 +18,7 @@ pub fn well_formed(line: Line) -> bool
     if !tracks_in_range(line) {
         return false;
     }
-    if !sidings_on_line(line.posts, line.sidings) {
+    if !names_posts(line.posts, line.sidings) {
         return false;
     }
     if line.trains < 1 {
@@ -46,14 +47,6 @@ pub(crate) fn tracks_in_range(line: Line) -> bool
         p += 1;
     }
     true
-}
-
-// Whether a set of posts, each by its bit, names only posts of the line.
-pub(crate) fn sidings_on_line(posts: u8, sidings: u8) -> bool
-    requires { ⌜ posts ≤ 8 ⌝ }
-    ensures { λ r. ⌜ r ≡ namesPosts posts sidings ⌝ }
-{
-    (sidings as u32) < 1u32 << posts
 }
 
 // Whether every train starts and ends on the line.

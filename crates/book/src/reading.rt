@@ -11,7 +11,6 @@ ghost use Rattle.line.specs.Book.{countAt, added, sidingsAt, trainsAt, total, b
 ghost use Rattle.line.specs.Book.{routeIn, emptyLine, refusedBy, readBook, outcomeNumber};
 ghost use Rattle.book.specs.Stages.{numberOf, postsStage, tracksStage, sidingsStage, trainsStage, routesStage};
 use crate::form::routes_on_line;
-use crate::form::sidings_on_line;
 use crate::form::tracks_in_range;
 use line::Line;
 use line::NO_ROUTE;
@@ -19,6 +18,7 @@ use line::Outcome;
 use line::PostNo;
 use line::Reading;
 use line::Route;
+use line::names_posts;
 use line::refusal;
 use line::word::word;
 
@@ -202,7 +202,7 @@ fn read_sidings(book: &[u8], posts: u8) -> Stage
     ensures { λ r. ⌜ r ≡ sidingsStage (now (book .entry)) ⌝ }
 {
     let sidings = siding_byte(book, posts);
-    if !sidings_on_line(posts, sidings) {
+    if !names_posts(posts, sidings) {
         return Stage::Stopped(refusal::SIDINGS);
     }
     Stage::Passed(sidings)

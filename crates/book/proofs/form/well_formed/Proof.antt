@@ -37,7 +37,7 @@ module _ (c : tie.Else3) where
 returns-4 : tie.Need-returns-4
 returns-4 c =
     let p = c .before .before in
-    let off = sym (c .before .sidings-on-line .ensures) ∙ not-true _ (c .if4 .taken) in
+    let off = sym (c .before .names-posts .ensures) ∙ not-true _ (c .if4 .taken) in
     sidings-fail (line p) (posts p) (tracks p) off
 
 -- and sidings
@@ -45,7 +45,7 @@ abbrev from-sidings : tie.Else4 → tie.Else3
 from-sidings c = c .before .before
 
 sidings : (c : tie.Else4) → sidingsOnLine (line (from-sidings c)) ≡ true
-sidings c = sym (c .before .sidings-on-line .ensures) ∙ not-false _ (c .if4 .left)
+sidings c = sym (c .before .names-posts .ensures) ∙ not-false _ (c .if4 .left)
 
 returns-5 : tie.Need-returns-5
 returns-5 c =
