@@ -22,7 +22,7 @@ pub record BookCall : Type 0 where
 abbrev pub bookCall : ℕ → List ℕ → BookCall
 bookCall answer line = record { answer = answer; line = line }
 
--- a `line` buffer that is not 22 bytes is 1, nothing changed. Else the line is written; a refused book writes 22
+-- a `line` buffer that is not 23 bytes is 1, nothing changed. Else the line is written; a refused book writes 23
 -- zeros.
 unfoldable pub readBookCall : List ℕ → List ℕ → BookCall
 readBookCall book line =
@@ -41,7 +41,7 @@ pub record OpenCall : Type 0 where
 abbrev pub openCallOf : ℕ → List ℕ → List ℕ → OpenCall
 openCallOf answer state table = record { answer = answer; state = state; table = table }
 
--- a `state` buffer that is not 41 bytes is 1, nothing changed, before every other check. Else as 01. What `state`
+-- a `state` buffer that is not 42 bytes is 1, nothing changed, before every other check. Else as 01. What `state`
 -- held is not looked at. The journal is not written.
 unfoldable pub openCall : List ℕ → List ℕ → List ℕ → List ℕ → OpenCall
 openCall book state table journal =
