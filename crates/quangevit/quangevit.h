@@ -11,8 +11,9 @@
  * What a call answers, and every byte it leaves in a buffer, is proved to be what the rules say
  * (crates/calls/specs), for every content and every length of the buffers. It is proved too
  * that after a quangevit_open that answers 0, where each quangevit_answer gets the bytes that the
- * call before it left, whatever the frames, no section has two holders, no post more trains than
- * tracks, every authority has its logged request, and the trains never all wait for each other.
+ * call before it left, whatever the frames, no section has two holders, no post more trains on its
+ * tracks than it has, every authority has its logged request, and the trains never all wait for
+ * each other.
  *
  * The library is for x86-64 with SSE2 and the System V ABI, whose 128 bytes below the stack pointer
  * it uses: the handler of an interrupt leaves them alone, or has a stack of its own. It has no data
@@ -35,8 +36,8 @@
 extern "C" {
 #endif
 
-/* 100 times the edition (what the ends answer) plus the revision: 102 is version 1.02. */
-#define QUANGEVIT_VERSION 102
+/* 100 times the edition (what the ends answer) plus the revision: 200 is version 2.00. */
+#define QUANGEVIT_VERSION 200
 
 #define QUANGEVIT_REFUSAL(answer) ((answer) & 255u)
 #define QUANGEVIT_SENT(answer) ((answer) >> 8)
@@ -46,14 +47,14 @@ extern "C" {
  * at least this length; a frame that is heard or answered has exactly this length, and the buffer
  * that a press is lent for its frame at least this length.
  */
-#define QUANGEVIT_LINE_BYTES 22
-#define QUANGEVIT_STATE_BYTES 41
+#define QUANGEVIT_LINE_BYTES 23
+#define QUANGEVIT_STATE_BYTES 42
 #define QUANGEVIT_TABLE_BYTES 32768
 #define QUANGEVIT_JOURNAL_BYTES 704 /* 176 records */
 #define QUANGEVIT_OUT_BYTES 42      /* six frames */
 #define QUANGEVIT_FRAME_BYTES 7
 #define QUANGEVIT_UNIT_BYTES 5
-#define QUANGEVIT_BOOK_MOST_BYTES 25 /* the longest book */
+#define QUANGEVIT_BOOK_MOST_BYTES 26 /* the longest book */
 
 #define QUANGEVIT_POSTS_MOST 8
 #define QUANGEVIT_TRAINS_MOST 6
@@ -67,37 +68,44 @@ extern "C" {
 /* ---- what the bytes mean */
 
 /*
- * Book: two bytes of length, high byte first (the bytes after them), version byte 1, the number of
- * posts P (2 to 8), P track counts (1 to 4 each), the number of trains T (1 to 6), then start and
- * end post of each train. 5 + P + 2 T bytes in all.
+ * Book: two bytes of length, high byte first (the bytes after them), the version byte 1 or 2, which
+ * is the book's edition, the number of posts P (2 to 8), P track counts (1 to 4 each), in edition 2
+ * the siding byte, the number of trains T (1 to 6), then start and end post of each train. In all
+ * 5 + P + 2 T bytes, and one more in edition 2.
+ *
+ * The siding byte is a set of posts: the bit of value 2^i says that post i has a siding. Of a book
+ * of edition 1 it is 0. A train standing at its end where there is a siding holds no track; a move
+ * into that post needs a free track before it all the same.
  */
 
 /*
- * Line: the number of posts, the tracks of posts 0 to 7, the number of trains, then two bytes for
- * each of trains 0 to 5. What the book does not name is 0.
+ * Line: the number of posts, the tracks of posts 0 to 7, the siding byte, the number of trains,
+ * then two bytes for each of trains 0 to 5. What the book does not name is 0.
  */
 enum quangevit_line_at {
     QUANGEVIT_LINE_POSTS_AT = 0,
     QUANGEVIT_LINE_TRACKS_AT = 1, /* of post p: + p */
-    QUANGEVIT_LINE_TRAINS_AT = 9,
-    QUANGEVIT_LINE_ROUTES_AT = 10 /* of train t: + QUANGEVIT_ROUTE_BYTES * t */
+    QUANGEVIT_LINE_SIDINGS_AT = 9,
+    QUANGEVIT_LINE_TRAINS_AT = 10,
+    QUANGEVIT_LINE_ROUTES_AT = 11 /* of train t: + QUANGEVIT_ROUTE_BYTES * t */
 };
 
 #define QUANGEVIT_ROUTE_BYTES 2
 enum quangevit_route_at { QUANGEVIT_ROUTE_START_AT = 0, QUANGEVIT_ROUTE_END_AT = 1 };
 
 /*
- * State: the number of posts, the tracks of posts 0 to 7, the number of trains, then five bytes for
- * each of trains 0 to 5, last the number of records in the journal. Keep it between calls and do
- * not change it. 41 bytes with another status, or with a number of a request where the status is
- * not Asked, encode no state.
+ * State: the number of posts, the tracks of posts 0 to 7, the siding byte, the number of trains,
+ * then five bytes for each of trains 0 to 5, last the number of records in the journal. Keep it
+ * between calls and do not change it. 42 bytes with another status, or with a number of a request
+ * where the status is not Asked, encode no state.
  */
 enum quangevit_state_at {
     QUANGEVIT_STATE_POSTS_AT = 0,
     QUANGEVIT_STATE_TRACKS_AT = 1, /* of post p: + p */
-    QUANGEVIT_STATE_TRAINS_AT = 9,
-    QUANGEVIT_STATE_FLEET_AT = 10, /* of train t: + QUANGEVIT_TRAIN_BYTES * t */
-    QUANGEVIT_STATE_LOGGED_AT = 40
+    QUANGEVIT_STATE_SIDINGS_AT = 9,
+    QUANGEVIT_STATE_TRAINS_AT = 10,
+    QUANGEVIT_STATE_FLEET_AT = 11, /* of train t: + QUANGEVIT_TRAIN_BYTES * t */
+    QUANGEVIT_STATE_LOGGED_AT = 41
 };
 
 #define QUANGEVIT_TRAIN_BYTES 5
@@ -180,7 +188,7 @@ enum quangevit_refusal {
                                        line, state or unit buffer has another length */
     QUANGEVIT_SHORT_STORE = 2,      /* table, journal, out buffer or a press's frame too short */
     QUANGEVIT_TORN_FRAME = 3,       /* frame not 7 bytes, or its length bytes not 0 and 5 */
-    QUANGEVIT_OTHER_EDITION = 4,    /* version byte of frame or book not 1 */
+    QUANGEVIT_OTHER_EDITION = 4,    /* version byte of a frame not 1, of a book not 1 or 2 */
     QUANGEVIT_UNKNOWN_KIND = 5,     /* kind not 1 to 4 */
     QUANGEVIT_WRONG_END = 6,        /* FE, AFE at the dispatcher; FA, AM at a unit */
     QUANGEVIT_UNKNOWN_TRAIN = 7,    /* no train of this number */
@@ -195,10 +203,11 @@ enum quangevit_refusal {
     QUANGEVIT_TRACKS = 16,          /* a track count not 1 to 4 */
     QUANGEVIT_TRAINS = 17,          /* trains not 1 to 6 */
     QUANGEVIT_OFF_THE_LINE = 18,    /* start or end off the line; a unit's numbers out of range */
-    QUANGEVIT_OVERFULL = 19,        /* more trains start at a post than it has tracks */
+    QUANGEVIT_OVERFULL = 19,        /* more trains start on the tracks of a post than it has */
     QUANGEVIT_NO_WAY_THROUGH = 20,  /* the trains cannot all reach their ends */
     QUANGEVIT_NOT_NOW = 21,         /* button in the wrong phase, or no button */
-    QUANGEVIT_NOT_AWAITED = 22      /* FE in the wrong phase or for another move */
+    QUANGEVIT_NOT_AWAITED = 22,     /* FE in the wrong phase or for another move */
+    QUANGEVIT_SIDINGS = 23          /* the siding byte names a post not on the line */
 };
 
 /* The version of the library that is linked: QUANGEVIT_VERSION where it fits this header. */
@@ -208,19 +217,20 @@ uint32_t quangevit_version(void);
 
 /*
  * Reads a book and writes the line that it describes. Checks, in this order: 1, a line buffer that
- * is not 22 bytes, which is left alone; 14, a book under 4 bytes or of another length than it
- * names; 4; 15; 14, under 5 + P bytes; 16; 17; 14, not 5 + P + 2 T bytes; 18. A book that is
- * refused by 4 or 14 to 18 writes 22 zeros.
+ * is not 23 bytes, which is left alone; 14, a book under 4 bytes or of another length than it
+ * names; 4; 15; 14, under 5 + P bytes, or 6 + P in edition 2; 16; 23; 17; 14, not 5 + P + 2 T
+ * bytes, or 6 + P + 2 T in edition 2; 18. A book that is refused by 4, 14 to 18 or 23 writes 23
+ * zeros.
  */
 uint32_t quangevit_read_book(const uint8_t *book, size_t book_len, uint8_t *line, size_t line_len);
 
 /*
  * Opens a book: fills the table and writes the state in which every train is Free at its start and
  * the journal has no record. What the state buffer held is not looked at; the journal is only
- * measured. Checks, in this order: 1, a state buffer that is not 41 bytes, and nothing is changed;
- * 2, table or journal; those of quangevit_read_book from 14 on; 19; 20. A refusal by 2, 4 or 14 to
- * 20 writes 41 zeros, a state on which quangevit_answer gives 1; the table is then left alone, but
- * for 20, which leaves it filled.
+ * measured. Checks, in this order: 1, a state buffer that is not 42 bytes, and nothing is changed;
+ * 2, table or journal; those of quangevit_read_book from 14 on; 19; 20. A refusal by 2, 4, 14 to 20
+ * or 23 writes 42 zeros, a state on which quangevit_answer gives 1; the table is then left alone,
+ * but for 20, which leaves it filled.
  */
 uint32_t quangevit_open(const uint8_t *book, size_t book_len, uint8_t *state, size_t state_len,
                         uint8_t *table, size_t table_len, const uint8_t *journal,
