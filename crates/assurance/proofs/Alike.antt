@@ -68,10 +68,14 @@ module _ (s u : State) (a : Alike s u) where
   of-train f t k = ap f (a .train t k)
 
   section-same : (i : ℕ) → sectionHolders (u .trains) (located u) i ≡ sectionHolders (s .trains) (located s) i
-  section-same i = rw (a .trains, a .sidings) (count-cong (s .trains) _ _ (of-train (λ x. holdsSection (locatedAt (s .sidings) x) i)))
+  section-same i =
+      rw (a .trains, a .sidings)
+      (count-cong (s .trains) _ _ (of-train (λ x. holdsSection (locatedAt (s .sidings) x) i)))
 
   post-same : (p : ℕ) → postHolders (u .trains) (located u) p ≡ postHolders (s .trains) (located s) p
-  post-same p = rw (a .trains, a .sidings) (count-cong (s .trains) _ _ (of-train (λ x. holdsPost (locatedAt (s .sidings) x) p)))
+  post-same p =
+      rw (a .trains, a .sidings)
+      (count-cong (s .trains) _ _ (of-train (λ x. holdsPost (locatedAt (s .sidings) x) p)))
 
   route-same : (t : ℕ) → t < s .trains → routeOf (lineOf u) t ≡ routeOf (lineOf s) t
   route-same t k = route-of u t ∙ of-train (λ x. x .route) t k ∙ sym (route-of s t)

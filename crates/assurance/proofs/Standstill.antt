@@ -1,21 +1,20 @@
 -- No standstill: where nobody can be granted, some train that is short of its end is not waiting. With no train
 -- Running, the first move of a completion is one that can be granted.
-use mathlib.Core.Path.{_≡_, sym, ap, _∙_}
+use mathlib.Core.Path.{_≡_, ap, _∙_}
 use mathlib.Core.Logic.{_≢_}
 use mathlib.Core.Bool.{Bool, true, false, not, _&&_}
 use mathlib.Core.List.{List}
-use Prim.Native.Nat.{ℕ, _+_, _<_}
+use Prim.Native.Nat.{ℕ, _<_}
 use native.Mathlib.Omega.{arith}
-use borrow.Author.Tests.{eqb-false, eq-eqb, ne-eqb, not-true, not-false}
-use Rattle.common.specs.Below.{ofBool, countBelow, anyBelow}
+use borrow.Author.Tests.{eqb-false, ne-eqb, not-true, not-false}
+use Rattle.common.specs.Below.{anyBelow}
 use Rattle.common.proofs.Tests.{clash, by-cases, not-passed, and-left, and-right}
-use Rattle.common.proofs.Below.{count-none, count-cong, count-change, any-below, below-any}
-use Rattle.common.proofs.Update.{update-own, update-other}
+use Rattle.common.proofs.Below.{count-none, count-cong, any-below, below-any}
 use Rattle.line.specs.Line.{routeOf, tracksAt}
 use Rattle.line.specs.Route.{sectionOf, routeDistance, postAfter}
 use Rattle.line.specs.Holding.{Whereabouts, holdsPost, holdsSection, postHolders, sectionHolders}
 use Rattle.line.proofs.Holding.{standing-section}
-use Rattle.line.proofs.Travel.{post-travelled, post-next, next-other, next-within}
+use Rattle.line.proofs.Travel.{post-travelled, post-next, next-within}
 use Rattle.completion.specs.Configuration.{Arrived, Completable, whereabouts, holders, moved, postAhead}
 use Rattle.completion.specs.Table.{Onward}
 use Rattle.completion.proofs.Agreement.{first-move}
@@ -23,7 +22,7 @@ use Rattle.rules.specs.declared.state.Train.{Train}
 use Rattle.rules.specs.State.{isAsked, isRunning, atEnd, nextOf, trainOf, lineOf, located, reached}
 use Rattle.rules.specs.Granting.{grantable}
 use Rattle.rules.proofs.Trains.{asked-idle, running-busy, route-of}
-use Rattle.rules.proofs.Validity.{Consistent, next-post-below}
+use Rattle.rules.proofs.Validity.{Consistent}
 use Rattle.rules.proofs.Changes.{is-grantable}
 use Rattle.rules.proofs.Oldest.{Nobody}
 use Rattle.rules.proofs.Reached.{reached-idle}

@@ -90,12 +90,15 @@ module _ (table : List ℕ) (s : State) (j : List Record) (o : Observer) (inv : 
 -- ---- who holds
 
 module _ (table : List ℕ) (s : State) (j : List Record) (o : Observer) (inv : Invariant table s j o) where
-  pub sections-told : (i : ℕ) → sectionHolders (s .trains) (locatedTold (lineOf s) o) i ≡ sectionHolders (s .trains) (recorded s) i
-  sections-told i = count-cong (s .trains) (λ u. holdsSection (locatedTold (lineOf s) o u) i) (λ u. holdsSection (recorded s u) i)
+  abbrev seen-at : ℕ → Whereabouts
+  seen-at = locatedTold (lineOf s) o
+
+  pub sections-told : (i : ℕ) → sectionHolders (s .trains) seen-at i ≡ sectionHolders (s .trains) (recorded s) i
+  sections-told i = count-cong (s .trains) (λ u. holdsSection (seen-at u) i) (λ u. holdsSection (recorded s u) i)
       (λ u ku. ap (λ (w : Whereabouts). holdsSection w i) (told table s j o inv u ku))
 
-  pub posts-told : (p : ℕ) → postHolders (s .trains) (locatedTold (lineOf s) o) p ≡ postHolders (s .trains) (recorded s) p
-  posts-told p = count-cong (s .trains) (λ u. holdsPost (locatedTold (lineOf s) o u) p) (λ u. holdsPost (recorded s u) p)
+  pub posts-told : (p : ℕ) → postHolders (s .trains) seen-at p ≡ postHolders (s .trains) (recorded s) p
+  posts-told p = count-cong (s .trains) (λ u. holdsPost (seen-at u) p) (λ u. holdsPost (recorded s u) p)
       (λ u ku. ap (λ (w : Whereabouts). holdsPost w p) (told table s j o inv u ku))
 
 -- ---- the claim over a list

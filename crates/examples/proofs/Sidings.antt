@@ -16,8 +16,8 @@ unfolding readAlone numbersOf
 siding-byte = record { read = refl; named = refl; order = refl; lengths = refl; editions = refl }
 
 pub still-needs-a-track : StillNeedsATrack
-unfolding bytesOf openedBlank ranWith repliesIn countBelow allBelow valuesFrom padded added postAfter standing within fits
-    arrived feasible update
+unfolding bytesOf openedBlank ranWith repliesIn countBelow allBelow valuesFrom padded added postAfter standing within
+    fits arrived feasible update
 still-needs-a-track = record { refused = refl; lawful = refl; waits = refl }
 
 pub put-away : PutAway

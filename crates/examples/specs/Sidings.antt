@@ -7,11 +7,12 @@ use lib.ListN.{replicate}
 use Rattle.line.specs.declared.line.Line.{Line}
 use Rattle.line.specs.Line.{noRoute}
 use Rattle.line.specs.Book.{route, lineIn, acceptedBook}
-use Rattle.line.specs.Holding.{Whereabouts, at, stabled, postHolders}
+use Rattle.line.specs.Holding.{stabled, postHolders}
 use Rattle.frame.specs.Frame.{bytesOf}
 use Rattle.completion.specs.Configuration.{Configuration, start, moved, feasible, arrived}
 use Rattle.rules.specs.State.{located}
-use Rattle.assurance.specs.Types.{State, Verdict, Sent, RefusedBy}
+use Rattle.assurance.specs.Types.{Message, State, Verdict, Sent, RefusedBy}
+use Rattle.assurance.specs.Run.{Ran}
 use Rattle.examples.specs.Reading.{fa, fe, afe, am, readAlone, numbersOf, refusalOf, openedBlank, ran, ranFrom}
 use Rattle.examples.specs.Reading.{verdictsOf, repliesIn}
 use Rattle.examples.specs.Books.{bookOf}
@@ -85,14 +86,14 @@ bookTerminus sidings = bookOf 10 2 2 (2 ∷ 1 ∷ sidings ∷ []) 2 (0 ∷ 1 ∷
 abbrev pub bookPassing : List ℕ
 bookPassing = bookOf 11 2 3 (2 ∷ 1 ∷ 1 ∷ 2 ∷ []) 2 (0 ∷ 1 ∷ 0 ∷ 2 ∷ [])
 
-abbrev pub stateAfter : List ℕ → List (List ℕ) → State
-stateAfter book frames = ran book frames .state
+-- both run to post 1, one after the other, and are put away there
+abbrev pub bothRun : Ran
+bothRun = ran (bookTerminus 2) (map bytesOf (fa 0 0 1 ∷ fa 1 0 1 ∷ am 0 0 1 ∷ am 1 0 1 ∷ []))
 
 pub record PutAway : Type 0 where
   -- both end on one track: until its AM train 0 holds both posts, and then none
-  pub both : repliesIn (ran (bookTerminus 2) (map bytesOf (fa 0 0 1 ∷ fa 1 0 1 ∷ am 0 0 1 ∷ am 1 0 1 ∷ [])))
-      ≡ (fe 0 0 1 ∷ []) ∷ (afe 1 0 1 ∷ []) ∷ (fe 1 0 1 ∷ []) ∷ [] ∷ []
-  pub nobody-there : let s = stateAfter (bookTerminus 2) (map bytesOf (fa 0 0 1 ∷ fa 1 0 1 ∷ am 0 0 1 ∷ am 1 0 1 ∷ [])) in
+  pub both : repliesIn bothRun ≡ (fe 0 0 1 ∷ []) ∷ (afe 1 0 1 ∷ []) ∷ (fe 1 0 1 ∷ []) ∷ [] ∷ []
+  pub nobody-there : let s = bothRun .state in
       (located s 0 ≡ stabled) × (located s 1 ≡ stabled) × (postHolders (s .trains) (located s) 1 ≡ 0)
   -- "Edition 1 books have no sidings": without one there is no way through
   pub none : map refusalOf (bookTerminus 0 ∷ bookOf 9 1 2 (2 ∷ 1 ∷ []) 2 (0 ∷ 1 ∷ 0 ∷ 1 ∷ []) ∷ []) ≡ 20 ∷ 20 ∷ []
@@ -106,9 +107,9 @@ pub record PutAway : Type 0 where
 
 -- ---- the sound state follows this rule
 
--- the state of an opened book with another siding byte
-abbrev pub withSidings : ℕ → State → State
-withSidings n s = record {
+-- the state with another siding byte
+abbrev pub withSidings : State → ℕ → State
+withSidings s n = record {
   posts = s .posts;
   tracks = s .tracks;
   sidings = n;
@@ -117,14 +118,15 @@ withSidings n s = record {
   logged = s .logged;
 }
 
+-- the verdict on a message in the state s of a book, with each of these siding bytes
+abbrev pub verdictsWith : List ℕ → State → Message → List ℕ → List (List Verdict)
+verdictsWith book s a bytes =
+    map (λ n. verdictsOf (ranFrom (withSidings s n) (openedBlank book .table) (bytesOf a ∷ []))) bytes
+
 pub record SidingState : Type 0 where
   -- the byte names a post not in the line: strange
-  pub off-the-line : map (λ n. verdictsOf (ranFrom (withSidings n (openedBlank (sidedX 0) .state))
-      (openedBlank (sidedX 0) .table) (bytesOf (fa 0 0 1) ∷ [])))
-      (7 ∷ 8 ∷ [])
-      ≡ (Sent 1 ∷ []) ∷ (RefusedBy 1 ∷ []) ∷ []
-  -- two trains at an end of one track: sound in a siding, strange without
-  pub two-at-an-end : let s = stateAfter (bookTerminus 2) (map bytesOf (fa 0 0 1 ∷ fa 1 0 1 ∷ am 0 0 1 ∷ am 1 0 1 ∷ [])) in
-      map (λ n. verdictsOf (ranFrom (withSidings n s) (openedBlank (bookTerminus 2) .table) (bytesOf (fa 0 1 1) ∷ [])))
-      (2 ∷ 3 ∷ 1 ∷ 0 ∷ [])
+  pub off-the-line : verdictsWith (sidedX 0) (openedBlank (sidedX 0) .state) (fa 0 0 1) (7 ∷ 8 ∷ 128 ∷ [])
+      ≡ (Sent 1 ∷ []) ∷ (RefusedBy 1 ∷ []) ∷ (RefusedBy 1 ∷ []) ∷ []
+  -- two trains at an end of one track: sound where it has a siding, else strange
+  pub two-at-an-end : verdictsWith (bookTerminus 2) (bothRun .state) (fa 0 1 1) (2 ∷ 3 ∷ 1 ∷ 0 ∷ [])
       ≡ (RefusedBy 8 ∷ []) ∷ (RefusedBy 8 ∷ []) ∷ (RefusedBy 1 ∷ []) ∷ (RefusedBy 1 ∷ []) ∷ []

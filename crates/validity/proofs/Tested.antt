@@ -13,7 +13,7 @@ use Rattle.common.specs.Below.{allBelow}
 use Rattle.common.proofs.Tests.{same-test, and-left, and-right, and-both}
 use Rattle.common.proofs.Below.{all-below, below-all, all-cong}
 use Rattle.line.specs.Route.{between}
-use Rattle.line.specs.Line.{inRange, namesPosts, postsInRange, tracksInRange, sidingsOnLine, trainsInRange}
+use Rattle.line.specs.Line.{inRange, postsInRange, tracksInRange, sidingsOnLine, trainsInRange}
 use Rattle.line.specs.Line.{routesOnLine, wellFormed}
 use Rattle.line.proofs.Travel.{between-of}
 use Rattle.line.proofs.WellFormed.{high, ranged, below-range, above-range}
