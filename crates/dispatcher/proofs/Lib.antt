@@ -1,6 +1,5 @@
 -- The definitions in the order in which the code goes through them.
 pub mod Declining
-pub mod Refusals
 pub mod Sent
 pub mod Batched
 pub mod Outcomes

@@ -6,7 +6,6 @@ use mathlib.Core.List.{List, [], _∷_, _++_}
 use Prim.Native.Nat.{ℕ, _+_, _-_, _≤_, _<_}
 use lib.ListN.{length, take, drop}
 use Rattle.common.specs.Check.{refusal, unlessRefused}
-use Rattle.line.specs.Refusal.{wrongEnd}
 use Rattle.frame.specs.Frame.{moveIn, readFrame}
 use Rattle.journal.specs.Journal.{journalLength, frameOf, emptyBatch, appended}
 use Rattle.dispatcher.specs.Types.{Message, Fa, Fe, Afe, Am, Refused, Record, Batch, Asked, Train, State, Verdict}
@@ -14,17 +13,9 @@ use Rattle.dispatcher.specs.Types.{Sent, RefusedBy, Outcome}
 use Rattle.authority.specs.Progress.{batchOf}
 use Rattle.rules.specs.State.{trainOf, withStatus, arrivedNext}
 use Rattle.rules.specs.Valid.{consistent}
-use Rattle.rules.specs.Answer.{mostLogged, contentChecks, frameChecks, taken, accepted, answerOf, answer}
+use Rattle.rules.specs.Answer.{mostLogged, frameChecks, taken, accepted, answerOf, answer}
 
 -- ---- a frame
-
--- the number by which a frame that reads so is refused: reading's own, 6, or that of its content
-abbrev pub messageRefusal : State → Message → ℕ
-messageRefusal s (Fa m) = refusal (contentChecks s (Fa m))
-messageRefusal s (Am m) = refusal (contentChecks s (Am m))
-messageRefusal s (Fe m) = wrongEnd
-messageRefusal s (Afe m) = wrongEnd
-messageRefusal s (Refused n) = n
 
 -- what the frame a and the new record x of its train must meet for the granting
 abbrev pub Ready : State → Message → Train → Type 0

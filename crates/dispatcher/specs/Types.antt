@@ -1,20 +1,14 @@
 -- The declared types that the definitions speak of, under one module.
-pub use Rattle.line.specs.declared.sorts.TrainNo.{TrainNo}
-pub use Rattle.line.specs.declared.sorts.PostNo.{PostNo}
-pub use Rattle.line.specs.declared.route.Route.{Route}
-pub use Rattle.line.specs.declared.line.Line.{Line}
 pub use Rattle.frame.specs.declared.message.Move.{Move}
 pub use Rattle.frame.specs.declared.message.Message.{Message}
 pub use Rattle.frame.specs.declared.message.Message.the-variants.{Fa, Fe, Afe, Am, Refused}
 pub use Rattle.journal.specs.declared.record.Record.{Record}
 pub use Rattle.journal.specs.declared.batch.Batch.{Batch}
 pub use Rattle.rules.specs.declared.state.Status.{Status}
-pub use Rattle.rules.specs.declared.state.Status.the-variants.{Free, Asked, Running}
+pub use Rattle.rules.specs.declared.state.Status.the-variants.{Asked}
 pub use Rattle.rules.specs.declared.state.Train.{Train}
 pub use Rattle.rules.specs.declared.state.State.{State}
 pub use Rattle.rules.specs.declared.result.Verdict.{Verdict}
 pub use Rattle.rules.specs.declared.result.Verdict.the-variants.{Sent, Refused as RefusedBy}
-pub use Rattle.rules.specs.declared.result.Reply.{Reply}
-pub use Rattle.rules.specs.declared.result.Opened.{Opened}
 pub use Rattle.authority.specs.declared.granting.Progress.{Progress}
 pub use Rattle.dispatcher.specs.declared.stepping.Outcome.{Outcome}

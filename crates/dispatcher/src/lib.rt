@@ -1,7 +1,6 @@
 // The dispatcher's box: the answer to a frame.
 mod accepting;
 mod answering;
-mod checks;
 mod sending;
 mod stepping;
 

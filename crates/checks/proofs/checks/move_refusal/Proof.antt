@@ -2,11 +2,11 @@
 use mathlib.Core.Path.{_≡_, sym, _∙_}
 use mathlib.Core.Bool.{false}
 use borrow.Author.Needs.{needs}
-use Rattle.dispatcher.specs.Types.{Move, Train, State}
+use Rattle.checks.specs.Types.{Move, Train, State}
 use Rattle.rules.specs.State.{atEnd, trainOf}
-use Rattle.dispatcher.proofs.Refusals.{train-ended, other-from, other-to, move-passes}
-use Rattle.dispatcher.proofs.checks.move_refusal.Statement.{statement}
-use Rattle.dispatcher.proofs.checks.move_refusal.Tie as tie
+use Rattle.checks.proofs.Refusals.{train-ended, other-from, other-to, move-passes}
+use Rattle.checks.proofs.checks.move_refusal.Statement.{statement}
+use Rattle.checks.proofs.checks.move_refusal.Tie as tie
 
 -- the train's record is read
 module _ (c : tie.After-train-of) where

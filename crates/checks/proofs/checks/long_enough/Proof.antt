@@ -1,7 +1,7 @@
 -- `long_enough` meets its contract: its tests are those of the definition, in its order.
 use borrow.Author.Tests.{le-leb, lt-leb}
-use Rattle.dispatcher.proofs.checks.long_enough.Statement.{statement}
-use Rattle.dispatcher.proofs.checks.long_enough.Tie as tie
+use Rattle.checks.proofs.checks.long_enough.Statement.{statement}
+use Rattle.checks.proofs.checks.long_enough.Tie as tie
 
 returns : tie.Need-returns
 returns c = rw (lt-leb _ _ (c .if1 .taken))

@@ -3,12 +3,12 @@ use mathlib.Core.Path.{sym, ap, _∙_}
 use denote.Ref.{now}
 use borrow.Author.Needs.{needs}
 use borrow.Author.Tests.{not-true, not-false}
-use Rattle.dispatcher.specs.Types.{Message}
-use Rattle.dispatcher.specs.Step.{messageRefusal}
+use Rattle.checks.specs.Types.{Message}
+use Rattle.checks.specs.Messages.{messageRefusal}
 use Rattle.rules.proofs.Validity.{valid-facts}
-use Rattle.dispatcher.proofs.Refusals.{strange, short-stores, message-decides}
-use Rattle.dispatcher.proofs.checks.refusal_of.Statement.{statement}
-use Rattle.dispatcher.proofs.checks.refusal_of.Tie as tie
+use Rattle.checks.proofs.Refusals.{strange, short-stores, message-decides}
+use Rattle.checks.proofs.checks.refusal_of.Statement.{statement}
+use Rattle.checks.proofs.checks.refusal_of.Tie as tie
 
 returns : tie.Need-returns
 returns c =

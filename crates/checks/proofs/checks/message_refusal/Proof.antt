@@ -1,7 +1,7 @@
 -- `message_refusal` meets its contract: each arm has what the definition says of its message.
 use borrow.Author.Needs.{needs}
-use Rattle.dispatcher.proofs.checks.message_refusal.Statement.{statement}
-use Rattle.dispatcher.proofs.checks.message_refusal.Tie as tie
+use Rattle.checks.proofs.checks.message_refusal.Statement.{statement}
+use Rattle.checks.proofs.checks.message_refusal.Tie as tie
 
 returns : tie.Need-returns
 returns c = rw (c .before .before .message .given .1) (c .request-refusal .ensures)

@@ -3,11 +3,11 @@ use mathlib.Core.Path.{_≡_, sym, ap, _∙_}
 use borrow.Author.Needs.{needs}
 use borrow.Author.Tests.{not-true, not-false}
 use Rattle.common.proofs.Check.{stop, pass, refuses-of}
-use Rattle.dispatcher.specs.Types.{Move, Status, State}
+use Rattle.checks.specs.Types.{Move, Status, State}
 use Rattle.rules.specs.State.{isRunning, trainOf}
-use Rattle.dispatcher.proofs.Refusals.{no-train, move-refuses, after-move}
-use Rattle.dispatcher.proofs.checks.arrival_refusal.Statement.{statement}
-use Rattle.dispatcher.proofs.checks.arrival_refusal.Tie as tie
+use Rattle.checks.proofs.Refusals.{no-train, move-refuses, after-move}
+use Rattle.checks.proofs.checks.arrival_refusal.Statement.{statement}
+use Rattle.checks.proofs.checks.arrival_refusal.Tie as tie
 
 returns : tie.Need-returns
 returns c = let a = c .before .before .before .args in no-train (a .state) (a .m) _ (c .if1 .taken)

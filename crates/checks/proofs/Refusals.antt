@@ -16,11 +16,11 @@ use Rattle.frame.specs.RoundTrip.{IsMessage}
 use Rattle.frame.proofs.Outcome.{read-passed, read-refused}
 use Rattle.journal.specs.Journal.{journalLength}
 use Rattle.completion.specs.Table.{tableLength}
-use Rattle.dispatcher.specs.Types.{Move, Message, Fa, Fe, Afe, Am, Refused, Train, State}
+use Rattle.checks.specs.Types.{Move, Message, Fa, Fe, Afe, Am, Refused, Train, State}
 use Rattle.rules.specs.State.{atEnd, nextOf, trainOf}
 use Rattle.rules.specs.Valid.{valid}
 use Rattle.rules.specs.Answer.{outLength, forBox, knows, moveChecks, contentChecks, frameChecks}
-use Rattle.dispatcher.specs.Step.{messageRefusal}
+use Rattle.checks.specs.Messages.{messageRefusal}
 
 -- ---- the checks of a move
 

@@ -3,8 +3,8 @@ use mathlib.Core.Path.{sym}
 use borrow.Author.Needs.{needs}
 use borrow.Author.Tests.{le-leb, lt-leb}
 use Rattle.common.proofs.Check.{none, stop, pass, refusal-is}
-use Rattle.dispatcher.proofs.checks.room_refusal.Statement.{statement}
-use Rattle.dispatcher.proofs.checks.room_refusal.Tie as tie
+use Rattle.checks.proofs.checks.room_refusal.Statement.{statement}
+use Rattle.checks.proofs.checks.room_refusal.Tie as tie
 
 returns : tie.Need-returns
 returns c = sym (refusal-is (stop (lt-leb _ _ (c .if1 .taken))))

@@ -4,11 +4,11 @@ use mathlib.Core.Bool.{false, not}
 use borrow.Author.Needs.{needs}
 use Rattle.common.proofs.Tests.{not-of-false}
 use Rattle.common.proofs.Check.{stop, pass, refuses-of}
-use Rattle.dispatcher.specs.Types.{Move, Status, State}
+use Rattle.checks.specs.Types.{Move, Status, State}
 use Rattle.rules.specs.State.{isAsked, isRunning, trainOf}
-use Rattle.dispatcher.proofs.Refusals.{no-train, move-refuses, after-move}
-use Rattle.dispatcher.proofs.checks.request_refusal.Statement.{statement}
-use Rattle.dispatcher.proofs.checks.request_refusal.Tie as tie
+use Rattle.checks.proofs.Refusals.{no-train, move-refuses, after-move}
+use Rattle.checks.proofs.checks.request_refusal.Statement.{statement}
+use Rattle.checks.proofs.checks.request_refusal.Tie as tie
 
 returns : tie.Need-returns
 returns c = let a = c .before .before .before .args in no-train (a .state) (a .m) _ (c .if1 .taken)

@@ -1,0 +1,2 @@
+-- The checks in the order in which the code makes them.
+pub mod Refusals
