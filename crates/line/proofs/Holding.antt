@@ -1,7 +1,7 @@
 -- Laws of where a standing train is, and of the test whether it is stabled.
-use mathlib.Core.Path.{_≡_, refl, sym}
+use mathlib.Core.Path.{_≡_, refl, sym, ap}
 use mathlib.Core.Logic.{_≢_}
-use mathlib.Core.Bool.{true, false, not, _&&_, and-false}
+use mathlib.Core.Bool.{Bool, true, false, not, _&&_, and-false}
 use Prim.Native.Nat.{ℕ, _/_, _^_, _≤_, _<_}
 use native.Mathlib.Nat.{div-eq-of-lt, pow-le-pow-right}
 use native.Mathlib.Omega.{arith}
@@ -24,7 +24,9 @@ module _ (sidings e p : ℕ) where
   -- short of its end it is at its post
   pub standing-short : eqb p e ≡ false → standing sidings e p ≡ at p
   unfolding standing
-  standing-short h = rw h
+  standing-short h =
+      let away : isStabled sidings e p ≡ false = ap (λ (b : Bool). b && bitAt sidings p) h in
+      rw away
 
 -- at its end it stands there, or is stabled where there is a siding
 module _ (sidings e : ℕ) where

@@ -1,6 +1,6 @@
 -- `counts_valid` meets its contract: the first test that fails decides, and else the last.
 use mathlib.Core.Path.{_≡_, sym, _∙_}
-use mathlib.Core.Bool.{true}
+use mathlib.Core.Bool.{true, false}
 use borrow.Author.Needs.{needs}
 use borrow.Author.Tests.{le-leb, lt-leb, not-true, not-false}
 use Rattle.line.specs.Line.{inRange, namesPosts}
@@ -21,7 +21,10 @@ module _ (c : tie.Else2) where
 
 returns-3 : tie.Need-returns-3
 returns-3 c =
-    rw (posts (c .before .before), sym (c .before .names-posts .ensures) ∙ not-true _ (c .if3 .taken))
+    let a = c .before .before .before .before .args in
+    let off : namesPosts (a .posts) (a .sidings) ≡ false =
+    sym (c .before .names-posts .ensures) ∙ not-true _ (c .if3 .taken) in
+    rw (posts (c .before .before), off)
 
 -- and the sidings at some of them
 module _ (c : tie.Else3) where
