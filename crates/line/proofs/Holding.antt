@@ -3,7 +3,7 @@ use mathlib.Core.Path.{_≡_, refl, sym, ap}
 use mathlib.Core.Logic.{_≢_}
 use mathlib.Core.Bool.{Bool, true, false, not, _&&_, and-false}
 use Prim.Native.Nat.{ℕ, _/_, _^_, _≤_, _<_}
-use native.Mathlib.Nat.{div-eq-of-lt, pow-le-pow-right}
+use native.Mathlib.Nat.{zero-div, div-eq-of-lt, pow-le-pow-right}
 use native.Mathlib.Omega.{arith}
 use lib.Dec.{eqb, lit<}
 use borrow.Author.Tests.{eq-eqb, ne-eqb}
@@ -46,6 +46,9 @@ module _ (sidings e p : ℕ) where
 
   pub siding-at-end : p ≡ e → bitAt sidings p ≡ isStabled sidings e p
   siding-at-end h = rw (eq-eqb p e h)
+
+  pub none-stabled : sidings ≡ 0 → false ≡ isStabled sidings e p
+  none-stabled h = rw (h, zero-div (2 ^ p)) (sym (and-false (eqb p e)))
 
   -- a byte has no bit for a number past the eight posts
   pub past-the-posts : sidings < 256 → 8 ≤ p → false ≡ isStabled sidings e p

@@ -14,10 +14,14 @@ pub fn names_posts(posts: u8, set: u8) -> bool
 }
 
 // Whether a train that stands at post `at` is stabled: `at` is its end, and one of the posts with a
-// siding. A number past the eight posts has no bit in the set.
+// siding. A number past the eight posts has no bit in the set. That there are no sidings at all is
+// asked first: in a loop over trains it is asked once.
 pub fn stabled(sidings: u8, end: PostNo, at: PostNo) -> bool
     ensures { λ r. ⌜ r ≡ isStabled sidings (end .0) (at .0) ⌝ }
 {
+    if sidings == 0 {
+        return false;
+    }
     if at.0 != end.0 {
         return false;
     }
