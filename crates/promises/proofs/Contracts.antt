@@ -18,8 +18,8 @@ use Rattle.journal.proofs.log_at.Met.{met as log-at-met}
 use Rattle.journal.proofs.log_with.Met.{met as log-with-met}
 use Rattle.journal.proofs.fitting.Met.{met as fitting-met}
 use Rattle.unit.proofs.make.Met.{met as make-unit-met}
-use Rattle.unit.proofs.press.Met.{met as press-met}
-use Rattle.unit.proofs.hear.Met.{met as hear-met}
+use Rattle.pressing.proofs.press.Met.{met as press-met}
+use Rattle.hearing.proofs.hear.Met.{met as hear-met}
 use Rattle.unit.proofs.valid.Met.{met as valid-unit-met}
 use Rattle.opening.proofs.open.Met.{met as open-met}
 use Rattle.opening.proofs.open_log.Met.{met as open-log-met}

@@ -19,8 +19,8 @@ use Rattle.journal.proofs.log_at.Statement.{statement as LogAt}
 use Rattle.journal.proofs.log_with.Statement.{statement as LogWith}
 use Rattle.journal.proofs.fitting.Statement.{statement as Fitting}
 use Rattle.unit.proofs.make.Statement.{statement as MakeUnit}
-use Rattle.unit.proofs.press.Statement.{statement as Press}
-use Rattle.unit.proofs.hear.Statement.{statement as Hear}
+use Rattle.pressing.proofs.press.Statement.{statement as Press}
+use Rattle.hearing.proofs.hear.Statement.{statement as Hear}
 use Rattle.unit.proofs.valid.Statement.{statement as ValidUnit}
 use Rattle.opening.proofs.open.Statement.{statement as Open}
 use Rattle.opening.proofs.open_log.Statement.{statement as OpenLog}

@@ -47,7 +47,7 @@ pub extern "C" fn quangevit_press(unit: &mut [u8], button: u8, frame: &mut [u8])
     if number != 0 {
         return word_of(number, 0);
     }
-    let after = unit::press(unit_in(unit), button_of(button));
+    let after = pressing::press(unit_in(unit), button_of(button));
     put_unit(after.unit, unit);
     let bytes = after.frame;
     let sent = send(after.sent, bytes, frame);
@@ -94,7 +94,7 @@ pub extern "C" fn quangevit_hear(unit: &mut [u8], frame: &[u8]) -> u32
     if !encodes_unit(unit) {
         return word_of(STRANGE_STATE, 0);
     }
-    let heard = unit::hear(unit_in(unit), frame);
+    let heard = hearing::hear(unit_in(unit), frame);
     put_unit(heard.unit, unit);
     word_of(heard.refusal, 0)
 }

@@ -1,12 +1,11 @@
-// The driver unit's code: made for one train and its route, it asks for each move, hears what the
-// dispatcher answers, and reports the arrival. What it is to do is in `driver`.
-mod hearing;
+// The driver unit's code: made for one train and its route; whether its state is valid, its own move
+// and its phases. What it is to do is in `driver`; `pressing` and `hearing` have what it does then.
 mod making;
-mod pressing;
 mod state;
 
-pub use hearing::hear;
 pub use making::make;
-pub use pressing::press;
+pub use state::in_phase;
+pub use state::own_move;
 pub use state::phase_number;
+pub use state::same;
 pub use state::valid;

@@ -37,7 +37,7 @@ pub(crate) fn numbers_fit(train: TrainNo, start: PostNo, end: PostNo) -> bool
 }
 
 // Whether the two are one phase.
-pub(crate) fn same(a: Phase, b: Phase) -> bool
+pub fn same(a: Phase, b: Phase) -> bool
     ensures { λ r. ⌜ r ≡ samePhase a b ⌝ }
 {
     phase_number(a) == phase_number(b)
@@ -58,7 +58,7 @@ pub fn phase_number(phase: Phase) -> u8
 }
 
 // The move of the unit's train from its present to its next post.
-pub(crate) fn own_move(unit: Unit) -> Move
+pub fn own_move(unit: Unit) -> Move
     ensures { λ r. ⌜ r ≡ ownMove unit ⌝ }
 {
     let train = unit.train;
@@ -71,7 +71,7 @@ pub(crate) fn own_move(unit: Unit) -> Move
     }
 }
 
-pub(crate) fn in_phase(unit: Unit, phase: Phase) -> Unit
+pub fn in_phase(unit: Unit, phase: Phase) -> Unit
     ensures { λ r. ⌜ r ≡ inPhase unit phase ⌝ }
 {
     let train = unit.train;

@@ -2,7 +2,7 @@
 use mathlib.Core.Path.{_≡_, sym, _∙_}
 use mathlib.Core.Bool.{true}
 use borrow.Author.Tests.{not-true, not-false}
-use Rattle.unit.specs.Types.{Unit}
+use Rattle.driver.specs.declared.state.Unit.{Unit}
 use Rattle.driver.specs.State.{inRanges, onRoute}
 use Rattle.driver.proofs.Validity.{numbers-wrong, post-wrong, short-of-end, at-its-end}
 use borrow.Author.Needs.{needs}

@@ -1,10 +1,6 @@
 // Hearing a frame: refusals 1, 3, 4, 5, 6 and 22, in that order.
 ghost use mathlib.Core.Path.{_≡_};
 ghost use Rattle.driver.specs.Hearing.{forMove, awaiting, heardWith, hearFrame};
-use crate::state::in_phase;
-use crate::state::own_move;
-use crate::state::same;
-use crate::state::valid;
 use driver::Heard;
 use driver::Phase;
 use driver::Unit;
@@ -13,6 +9,10 @@ use frame::Move;
 use line::refusal::NOT_AWAITED;
 use line::refusal::STRANGE_STATE;
 use line::refusal::WRONG_END;
+use unit::in_phase;
+use unit::own_move;
+use unit::same;
+use unit::valid;
 
 // What a frame of any bytes does.
 pub fn hear(unit: Unit, frame: &[u8]) -> Heard

@@ -2,13 +2,14 @@
 use mathlib.Core.Path.{_≡_, sym, ap, _∙_}
 use mathlib.Core.Bool.{true}
 use borrow.Author.Tests.{not-true, not-false}
-use Rattle.unit.specs.Types.{Unit, Button}
+use Rattle.driver.specs.declared.state.Button.{Button}
+use Rattle.driver.specs.declared.state.Unit.{Unit}
 use Rattle.driver.specs.State.{samePhase, validUnit}
 use Rattle.driver.specs.Pressing.{phaseFor}
 use Rattle.driver.proofs.Buttons.{strange, other-phase, no-move, ask, depart, reached, report}
 use borrow.Author.Needs.{needs}
-use Rattle.unit.proofs.pressing.press.Statement.{statement}
-use Rattle.unit.proofs.pressing.press.Tie as tie
+use Rattle.pressing.proofs.pressing.press.Statement.{statement}
+use Rattle.pressing.proofs.pressing.press.Tie as tie
 
 returns : tie.Need-returns
 returns c =

@@ -4,8 +4,8 @@ use borrow.Author.Tests.{eq-eqb, ne-eqb}
 use Rattle.common.proofs.Tests.{and-passed, and-failed}
 use Rattle.driver.proofs.Frames.{other-train, own-train}
 use borrow.Author.Needs.{needs}
-use Rattle.unit.proofs.hearing.for_move.Statement.{statement}
-use Rattle.unit.proofs.hearing.for_move.Tie as tie
+use Rattle.hearing.proofs.hearing.for_move.Statement.{statement}
+use Rattle.hearing.proofs.hearing.for_move.Tie as tie
 
 returns : tie.Need-returns
 returns c = other-train _ _ _ (c .before .before .before .own-move .ensures) (c .if1 .taken)

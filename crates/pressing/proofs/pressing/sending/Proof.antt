@@ -1,7 +1,7 @@
 -- `sending` meets its contract: the bytes are those of `frame::write`.
 use borrow.Author.Needs.{needs}
-use Rattle.unit.proofs.pressing.sending.Statement.{statement}
-use Rattle.unit.proofs.pressing.sending.Tie as tie
+use Rattle.pressing.proofs.pressing.sending.Statement.{statement}
+use Rattle.pressing.proofs.pressing.sending.Tie as tie
 
 returns : tie.Need-returns
 returns c = rw (c .write .ensures)

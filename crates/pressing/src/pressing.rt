@@ -1,10 +1,6 @@
 // Pressing a button: refusals 1, 21 and 8, in that order.
 ghost use mathlib.Core.Path.{_≡_};
 ghost use Rattle.driver.specs.Pressing.{phaseFor, movedOn, silent, sending, pressButton};
-use crate::state::in_phase;
-use crate::state::own_move;
-use crate::state::same;
-use crate::state::valid;
 use driver::Button;
 use driver::Phase;
 use driver::Pressed;
@@ -14,6 +10,10 @@ use frame::Message;
 use line::refusal::AT_ITS_END;
 use line::refusal::NOT_NOW;
 use line::refusal::STRANGE_STATE;
+use unit::in_phase;
+use unit::own_move;
+use unit::same;
+use unit::valid;
 
 // What a press of a button does.
 pub fn press(unit: Unit, button: Button) -> Pressed

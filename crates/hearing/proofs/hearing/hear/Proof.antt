@@ -7,12 +7,14 @@ use Prim.Native.Nat.{ℕ}
 use denote.Ref.{now}
 use borrow.Author.Tests.{not-true, not-false}
 use Rattle.frame.specs.Frame.{readFrame}
-use Rattle.unit.specs.Types.{Move, Fe, Afe, Unit}
+use Rattle.frame.specs.declared.message.Move.{Move}
+use Rattle.frame.specs.declared.message.Message.the-variants.{Fe, Afe}
+use Rattle.driver.specs.declared.state.Unit.{Unit}
 use Rattle.driver.specs.State.{validUnit}
 use Rattle.driver.proofs.Frames as frames
 use borrow.Author.Needs.{needs}
-use Rattle.unit.proofs.hearing.hear.Statement.{statement}
-use Rattle.unit.proofs.hearing.hear.Tie as tie
+use Rattle.hearing.proofs.hearing.hear.Statement.{statement}
+use Rattle.hearing.proofs.hearing.hear.Tie as tie
 
 returns : tie.Need-returns
 returns c =

@@ -1,7 +1,7 @@
 -- `moved_on` meets its contract: the next post is `next_post`'s.
 use borrow.Author.Needs.{needs}
-use Rattle.unit.proofs.pressing.moved_on.Statement.{statement}
-use Rattle.unit.proofs.pressing.moved_on.Tie as tie
+use Rattle.pressing.proofs.pressing.moved_on.Statement.{statement}
+use Rattle.pressing.proofs.pressing.moved_on.Tie as tie
 
 returns : tie.Need-returns
 returns c = rw (c .next-post .ensures)

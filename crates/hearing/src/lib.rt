@@ -1,0 +1,4 @@
+// The driver unit hears what the dispatcher answers.
+mod hearing;
+
+pub use hearing::hear;
