@@ -34,7 +34,7 @@ pub fn settle(state: State, table: &[u8], message: Message) -> Progress
     requires { ⌜ (consistent (oneLogged state) ≡ true) × (state .logged + mostLogged ≤ journalLength) ⌝ }
     ensures { λ r. ⌜ r ≡ progressOf (settled (now (table .entry)) (begun state (recordOf message))) ⌝ }
 {
-    let mut work = logged(state, journal::empty(), message);
+    let mut work = logged(state, logging::empty(), message);
     'again: loop {
         let mut from: u8 = 0;
         loop {
@@ -57,7 +57,7 @@ pub fn logged(state: State, batch: Batch, message: Message) -> Progress
     ensures { λ r. ⌜ r ≡ progressWith state batch (recordOf message) ⌝ }
 {
     let state = one_logged(state);
-    let batch = journal::with(batch, journal::record_of(message));
+    let batch = logging::with(batch, logging::record_of(message));
     Progress { state, batch }
 }
 

@@ -13,7 +13,7 @@ pub fn append(bytes: &mut [u8], at: usize, batch: Batch)
     ensures { λ _. ⌜ now (bytes .exit)
         ≡ withRecords (now (bytes .entry)) (appended (recordsIn (now (bytes .entry))) at batch) ⌝ }
 {
-    let n = journal::fitting(bytes.len() / RECORD_LENGTH, at, batch.n);
+    let n = logging::fitting(bytes.len() / RECORD_LENGTH, at, batch.n);
     let items = batch.items;
     let mut k: usize = 0;
     while k < n {

@@ -86,6 +86,6 @@ fn decline(work: Progress, m: Move) -> Progress
 fn untouched(state: State) -> Progress
     ensures { λ r. ⌜ r ≡ progressOf (untouched state) ⌝ }
 {
-    let batch = journal::empty();
+    let batch = logging::empty();
     Progress { state, batch }
 }

@@ -4,8 +4,8 @@ ghost use Rattle.rules.specs.Answer.{answerOf, answer};
 use crate::stepping::step;
 use journal::Log;
 use journal::Record;
-use journal::log_length;
-use journal::log_with;
+use logging::log_length;
+use logging::log_with;
 use rules::Reply;
 use rules::State;
 
@@ -21,7 +21,7 @@ pub fn answer(
         ≡ answer state (now (table .entry)) (now (journal .entry)) (now (frame .entry)) (now (out .entry)) ⌝ }
 {
     let o = step(state, table, journal.len(), frame, out);
-    journal::append(journal, o.at, o.batch);
+    logging::append(journal, o.at, o.batch);
     o.reply
 }
 

@@ -44,7 +44,7 @@ pub fn step(state: State, table: &[u8], records: usize, frame: &[u8], out: &mut 
 fn refused(state: State, number: u8) -> Outcome
     ensures { λ r. ⌜ r ≡ outcomeOf state (Verdict.Refused number) 0 emptyBatch ⌝ }
 {
-    let batch = journal::empty();
+    let batch = logging::empty();
     let reply = Reply {
         state,
         verdict: Verdict::Refused(number),

@@ -16,7 +16,7 @@ pub fn fresh() -> Console
     ensures { λ r. ⌜ r ≡ freshConsole ⌝ }
 {
     let piece = nothing();
-    let run = begun(opening::empty_state(), journal::blank_log());
+    let run = begun(opening::empty_state(), logging::blank_log());
     Console {
         phase: Phase::Book,
         piece,

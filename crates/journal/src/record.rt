@@ -1,13 +1,4 @@
-// One record of the journal, and the record of a message.
-ghost use mathlib.Core.Path.{_≡_};
-ghost use Rattle.journal.specs.Journal.{blank, recordWith, recordOf, frameOf};
-use frame::AFE;
-use frame::AM;
-use frame::FA;
-use frame::FE;
-use frame::FRAME_LENGTH;
-use frame::Message;
-use frame::Move;
+// One record of the journal.
 use line::PostNo;
 use line::TrainNo;
 
@@ -17,53 +8,4 @@ pub struct Record {
     pub train: TrainNo,
     pub from: PostNo,
     pub to: PostNo,
-}
-
-// No record: all 0.
-pub fn blank() -> Record
-    ensures { λ r. ⌜ r ≡ blank ⌝ }
-{
-    Record {
-        kind: 0,
-        train: TrainNo(0),
-        from: PostNo(0),
-        to: PostNo(0),
-    }
-}
-
-// The record by which a message is logged; the blank one where there is no message.
-pub fn record_of(message: Message) -> Record
-    ensures { λ r. ⌜ r ≡ recordOf message ⌝ }
-{
-    match message {
-        Message::Fa(m) => of_kind(FA, m),
-        Message::Fe(m) => of_kind(FE, m),
-        Message::Afe(m) => of_kind(AFE, m),
-        Message::Am(m) => of_kind(AM, m),
-        Message::Refused(_) => blank(),
-    }
-}
-
-fn of_kind(kind: u8, m: Move) -> Record
-    ensures { λ r. ⌜ r ≡ recordWith kind m ⌝ }
-{
-    let train = m.train;
-    let from = m.from;
-    let to = m.to;
-    Record {
-        kind,
-        train,
-        from,
-        to,
-    }
-}
-
-// The seven bytes of the frame that a record was made of.
-pub fn frame_of(entry: Record) -> [u8; FRAME_LENGTH]
-    ensures { λ r. ⌜ r ≡ frameOf entry ⌝ }
-{
-    let train = entry.train;
-    let from = entry.from;
-    let to = entry.to;
-    frame::bytes(entry.kind, Move { train, from, to })
 }

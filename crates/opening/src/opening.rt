@@ -5,7 +5,6 @@ ghost use Rattle.rules.specs.Opening.{fresh, openedState, emptyState, openingOf
 use journal::JOURNAL_LENGTH;
 use journal::Log;
 use journal::Record;
-use journal::log_length;
 use line::Line;
 use line::NO_ROUTE;
 use line::Outcome;
@@ -13,6 +12,7 @@ use line::Route;
 use line::refusal::NO_WAY_THROUGH;
 use line::refusal::OVERFULL;
 use line::refusal::SHORT_STORE;
+use logging::log_length;
 use rules::Opened;
 use rules::State;
 use rules::Status;

@@ -18,7 +18,7 @@ pub fn run_text(log: Log, logged: u8, refused: u64) -> Text
     let mut text = empty();
     let mut i: u8 = 0;
     while i < logged {
-        text = with_record(text, i, journal::log_at(log, i as usize));
+        text = with_record(text, i, logging::log_at(log, i as usize));
         i += 1;
     }
     with_end(text, logged, refused)

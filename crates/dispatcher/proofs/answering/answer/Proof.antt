@@ -50,10 +50,10 @@ use Rattle.journal.specs.Journal.{appended}
 use Rattle.journal.proofs.record.Record as R
 use Rattle.journal.proofs.batch.Batch as B
 use Rattle.journal.proofs.batch.Batch.Laws as B′
-use Rattle.journal.proofs.append as append
-use Rattle.journal.proofs.append.Symbol as append-def
-use Rattle.journal.proofs.append.Symbol.{name as #append}
-use Rattle.journal.proofs.append.Met as append-thm
+use Rattle.logging.proofs.append as append
+use Rattle.logging.proofs.append.Symbol as append-def
+use Rattle.logging.proofs.append.Symbol.{name as #append}
+use Rattle.logging.proofs.append.Met as append-thm
 use Rattle.dispatcher.specs.Types.{Record, State, Outcome}
 use Rattle.rules.specs.Answer.{answerOf}
 use Rattle.dispatcher.specs.Step.{Stepped}
@@ -428,4 +428,4 @@ answer-spec 𝓤 H 𝓜 𝓖 𝓡 =
     (cited 𝓤 H (Step 𝓤 H (𝓖 .A) (𝓜 .mem) (𝓡 .run)) 𝓜 𝓡 code.env #step step-def.routine
     code.calls-dispatcher·stepping·step (step-thm.met 𝓤 H 𝓜 𝓖 𝓡))
     (cited 𝓤 H (Append 𝓤 H (𝓖 .A) (𝓜 .mem) (𝓡 .run)) 𝓜 𝓡 code.env #append append-def.routine
-    code.calls-journal·append (append-thm.met 𝓤 H 𝓜 𝓖 𝓡)))
+    code.calls-logging·append (append-thm.met 𝓤 H 𝓜 𝓖 𝓡)))

@@ -1,7 +1,7 @@
 -- `blank_log` meets its contract: as many blank records as a journal has at least.
 use borrow.Author.Needs.{needs}
-use Rattle.journal.proofs.log.blank_log.Statement.{statement}
-use Rattle.journal.proofs.log.blank_log.Tie as tie
+use Rattle.logging.proofs.log.blank_log.Statement.{statement}
+use Rattle.logging.proofs.log.blank_log.Tie as tie
 
 returns : tie.Need-returns
 returns c = rw (c .blank .ensures)

@@ -1,4 +1,4 @@
--- `journal::append` meets its contract: a walk of its MIR, by hand. `fitting` answers how many records are written,
+-- `logging::append` meets its contract: a walk of its MIR, by hand. `fitting` answers how many records are written,
 -- `count`, and the loop turns that often. The borrow is opened once, before the loop, and closed once, after it. At the
 -- loop's head the first k records of the batch stand in their places (`written`). A turn has the k-th from `nth`, of
 -- which the walk knows only that it meets its contract, and stores it. After the last turn the list is `appended`. The
@@ -58,27 +58,28 @@ use denote.Triple.Walked.{walk-meets}
 use denote.Exit.{yes}
 use borrow.Author.Tests.{ltb-true, ltb-false}
 use Rattle.common.proofs.Tests.{by-cases}
-use Rattle.journal.specs.Types.{Record, Batch}
+use Rattle.journal.specs.declared.batch.Batch.{Batch}
+use Rattle.journal.specs.declared.record.Record.{Record}
 use Rattle.journal.specs.Journal.{blank, recordAt, batchLength, appended}
 use Rattle.journal.proofs.Appended.{written, count, fitting-few, fitting-room, written-length, written-more}
 use Rattle.journal.proofs.Appended.{all-written, length-appended}
 use Rattle.journal.proofs.record.Record as R
 use Rattle.journal.proofs.record.Record.Laws as R′
 use Rattle.journal.proofs.batch.Batch as B
 use Rattle.journal.proofs.batch.Batch.Laws as B′
-use Rattle.journal.proofs.batch.nth as nth
-use Rattle.journal.proofs.batch.nth.Symbol as nth-def
-use Rattle.journal.proofs.batch.nth.Symbol.{name as #nth}
-use Rattle.journal.proofs.batch.nth.Met as nth-thm
-use Rattle.journal.proofs.writing.fitting as fitting
-use Rattle.journal.proofs.writing.fitting.Symbol as fitting-def
-use Rattle.journal.proofs.writing.fitting.Symbol.{name as #fitting}
-use Rattle.journal.proofs.writing.fitting.Met as fitting-thm
-use Rattle.journal.proofs.writing.append as append
-use Rattle.journal.proofs.writing.append.Key.{name as #append}
-use Rattle.journal.proofs.writing.append.Statement as stated
-use Rattle.journal.proofs.writing.append.Code as code
-use Rattle.journal.proofs.writing.append.Code.Mir as code-mir
+use Rattle.logging.proofs.batch.nth as nth
+use Rattle.logging.proofs.batch.nth.Symbol as nth-def
+use Rattle.logging.proofs.batch.nth.Symbol.{name as #nth}
+use Rattle.logging.proofs.batch.nth.Met as nth-thm
+use Rattle.logging.proofs.writing.fitting as fitting
+use Rattle.logging.proofs.writing.fitting.Symbol as fitting-def
+use Rattle.logging.proofs.writing.fitting.Symbol.{name as #fitting}
+use Rattle.logging.proofs.writing.fitting.Met as fitting-thm
+use Rattle.logging.proofs.writing.append as append
+use Rattle.logging.proofs.writing.append.Key.{name as #append}
+use Rattle.logging.proofs.writing.append.Statement as stated
+use Rattle.logging.proofs.writing.append.Code as code
+use Rattle.logging.proofs.writing.append.Code.Mir as code-mir
 
 -- what is had of each parameter at exit
 abbrev stayed : Stays (append.ended .signature .params) (append.ended .kept)
@@ -429,6 +430,6 @@ append-spec 𝓤 H 𝓜 𝓖 𝓡 =
     (tables 𝓤 H 𝓜 𝓡 code.env .C) (tables 𝓤 H 𝓜 𝓡 code.env .Λ) #append code.function (code.unfolded 𝓤 H 𝓜 𝓡)
     (append-meets 𝓤 H (𝓖 .A) (givenOf 𝓤 H 𝓜 𝓖) (𝓜 .mem) (𝓡 .run) (tablesOf 𝓤 H 𝓜 (tables 𝓤 H 𝓜 𝓡 code.env))
     (cited 𝓤 H (Fitting 𝓤 H (𝓖 .A) (𝓜 .mem) (𝓡 .run)) 𝓜 𝓡 code.env #fitting fitting-def.routine
-    code.calls-journal·writing·fitting (fitting-thm.met 𝓤 H 𝓜 𝓖 𝓡))
+    code.calls-logging·writing·fitting (fitting-thm.met 𝓤 H 𝓜 𝓖 𝓡))
     (cited 𝓤 H (Nth 𝓤 H (𝓖 .A) (𝓜 .mem) (𝓡 .run)) 𝓜 𝓡 code.env #nth nth-def.routine
-    code.calls-journal·batch·nth (nth-thm.met 𝓤 H 𝓜 𝓖 𝓡)))
+    code.calls-logging·batch·nth (nth-thm.met 𝓤 H 𝓜 𝓖 𝓡)))

@@ -1,8 +1,8 @@
--- `journal::fitting` meets its contract: there are too many records, or there is no room, or they all fit.
+-- `logging::fitting` meets its contract: there are too many records, or there is no room, or they all fit.
 use native.Mathlib.Omega.{arith}
 use Rattle.journal.proofs.Appended.{all-fit, too-many, no-room}
-use Rattle.journal.proofs.writing.fitting.Statement.{statement}
-use Rattle.journal.proofs.writing.fitting.Tie as tie
+use Rattle.logging.proofs.writing.fitting.Statement.{statement}
+use Rattle.logging.proofs.writing.fitting.Tie as tie
 
 returns : tie.Need-returns
 returns c = too-many _ _ _ (omega arith)

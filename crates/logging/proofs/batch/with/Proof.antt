@@ -1,9 +1,9 @@
--- `journal::with` meets its contract: the batch has room for the record, or is full.
+-- `logging::with` meets its contract: the batch has room for the record, or is full.
 use native.Mathlib.Omega.{arith}
 use borrow.Author.Needs.{needs}
 use Rattle.journal.proofs.Batches.{with-room, with-full}
-use Rattle.journal.proofs.batch.with.Statement.{statement}
-use Rattle.journal.proofs.batch.with.Tie as tie
+use Rattle.logging.proofs.batch.with.Statement.{statement}
+use Rattle.logging.proofs.batch.with.Tie as tie
 
 returns : tie.Need-returns
 returns c = with-room _ _ (omega arith)

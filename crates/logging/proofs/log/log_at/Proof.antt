@@ -2,10 +2,10 @@
 use mathlib.Core.Path.{_≡_, sym, _∙_}
 use native.Mathlib.Omega.{arith}
 use lib.ListN.{length, length-map, List·getD-eq-default}
 use Rattle.journal.specs.Journal.{journalLength, blank}
 use borrow.Author.Needs.{needs}
-use Rattle.journal.proofs.log.log_at.Statement.{statement}
-use Rattle.journal.proofs.log.log_at.Tie as tie
+use Rattle.logging.proofs.log.log_at.Statement.{statement}
+use Rattle.logging.proofs.log.log_at.Tie as tie
 
 returns-2 : tie.Need-returns-2
 returns-2 c =

@@ -1,7 +1,7 @@
--- `journal::empty` meets its contract: seven blank records.
+-- `logging::empty` meets its contract: seven blank records.
 use borrow.Author.Needs.{needs}
-use Rattle.journal.proofs.batch.empty.Statement.{statement}
-use Rattle.journal.proofs.batch.empty.Tie as tie
+use Rattle.logging.proofs.batch.empty.Statement.{statement}
+use Rattle.logging.proofs.batch.empty.Tie as tie
 
 returns : tie.Need-returns
 returns c = rw (c .blank .ensures)

@@ -1,9 +1,9 @@
--- `journal::record_of` meets its contract: each arm has the record of its message.
+-- `logging::record_of` meets its contract: each arm has the record of its message.
 use mathlib.Core.Path.{sym, ap, _∙_}
 use borrow.Author.Needs.{needs}
 use Rattle.journal.specs.Journal.{recordOf}
-use Rattle.journal.proofs.record.record_of.Statement.{statement}
-use Rattle.journal.proofs.record.record_of.Tie as tie
+use Rattle.logging.proofs.record.record_of.Statement.{statement}
+use Rattle.logging.proofs.record.record_of.Tie as tie
 
 returns : tie.Need-returns
 unfolding recordOf

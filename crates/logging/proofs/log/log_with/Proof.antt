@@ -4,12 +4,13 @@ use Prim.Native.Nat.{ℕ, _≤_}
 use lib.ListN.{length}
 use lib.Seq.{paste}
 use borrow.Author.Needs.{needs}
 use Rattle.journal.specs.Journal.{batchLength, fitting}
 use Rattle.journal.proofs.Appended.{fitting-few, fitting-room, all-written}
-use Rattle.journal.specs.Types.{Record, Batch}
+use Rattle.journal.specs.declared.batch.Batch.{Batch}
+use Rattle.journal.specs.declared.record.Record.{Record}
 use mathlib.Core.List.{List}
-use Rattle.journal.proofs.log.log_with.Statement.{statement}
-use Rattle.journal.proofs.log.log_with.Tie as tie
+use Rattle.logging.proofs.log.log_with.Statement.{statement}
+use Rattle.logging.proofs.log.log_with.Tie as tie
 
 -- how many are written
 module _ (c : tie.After-fitting) where

@@ -7,9 +7,9 @@ use native.Mathlib.Omega.{arith}
 use lib.ListN.{length}
 use lib.Seq.{paste, paste-zero, paste-suc}
 use borrow.Author.Needs.{needs}
 use Rattle.journal.specs.Journal.{journalLength, batchLength, blank}
-use Rattle.journal.proofs.log.with_items.Statement.{statement}
-use Rattle.journal.proofs.log.with_items.Tie as tie
+use Rattle.logging.proofs.log.with_items.Statement.{statement}
+use Rattle.logging.proofs.log.with_items.Tie as tie
 
 abbrev Inv-loop : tie.InvT-loop
 Inv-loop at n items after₀ k₀ after k = (k ≤ n) × (after ≡ paste after₀ at items k)

@@ -1,10 +1,10 @@
 // Writing to the lent journal.
 ghost use mathlib.Core.Path.{_≡_};
 ghost use Rattle.journal.specs.Journal.{fitting, appended};
-use crate::batch::BATCH_LENGTH;
-use crate::batch::Batch;
 use crate::batch::nth;
-use crate::record::Record;
+use journal::BATCH_LENGTH;
+use journal::Batch;
+use journal::Record;
 
 // Writes the records of the batch from place `at` on, and nothing where they do not all fit.
 pub fn append(journal: &mut [Record], at: usize, batch: Batch)
