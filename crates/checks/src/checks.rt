@@ -43,7 +43,7 @@ pub fn refusal_of(state: State, table: usize, records: usize, frame: &[u8], room
     if !long_enough(table, records, room) {
         return refusal::SHORT_STORE;
     }
-    message_refusal(state, frame::read(frame))
+    message_refusal(state, framing::read(frame))
 }
 
 fn long_enough(table: usize, records: usize, room: usize) -> bool

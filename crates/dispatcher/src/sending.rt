@@ -21,7 +21,7 @@ pub fn send(items: [Record; BATCH_LENGTH], n: usize, out: &mut [u8]) -> u8
     let mut sent: usize = 0;
     while sent < answers {
         let entry = items[sent + 1];
-        frame::place(logging::frame_of(entry), out, FRAME_LENGTH * sent);
+        framing::place(logging::frame_of(entry), out, FRAME_LENGTH * sent);
         sent += 1;
     }
     answers as u8

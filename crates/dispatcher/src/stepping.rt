@@ -28,7 +28,7 @@ pub fn step(state: State, table: &[u8], records: usize, frame: &[u8], out: &mut 
     if number != 0 {
         return refused(state, number);
     }
-    let work = accept(state, table, frame::read(frame));
+    let work = accept(state, table, framing::read(frame));
     let at = state.logged as usize;
     let next = work.state;
     let batch = work.batch;

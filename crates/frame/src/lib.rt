@@ -1,8 +1,7 @@
-// Frames: the seven bytes by which the two ends speak, read as messages and written.
+// Frames: the seven bytes by which the two ends speak, and the messages that they say. The types are
+// declared here; the code is in `framing`.
 mod format;
 mod message;
-mod reading;
-mod writing;
 
 pub use format::AFE;
 pub use format::AM;
@@ -11,7 +10,3 @@ pub use format::FE;
 pub use format::FRAME_LENGTH;
 pub use message::Message;
 pub use message::Move;
-pub use reading::read;
-pub use writing::bytes;
-pub use writing::place;
-pub use writing::write;

@@ -22,7 +22,7 @@ pub fn hear(unit: Unit, frame: &[u8]) -> Heard
     if !valid(unit) {
         return answered(unit, STRANGE_STATE);
     }
-    match frame::read(frame) {
+    match framing::read(frame) {
         Message::Fa(_) => answered(unit, WRONG_END),
         Message::Fe(m) => {
             if m.train.0 != unit.train.0 {

@@ -58,5 +58,5 @@ pub fn frame_of(entry: Record) -> [u8; FRAME_LENGTH]
     let train = entry.train;
     let from = entry.from;
     let to = entry.to;
-    frame::bytes(entry.kind, Move { train, from, to })
+    framing::bytes(entry.kind, Move { train, from, to })
 }

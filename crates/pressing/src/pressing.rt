@@ -79,7 +79,7 @@ fn silent(unit: Unit, refusal: u8) -> Pressed
 fn sending(unit: Unit, message: Message) -> Pressed
     ensures { λ r. ⌜ r ≡ sending unit message ⌝ }
 {
-    let frame = frame::write(message);
+    let frame = framing::write(message);
     Pressed {
         unit: unit,
         refusal: 0,

@@ -1,8 +1,8 @@
 -- Each contract, by the theorem that its function meets it.
 use Rattle.book.proofs.read.Met.{met as read-book-met}
-use Rattle.frame.proofs.read.Met.{met as read-frame-met}
-use Rattle.frame.proofs.write.Met.{met as write-frame-met}
-use Rattle.frame.proofs.place.Met.{met as place-frame-met}
+use Rattle.framing.proofs.read.Met.{met as read-frame-met}
+use Rattle.framing.proofs.write.Met.{met as write-frame-met}
+use Rattle.framing.proofs.place.Met.{met as place-frame-met}
 use Rattle.table.proofs.code.Met.{met as code-of-met}
 use Rattle.table.proofs.bit.Met.{met as bit-at-met}
 use Rattle.table.proofs.feasible_start.Met.{met as feasible-start-met}

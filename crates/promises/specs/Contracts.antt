@@ -1,9 +1,9 @@
 -- The contract of each entry point: the type of its theorem, that the compiled function meets what stands above its
 -- code. No entry point has a `requires`. M is the model of memory over which the logic states its theorems: any.
 use Rattle.book.proofs.read.Statement.{statement as ReadBook}
-use Rattle.frame.proofs.read.Statement.{statement as ReadFrame}
-use Rattle.frame.proofs.write.Statement.{statement as WriteFrame}
-use Rattle.frame.proofs.place.Statement.{statement as PlaceFrame}
+use Rattle.framing.proofs.read.Statement.{statement as ReadFrame}
+use Rattle.framing.proofs.write.Statement.{statement as WriteFrame}
+use Rattle.framing.proofs.place.Statement.{statement as PlaceFrame}
 use Rattle.table.proofs.code.Statement.{statement as CodeOf}
 use Rattle.table.proofs.bit.Statement.{statement as BitAt}
 use Rattle.table.proofs.feasible_start.Statement.{statement as FeasibleStart}

@@ -82,7 +82,7 @@ fn send(sent: bool, bytes: [u8; FRAME_LENGTH], frame: &mut [u8]) -> u8
     if !sent {
         return 0;
     }
-    frame::place(bytes, frame, 0);
+    framing::place(bytes, frame, 0);
     1
 }
 

@@ -1,4 +1,4 @@
--- `frame::read` meets its contract: at each `return` the tests that led there say which case of `readFrame` holds.
+-- `framing::read` meets its contract: at each `return` the tests that led there say which case of `readFrame` holds.
 use mathlib.Core.Path.{_≡_}
 use mathlib.Core.List.{List}
 use Prim.Native.Nat.{ℕ, _≤_}
@@ -8,12 +8,12 @@ use denote.Ref.{now}
 use borrow.Author.Needs.{needs}
 use Rattle.common.specs.Word.{word}
 use Rattle.line.specs.Refusal.{unknownKind}
-use Rattle.frame.specs.Types.{Refused}
+use Rattle.frame.specs.declared.message.Message.the-variants.{Refused}
 use Rattle.frame.specs.Frame.{readFrame, messageOf}
 use Rattle.frame.proofs.Cases.{namedMove, other-size, other-length, other-version, other-kind, known-kind}
 use Rattle.frame.proofs.Cases.{not-a-kind}
-use Rattle.frame.proofs.reading.read.Statement.{statement}
-use Rattle.frame.proofs.reading.read.Tie as tie
+use Rattle.framing.proofs.reading.read.Statement.{statement}
+use Rattle.framing.proofs.reading.read.Tie as tie
 
 returns : tie.Need-returns
 returns c = other-size _ (c .if1 .taken)

@@ -4,14 +4,14 @@ ghost use Prim.Native.Nat.{_+_};
 ghost use lib.Dec.{leb};
 ghost use lib.ListN.{length};
 ghost use Rattle.common.specs.Part.{replacedIfRoom};
 ghost use Rattle.frame.specs.Frame.{frameLength, frameBytes, bytesOf};
-use crate::format::AFE;
-use crate::format::AM;
-use crate::format::FA;
-use crate::format::FE;
-use crate::format::FRAME_LENGTH;
-use crate::message::Message;
-use crate::message::Move;
+use frame::AFE;
+use frame::AM;
+use frame::FA;
+use frame::FE;
+use frame::FRAME_LENGTH;
+use frame::Message;
+use frame::Move;
 
 // The seven bytes of a message; seven zeros where there is none.
 pub fn write(message: Message) -> [u8; FRAME_LENGTH]

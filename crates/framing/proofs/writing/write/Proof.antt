@@ -1,9 +1,9 @@
--- `frame::write` meets its contract: each arm has the bytes of its message.
+-- `framing::write` meets its contract: each arm has the bytes of its message.
 use mathlib.Core.Path.{sym, ap, _∙_}
 use borrow.Author.Needs.{needs}
 use Rattle.frame.specs.Frame.{bytesOf}
-use Rattle.frame.proofs.writing.write.Statement.{statement}
-use Rattle.frame.proofs.writing.write.Tie as tie
+use Rattle.framing.proofs.writing.write.Statement.{statement}
+use Rattle.framing.proofs.writing.write.Tie as tie
 
 returns : tie.Need-returns
 unfolding bytesOf

@@ -1,13 +1,13 @@
 // Reading a frame: refusals 3, 4 and 5, in that order.
 ghost use mathlib.Core.Path.{_≡_};
 ghost use Rattle.frame.specs.Frame.{readFrame};
-use crate::format::AFE;
-use crate::format::AM;
-use crate::format::FA;
-use crate::format::FE;
-use crate::format::FRAME_LENGTH;
-use crate::message::Message;
-use crate::message::Move;
+use frame::AFE;
+use frame::AM;
+use frame::FA;
+use frame::FE;
+use frame::FRAME_LENGTH;
+use frame::Message;
+use frame::Move;
 use line::PostNo;
 use line::TrainNo;
 use line::refusal::OTHER_EDITION;

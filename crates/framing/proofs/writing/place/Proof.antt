@@ -1,12 +1,12 @@
--- `frame::place` meets its contract. The loop's invariant: the first i bytes are copied, the rest of the buffer is as
+-- `framing::place` meets its contract. The loop's invariant: the first i bytes are copied, the rest of the buffer is as
 -- it was; the measure is what is left of the seven.
 use Prim.Native.Nat.{_-_}
 use native.Mathlib.Omega.{arith}
 use lib.Seq.{paste-zero}
 use borrow.Author.Needs.{needs}
-use Rattle.frame.proofs.Placing.{Copied, no-room, same-size, one-more, all-placed}
-use Rattle.frame.proofs.writing.place.Statement.{statement}
-use Rattle.frame.proofs.writing.place.Tie as tie
+use Rattle.framing.proofs.Placing.{Copied, no-room, same-size, one-more, all-placed}
+use Rattle.framing.proofs.writing.place.Statement.{statement}
+use Rattle.framing.proofs.writing.place.Tie as tie
 
 abbrev Inv-loop : tie.InvT-loop
 Inv-loop out₀ at frame i₀ out i = Copied out₀ frame at out i
