@@ -1,4 +1,4 @@
--- `sending` meets its contract: the bytes are those of `frame::write`.
+-- `sending` meets its contract: the bytes are those of `framing::write`.
 use borrow.Author.Needs.{needs}
 use Rattle.pressing.proofs.pressing.sending.Statement.{statement}
 use Rattle.pressing.proofs.pressing.sending.Tie as tie
