@@ -30,8 +30,8 @@ use Rattle.calls.proofs.CallRuns.{call-runs}
 use Rattle.console.proofs.Transcript.{transcribes}
 use Rattle.examples.proofs.Examples.{examples, printed-run}
 use Rattle.examples.proofs.Books.{books}
-use Rattle.examples.proofs.Further.{older-then, stores, full-post, parked, six-trains, both-home, precedence}
-use Rattle.examples.proofs.Sidings.{siding-byte, still-needs-a-track, put-away, siding-state}
+use Rattle.cases.proofs.Further.{older-then, stores, full-post, parked, six-trains, both-home, precedence}
+use Rattle.cases.proofs.Sidings.{siding-byte, still-needs-a-track, put-away, siding-state}
 use Rattle.promises.specs.Claims.{Parts, Cab, OneFrame, WholeLists, InUse, Evaluated}
 
 pub parts : Parts

@@ -25,8 +25,8 @@ use Rattle.calls.specs.CallRuns.{CallRuns}
 use Rattle.console.specs.Transcript.{Transcribes}
 use Rattle.examples.specs.Examples.{Examples, PrintedRun}
 use Rattle.examples.specs.Books.{Books}
-use Rattle.examples.specs.Further.{OlderThen, Stores, FullPost, Parked, SixTrains, BothHome, Precedence}
-use Rattle.examples.specs.Sidings.{SidingByte, StillNeedsATrack, PutAway, SidingState}
+use Rattle.cases.specs.Further.{OlderThen, Stores, FullPost, Parked, SixTrains, BothHome, Precedence}
+use Rattle.cases.specs.Sidings.{SidingByte, StillNeedsATrack, PutAway, SidingState}
 
 -- any book, frame, record, table
 pub record Parts : Type 0 where

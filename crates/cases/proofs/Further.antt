@@ -9,8 +9,8 @@ use Rattle.frame.specs.Frame.{readFrame, bytesOf}
 use Rattle.journal.specs.Journal.{recordOf}
 use Rattle.rules.specs.Valid.{consistent, valid}
 use Rattle.rules.specs.Answer.{answer}
 use Rattle.examples.specs.Reading.{openedBlank, ranWith, repliesIn, seenIn}
-use Rattle.examples.specs.Further.{OlderThen, Stores, FullPost, Parked, SixTrains, BothHome, Precedence}
+use Rattle.cases.specs.Further.{OlderThen, Stores, FullPost, Parked, SixTrains, BothHome, Precedence}
 
 pub older-then : OlderThen
 unfolding bytesOf openedBlank ranWith repliesIn

@@ -1,0 +1,3 @@
+-- The further examples, evaluated.
+pub mod Further
+pub mod Sidings
