@@ -1,5 +1,5 @@
--- The journal as bytes. Records of 4 bytes: kind, train, from, to. A buffer of n bytes has n / 4 records; the n % 4
--- bytes past them are never read or written.
+-- The journal as bytes. Records of 5 bytes: kind, train, from, to, track. A buffer of n bytes has n / 5 records; the
+-- n % 5 bytes past them are never read or written.
 use mathlib.Core.List.{List, [], _∷_}
 use Prim.Native.Nat.{ℕ, _+_, _*_, _/_}
 use lib.ListN.{length, drop}
@@ -9,10 +9,10 @@ use Rattle.encoding.specs.Types.{Record}
 use Rattle.encoding.specs.Parts.{joined, each}
 
 abbrev pub recordLength : ℕ
-recordLength = 4
+recordLength = 5
 
 abbrev pub recordBytes : Record → List ℕ
-recordBytes r = r .kind ∷ r .train .0 ∷ r .from .0 ∷ r .to .0 ∷ []
+recordBytes r = r .kind ∷ r .train .0 ∷ r .from .0 ∷ r .to .0 ∷ r .track .0 ∷ []
 
 -- the record whose bytes begin at i
 abbrev pub recordIn : List ℕ → ℕ → Record
@@ -21,6 +21,7 @@ recordIn b i = record {
   train = record { 0 = byteAt b (i + 1) };
   from = record { 0 = byteAt b (i + 2) };
   to = record { 0 = byteAt b (i + 3) };
+  track = record { 0 = byteAt b (i + 4) };
 }
 
 -- how many records a buffer of n bytes has

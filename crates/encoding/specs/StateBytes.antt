@@ -1,6 +1,6 @@
--- A state as 42 bytes: posts; tracks of posts 0 to 7; sidings; trains; then for trains 0 to 5 five bytes: start, end,
--- present post, status, number of its FA; last the journal count.
-use mathlib.Core.Bool.{Bool, cond, _&&_, _||_}
+-- A state as 48 bytes: posts; tracks of posts 0 to 7; sidings; trains; then for trains 0 to 5 six bytes: start, end,
+-- present post, track there, status, and the number of its FA or the track ahead; last the journal count.
+use mathlib.Core.Bool.{Bool, not, cond, _&&_, _||_}
 use mathlib.Core.List.{List, [], _∷_, _++_}
 use Prim.Native.Nat.{ℕ, _+_, _*_}
 use lib.Dec.{eqb, leb}
@@ -8,7 +8,6 @@ use lib.ListN.{length}
 use Rattle.common.specs.Below.{allBelow}
 use Rattle.common.specs.Tabulate.{tabulate}
 use Rattle.line.specs.Book.{byteAt, route}
-use Rattle.rules.specs.State.{askedAs}
 use Rattle.encoding.specs.Types.{Status, Free, AskedAs, Running, Train, State}
 use Rattle.encoding.specs.Parts.{joined, each, headBytes, postsByte, tracksByte, sidingsByte, trainsByte}
 use Rattle.encoding.specs.Parts.{headLength}
@@ -20,11 +19,17 @@ use Rattle.encoding.specs.LineBytes.{routeLength, routeEnds}
 abbrev pub statusNo : Status → ℕ
 statusNo Free = 0
 statusNo (AskedAs n) = 1
-statusNo Running = 2
+statusNo (Running k) = 2
 
--- what a frame can change of a train; number of its FA (0 unless Asked)
+-- what the status carries: Asked the number of its FA, Running the track at the post it runs to, Free 0
+abbrev pub detail : Status → ℕ
+detail Free = 0
+detail (AskedAs n) = n
+detail (Running k) = k .0
+
+-- what a frame can change of a train
 abbrev pub standingBytes : Train → List ℕ
-standingBytes x = x .at .0 ∷ statusNo (x .status) ∷ askedAs (x .status) ∷ []
+standingBytes x = x .at .0 ∷ x .track .0 ∷ statusNo (x .status) ∷ detail (x .status) ∷ []
 
 abbrev pub trainBytes : Train → List ℕ
 trainBytes x = routeEnds (x .route) ++ standingBytes x
@@ -39,7 +44,7 @@ stateBytes s = joined (stateParts s)
 -- ---- which bytes encode a state, and which state
 
 abbrev pub trainLength : ℕ
-trainLength = routeLength + 3
+trainLength = routeLength + 4
 
 -- where the bytes of train t begin, and where the journal count is
 abbrev pub trainAt : ℕ → ℕ
@@ -51,28 +56,29 @@ loggedAt = headLength + trainLength * 6
 abbrev pub stateLength : ℕ
 stateLength = loggedAt + 1
 
--- a status, and 0 for the number where it is not Asked; of the train whose bytes begin at i
+-- a status, and 0 for what it carries where it is Free; of the train whose bytes begin at i
 abbrev pub encodesStatus : ℕ → ℕ → Bool
-encodesStatus k n = leb k 2 && (eqb k 1 || eqb n 0)
+encodesStatus k n = leb k 2 && (not (eqb k 0) || eqb n 0)
 
 abbrev pub encodesTrain : List ℕ → ℕ → Bool
-encodesTrain b i = encodesStatus (byteAt b (i + 3)) (byteAt b (i + 4))
+encodesTrain b i = encodesStatus (byteAt b (i + 4)) (byteAt b (i + 5))
 
--- 42 bytes with a status above 2, or with a number other than 0 where the status is not 1, encode no state; so does
--- any other length.
+-- 48 bytes with a status above 2, or with another number than 0 after the status 0, encode no state; so does any other
+-- length.
 unfoldable pub encodesState : List ℕ → Bool
 encodesState b = eqb (length b) stateLength && allBelow 6 (λ t. encodesTrain b (trainAt t))
 
 -- the status of a number; what is above 2 is not read
 unfoldable pub statusOf : ℕ → ℕ → Status
-statusOf k n = cond (eqb k 0) Free (cond (eqb k 1) (AskedAs n) Running)
+statusOf k n = cond (eqb k 0) Free (cond (eqb k 1) (AskedAs n) (Running (record { 0 = n })))
 
 -- the train whose bytes begin at i
 abbrev pub trainIn : List ℕ → ℕ → Train
 trainIn b i = record {
   route = route (byteAt b i) (byteAt b (i + 1));
   at = record { 0 = byteAt b (i + 2) };
-  status = statusOf (byteAt b (i + 3)) (byteAt b (i + 4));
+  track = record { 0 = byteAt b (i + 3) };
+  status = statusOf (byteAt b (i + 4)) (byteAt b (i + 5));
 }
 
 abbrev pub tracksIn : List ℕ → List ℕ

@@ -1,5 +1,6 @@
 -- 01, "The journal": "The journal is a lent run of records, at least 176: kind, train, from, to. An accepted frame is
--- logged, then each answer in order of sending. Records past the count are untouched."
+-- logged, then each answer in order of sending. Records past the count are untouched." 02, card 2: "The FE record gains
+-- the track number at the post run to, from 1; other records have 0 there."
 use mathlib.Core.Path.{_≡_}
 use mathlib.Core.Bool.{Bool, cond, _&&_}
 use mathlib.Core.List.{List, _++_}
@@ -18,11 +19,17 @@ journalLength = 176
 
 -- what is read past the end, and what stands for no message
 abbrev pub blank : Record
-blank = record { kind = 0; train = record { 0 = 0 }; from = record { 0 = 0 }; to = record { 0 = 0 } }
+blank = record {
+  kind = 0;
+  train = record { 0 = 0 };
+  from = record { 0 = 0 };
+  to = record { 0 = 0 };
+  track = record { 0 = 0 };
+}
 
--- "kind, train, from, to"
+-- "kind, train, from, to", and no track
 abbrev pub recordWith : ℕ → Move → Record
-recordWith k m = record { kind = k; train = m .train; from = m .from; to = m .to }
+recordWith k m = record { kind = k; train = m .train; from = m .from; to = m .to; track = record { 0 = 0 } }
 
 -- the record by which a message is logged, with the kind of its frame
 unfoldable pub recordOf : Message → Record
@@ -32,7 +39,15 @@ recordOf (Afe m) = recordWith AFE m
 recordOf (Am m) = recordWith AM m
 recordOf (Refused n) = blank
 
--- the seven bytes of the frame that a record was made of
+-- the same record, but for its track k
+abbrev pub onTrack : ℕ → Record → Record
+onTrack k r = record { kind = r .kind; train = r .train; from = r .from; to = r .to; track = record { 0 = k } }
+
+-- "The FE record gains the track number": the record by which the message is logged whose train gets track k
+abbrev pub recordOn : ℕ → Message → Record
+recordOn k m = onTrack k (recordOf m)
+
+-- the seven bytes of the frame that a record was made of; no frame has a track
 abbrev pub frameOf : Record → List ℕ
 frameOf r = frameBytes (r .kind) (record { train = r .train; from = r .from; to = r .to })
 

@@ -31,10 +31,12 @@ kindName k =
     (cond (eqb k AFE) (32 ∷ 65 ∷ 70 ∷ 69 ∷ [])
     (cond (eqb k AM) (32 ∷ 65 ∷ 77 ∷ []) (32 ∷ 63 ∷ []))))
 
--- 01: "each journal record (number, kind, train, from, to)"
+-- 01: "each journal record (number, kind, train, from, to)". 02, card 2: "The printed line of a record ends with its
+-- track number."
 abbrev pub recordLine : ℕ → Record → List ℕ
 recordLine number r =
-    decimal number ++ kindName (r .kind) ++ spaced (r .train .0) ++ spaced (r .from .0) ++ spaced (r .to .0) ++ newline
+    decimal number ++ kindName (r .kind) ++ spaced (r .train .0) ++ spaced (r .from .0) ++ spaced (r .to .0)
+    ++ spaced (r .track .0) ++ newline
 
 -- 01: "then `end`, the record count and the count of refused frames"
 abbrev pub endLine : ℕ → ℕ → List ℕ

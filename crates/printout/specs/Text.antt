@@ -8,7 +8,7 @@ use Rattle.printout.specs.Types.{Text}
 
 -- as many bytes as the longest line of a record has
 abbrev pub recordLineLength : ℕ
-recordLineLength = 20
+recordLineLength = 24
 
 -- as many as the longest end line has
 abbrev pub endLineLength : ℕ

@@ -111,7 +111,7 @@ accepted table s (Fa m) =
     let asked = withStatus (trainOf s (m .train .0)) (Asked (s .logged)) in
     declined m (settled table (taken s (Fa m) asked))
 -- "AM: the train becomes Free at the post it ran to. Then the same granting."
-accepted table s (Am m) = settled table (taken s (Am m) (arrivedNext (trainOf s (m .train .0))))
+accepted table s (Am m) = settled table (taken s (Am m) (arrivedNext (s .sidings) (trainOf s (m .train .0))))
 accepted table s (Fe m) = untouched s
 accepted table s (Afe m) = untouched s
 accepted table s (Refused n) = untouched s

@@ -1,29 +1,28 @@
 -- Who can be granted, and the granting: "the oldest Asked train (lowest FA number) that can be granted becomes Running
 -- and an FE is written; again from the oldest, until none can be granted."
-use mathlib.Core.Bool.{Bool, cond, _&&_}
+use mathlib.Core.Bool.{Bool, not, cond, _&&_}
 use mathlib.Core.Option.{Option, none, some}
 use mathlib.Core.List.{List, [], _∷_, _++_}
 use Prim.Native.Nat.{ℕ, zero, suc}
 use lib.Dec.{ltb, eqb}
-use lib.ListN.{getD}
 use Rattle.line.specs.Route.{sectionOf}
-use Rattle.line.specs.Holding.{postHolders, sectionHolders}
-use Rattle.journal.specs.Journal.{recordOf}
+use Rattle.line.specs.Holding.{sectionHolders}
+use Rattle.journal.specs.Journal.{recordOn}
 use Rattle.completion.specs.Configuration.{moved, codeBelow}
 use Rattle.completion.specs.Table.{bitOf}
 use Rattle.rules.specs.Types.{Message, Fe, Record, Running, State}
-use Rattle.rules.specs.State.{isAsked, askedAs, nextOf, trainOf, located, reached, nextMove, withStatus}
+use Rattle.rules.specs.State.{isAsked, askedAs, nextOf, trainOf, located, freeTrack, reached, nextMove, withStatus}
 use Rattle.rules.specs.State.{withTrain, oneLogged}
 
 -- "A train can be granted if it is Asked, its next section is unheld, its next post is held by fewer trains than
 -- tracks, and the table has the bit for the placing in which every Running train, and this one, has reached its next
--- post."
+-- post." 02, card 2: the test for a free track tells which one.
 unfoldable pub grantable : List ℕ → State → ℕ → Bool
 grantable table s t =
     let x = trainOf s t in
     isAsked (x .status)
     && eqb (sectionHolders (s .trains) (located s) (sectionOf (x .at .0) (nextOf x))) 0
-    && ltb (postHolders (s .trains) (located s) (nextOf x)) (getD (s .tracks) (nextOf x) 0)
+    && not (eqb (freeTrack s t (nextOf x)) 0)
     && bitOf table (codeBelow (s .trains) (moved (reached s) t))
 
 -- t, unless u asked before it
@@ -51,11 +50,13 @@ begun s r = record { state = oneLogged s; logged = r ∷ []; sent = [] }
 abbrev pub sends : State → Work → Record → Message → Work
 sends s w r a = record { state = oneLogged s; logged = w .logged ++ r ∷ []; sent = w .sent ++ a ∷ [] }
 
+-- train t becomes Running, on its way to the track that is free for it, and the record of its FE has that track
 abbrev pub granted : Work → ℕ → Work
 granted w t =
     let s = w .state in
     let a = Fe (nextMove s t) in
-    sends (withTrain s t (withStatus (trainOf s t) Running)) w (recordOf a) a
+    let k = freeTrack s t (nextOf (trainOf s t)) in
+    sends (withTrain s t (withStatus (trainOf s t) (Running (record { 0 = k })))) w (recordOn k a) a
 
 abbrev pub proceed : Option ℕ → Work → (ℕ → Work) → Work
 proceed none w next = w

@@ -1,17 +1,20 @@
 -- The opening of a book: "Opening gives every train Free at its start, count 0, those places all 0 and Free, and the
 -- journal's records untouched."
-use mathlib.Core.Bool.{cond, _&&_}
+use mathlib.Core.Bool.{Bool, cond, _&&_}
 use mathlib.Core.List.{List, [], _∷_, _++_}
-use Prim.Native.Nat.{ℕ}
+use Prim.Native.Nat.{ℕ, zero, suc}
 use lib.Dec.{leb, eqb}
-use lib.ListN.{length}
+use lib.ListN.{length, getD}
+use Rattle.common.specs.Below.{anyBelow}
 use Rattle.common.specs.Check.{Check, check, refusal, unlessRefused}
 use Rattle.common.specs.Tabulate.{tabulate}
 use Rattle.line.specs.Refusal.{shortStore, overfull, noWayThrough}
-use Rattle.line.specs.Line.{routeOf}
+use Rattle.line.specs.Line.{routeOf, tracksAt}
+use Rattle.line.specs.Holding.{isStabled, holdsPost}
 use Rattle.line.specs.Book.{lineIn, bookChecks, emptyLine}
+use Rattle.tracks.specs.Tracks.{trackFor}
 use Rattle.journal.specs.Journal.{journalLength}
-use Rattle.completion.specs.Configuration.{start, code, feasible}
+use Rattle.completion.specs.Configuration.{start, whereabouts, code, feasible}
 use Rattle.completion.specs.Table.{tableLength, bitOf, filled}
 use Rattle.rules.specs.Types.{Route, Line, Record, Free, Train, State, Opened}
 
@@ -26,9 +29,33 @@ openingChecks book table records =
     ∷ check noWayThrough (bitOf (filled l table) (code l start))
     ∷ [])
 
--- a train at its start; of no route, at post 0
-abbrev pub fresh : Route → Train
-fresh r = record { route = r; at = r .start; status = Free }
+-- ---- the tracks at the opening: "At opening, trains take tracks by the same rule in number order"
+
+-- some of the first n trains, whose tracks are ks, has track k at post p
+abbrev pub startHeld : Line → List ℕ → ℕ → ℕ → ℕ → Bool
+startHeld l ks n p k = anyBelow n (λ u. holdsPost (whereabouts l start u) p && eqb (getD ks u 0) k)
+
+-- the track of train t, after those of the trains below it; "one put away in a siding has none"
+abbrev pub startTrack : Line → List ℕ → ℕ → ℕ
+startTrack l ks t =
+    let r = routeOf l t in
+    let p = r .start .0 in
+    cond (isStabled (l .sidings) (r .end .0) p) 0 (trackFor r (startHeld l ks t p) (tracksAt l p))
+
+-- those of the first n trains
+unfoldable pub startTracks : Line → ℕ → List ℕ
+startTracks l zero = []
+startTracks l (suc n) = let ks = startTracks l n in ks ++ startTrack l ks n ∷ []
+
+-- that of train t; 0 at places past the trains
+abbrev pub openedTrack : Line → ℕ → ℕ
+openedTrack l t = getD (startTracks l (l .trains)) t 0
+
+-- ---- the state
+
+-- a train at its start, on track k; of no route, at post 0
+abbrev pub fresh : Route → ℕ → Train
+fresh r k = record { route = r; at = r .start; track = record { 0 = k }; status = Free }
 
 -- "every train Free at its start, count 0"; where a line has 0, the state has
 abbrev pub openedState : Line → State
@@ -37,7 +64,7 @@ openedState l = record {
   tracks = l .tracks;
   sidings = l .sidings;
   trains = l .trains;
-  fleet = tabulate 6 (λ t. fresh (routeOf l t));
+  fleet = tabulate 6 (λ t. fresh (routeOf l t) (openedTrack l t));
   logged = 0;
 }
 

@@ -1,13 +1,14 @@
--- One train's record and the state, read: the next post, where the train is, what it has travelled.
-use mathlib.Core.Bool.{Bool, true, false, cond}
+-- One train's record and the state, read: the next post, where the train is and on which track, what it has travelled.
+use mathlib.Core.Bool.{Bool, true, false, cond, _&&_}
 use mathlib.Core.List.{List, map}
 use Prim.Native.Nat.{ℕ, _+_}
 use lib.Dec.{eqb}
 use lib.ListN.{getD, set}
-use Rattle.common.specs.Below.{ofBool}
+use Rattle.common.specs.Below.{ofBool, anyBelow}
 use Rattle.line.specs.Route.{nextPost, distance}
 use Rattle.line.specs.Line.{noRoute}
-use Rattle.line.specs.Holding.{Whereabouts, moving, standing}
+use Rattle.line.specs.Holding.{Whereabouts, moving, isStabled, standing, holdsPost}
+use Rattle.tracks.specs.Tracks.{trackFor}
 use Rattle.frame.specs.Frame.{moveOf}
 use Rattle.completion.specs.Configuration.{Configuration}
 use Rattle.rules.specs.Types.{Line, Move, Status, Free, Asked, Running, Train, State}
@@ -17,23 +18,29 @@ use Rattle.rules.specs.Types.{Line, Move, Status, Free, Asked, Running, 
 abbrev pub isFree : Status → Bool
 isFree Free = true
 isFree (Asked n) = false
-isFree Running = false
+isFree (Running k) = false
 
 abbrev pub isAsked : Status → Bool
 isAsked Free = false
 isAsked (Asked n) = true
-isAsked Running = false
+isAsked (Running k) = false
 
 abbrev pub isRunning : Status → Bool
 isRunning Free = false
 isRunning (Asked n) = false
-isRunning Running = true
+isRunning (Running k) = true
 
 -- "an Asked train carries the journal number of its FA"
 abbrev pub askedAs : Status → ℕ
 askedAs Free = 0
 askedAs (Asked n) = n
-askedAs Running = 0
+askedAs (Running k) = 0
+
+-- the track at the post that a Running train runs to
+abbrev pub trackAhead : Status → ℕ
+trackAhead Free = 0
+trackAhead (Asked n) = 0
+trackAhead (Running k) = k .0
 
 abbrev pub atEnd : Train → Bool
 atEnd x = eqb (x .at .0) (x .route .end .0)
@@ -48,6 +55,10 @@ abbrev pub locatedAt : ℕ → Train → Whereabouts
 locatedAt sidings x =
     cond (isRunning (x .status)) (moving (x .at .0) (nextOf x)) (standing sidings (x .route .end .0) (x .at .0))
 
+-- the track that it has at post p, where it holds one there
+abbrev pub trackAt : Train → ℕ → ℕ
+trackAt x p = cond (eqb (x .at .0) p) (x .track .0) (trackAhead (x .status))
+
 -- the posts travelled, and one more for a train that is Running: it "has reached its next post"
 abbrev pub reachedBy : Train → ℕ
 reachedBy x = distance (x .route .start .0) (x .at .0) + ofBool (isRunning (x .status))
@@ -55,7 +66,7 @@ reachedBy x = distance (x .route .start .0) (x .at .0) + ofBool (isRunning (x .s
 -- ---- the state
 
 abbrev pub noTrain : Train
-noTrain = record { route = noRoute; at = record { 0 = 0 }; status = Free }
+noTrain = record { route = noRoute; at = record { 0 = 0 }; track = record { 0 = 0 }; status = Free }
 
 abbrev pub trainOf : State → ℕ → Train
 trainOf s t = getD (s .fleet) t noTrain
@@ -74,6 +85,17 @@ lineOf s = record {
 abbrev pub located : State → ℕ → Whereabouts
 located s t = locatedAt (s .sidings) (trainOf s t)
 
+-- train t holds post p, on its track k; some train does
+abbrev pub holdsTrack : State → ℕ → ℕ → ℕ → Bool
+holdsTrack s p k t = holdsPost (located s t) p && eqb (trackAt (trainOf s t) p) k
+
+abbrev pub trackHeld : State → ℕ → ℕ → Bool
+trackHeld s p k = anyBelow (s .trains) (holdsTrack s p k)
+
+-- 02, card 2: "The test for a free track now returns which one": that for train t at post p, or 0
+abbrev pub freeTrack : State → ℕ → ℕ → ℕ
+freeTrack s t p = trackFor (trainOf s t .route) (trackHeld s p) (getD (s .tracks) p 0)
+
 -- "the placing in which every Running train .. has reached its next post"
 abbrev pub reached : State → Configuration
 reached s t = reachedBy (trainOf s t)
@@ -85,11 +107,17 @@ nextMove s t = moveOf t (trainOf s t .at .0) (nextOf (trainOf s t))
 -- ---- the state, changed
 
 abbrev pub withStatus : Train → Status → Train
-withStatus x w = record { route = x .route; at = x .at; status = w }
+withStatus x w = record { route = x .route; at = x .at; track = x .track; status = w }
 
--- "the train becomes Free at the post it ran to"
-abbrev pub arrivedNext : Train → Train
-arrivedNext x = record { route = x .route; at = record { 0 = nextOf x }; status = Free }
+-- "the train becomes Free at the post it ran to". 02, card 2: "A train keeps its track while it holds the post; one put
+-- away in a siding has none."
+abbrev pub arrivedNext : ℕ → Train → Train
+arrivedNext sidings x = record {
+  route = x .route;
+  at = record { 0 = nextOf x };
+  track = record { 0 = cond (isStabled sidings (x .route .end .0) (nextOf x)) 0 (trackAhead (x .status)) };
+  status = Free;
+}
 
 -- the state with these records of its trains, and so many records logged
 abbrev pub stateWith : State → List Train → ℕ → State

@@ -5,11 +5,11 @@ use lib.Dec.{leb, ltb, eqb}
 use lib.ListN.{getD}
 use Rattle.common.specs.Below.{allBelow}
 use Rattle.line.specs.Route.{between}
-use Rattle.line.specs.Line.{wellFormed}
-use Rattle.line.specs.Holding.{postHolders, sectionHolders}
+use Rattle.line.specs.Line.{inRange, wellFormed}
+use Rattle.line.specs.Holding.{isStabled, holdsPost, postHolders, sectionHolders}
 use Rattle.journal.specs.Journal.{journalLength}
 use Rattle.rules.specs.Types.{Status, Free, Asked, Running, Train, State}
-use Rattle.rules.specs.State.{isFree, atEnd, trainOf, lineOf, located}
+use Rattle.rules.specs.State.{isFree, atEnd, trackAt, trainOf, lineOf, located, holdsTrack}
 
 -- "present posts lie between start and end (both counted), only trains short of their end are Asked or Running"
 abbrev pub trainValid : Train → Bool
@@ -23,18 +23,32 @@ sectionsValid s = allBelow (s .posts) (λ i. leb (sectionHolders (s .trains) (lo
 abbrev pub postsValid : State → Bool
 postsValid s = allBelow (s .posts) (λ p. leb (postHolders (s .trains) (located s) p) (getD (s .tracks) p 0))
 
+-- 02, card 2: "In a sound state the tracks held at a post differ and are in its count": at post p, that of train t
+abbrev pub trackValid : State → ℕ → ℕ → Bool
+trackValid s p t =
+    let k = trackAt (trainOf s t) p in
+    not (holdsPost (located s t) p)
+    || (inRange 1 (getD (s .tracks) p 0) k && allBelow t (λ u. not (holdsTrack s p k u)))
+
+abbrev pub tracksValid : State → Bool
+tracksValid s = allBelow (s .posts) (λ p. allBelow (s .trains) (trackValid s p))
+
+-- "one put away in a siding has none"
+abbrev pub awayValid : ℕ → Train → Bool
+awayValid sidings x = not (isStabled sidings (x .route .end .0) (x .at .0)) || eqb (x .track .0) 0
+
 -- "FA numbers are distinct and below that count"
 abbrev pub numberBelow : Status → ℕ → Bool
 numberBelow Free c = true
 numberBelow (Asked n) c = ltb n c
-numberBelow Running c = true
+numberBelow (Running k) c = true
 
 abbrev pub sameNumber : Status → Status → Bool
 sameNumber Free v = false
 sameNumber (Asked m) Free = false
 sameNumber (Asked m) (Asked n) = eqb m n
-sameNumber (Asked m) Running = false
-sameNumber Running v = false
+sameNumber (Asked m) (Running k) = false
+sameNumber (Running k) v = false
 
 abbrev pub numberValid : State → ℕ → Bool
 numberValid s t =
@@ -49,6 +63,8 @@ consistent s =
     && allBelow (s .trains) (λ t. trainValid (trainOf s t))
     && sectionsValid s
     && postsValid s
+    && tracksValid s
+    && allBelow (s .trains) (λ t. awayValid (s .sidings) (trainOf s t))
     && allBelow (s .trains) (numberValid s)
 
 -- "the journal count is at most 176"

@@ -1,18 +1,21 @@
 // What the box keeps of the line and its trains. It goes in by value and comes back by value.
 use line::PostNo;
 use line::Route;
+use line::TrackNo;
 
 // 01: "Each train's record carries its standing: Free, Asked or Running." An asked train carries
-// the journal number of its request.
+// the journal number of its request, and one that is Running the track at the post it runs to.
 pub enum Status {
     Free,
     Asked(u8),
-    Running,
+    Running(TrackNo),
 }
 
+// `track` is that at its present post, 0 where the train is stabled.
 pub struct Train {
     pub route: Route,
     pub at: PostNo,
+    pub track: TrackNo,
     pub status: Status,
 }
 

@@ -1,0 +1,2 @@
+-- The laws of the choice of a track, and of sets of tracks.
+pub mod Choice
