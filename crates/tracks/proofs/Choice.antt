@@ -1,12 +1,12 @@
 -- What the choice of a track gives: one that is not held, or 0 where all are; and which of those that are not.
-use mathlib.Core.Path.{_≡_, refl}
+use mathlib.Core.Path.{_≡_, refl, sym, subst, _∙_}
 use mathlib.Core.Logic.{_≢_}
 use mathlib.Core.Bool.{Bool, true, false}
-use Prim.Native.Nat.{ℕ, zero, suc, _-_, _≤_, _<_}
+use Prim.Native.Nat.{ℕ, zero, suc, _+_, _-_, _≤_, _<_}
 use native.Mathlib.Omega.{arith}
 use lib.Dec.{leb}
 use borrow.Author.Tests.{eq-eqb, ne-eqb, le-leb, lt-leb}
-use Rattle.common.proofs.Tests.{by-cases, by-equality}
+use Rattle.common.proofs.Tests.{clash, by-cases, by-equality, by-order}
 use Rattle.line.specs.declared.route.Route.{Route}
 use Rattle.tracks.specs.Tracks.{smallest, largest, trackFor, TrackRule}
 
@@ -60,6 +60,16 @@ module _ (held : ℕ → Bool) where
   unfolding trackFor
   chosen r n = by-cases (leb (r .start .0) (r .end .0)) (λ e. rw e (chosen-smallest n)) (λ e. rw e (chosen-largest n))
 
+-- an up train's and a down train's
+module _ (r : Route) (held : ℕ → Bool) (n k : ℕ) where
+  pub up-track : r .start .0 ≤ r .end .0 → k ≡ smallest held n → k ≡ trackFor r held n
+  unfolding trackFor
+  up-track h e = e ∙ rw (le-leb (r .start .0) (r .end .0) h)
+
+  pub down-track : r .end .0 < r .start .0 → k ≡ largest held n → k ≡ trackFor r held n
+  unfolding trackFor
+  down-track h e = e ∙ rw (lt-leb (r .start .0) (r .end .0) h)
+
 -- the choice goes by which of tracks 1 to n are held
 pub track-cong : (r : Route) (f g : ℕ → Bool) (n : ℕ) → ((k : ℕ) → k < n → f (suc k) ≡ g (suc k))
     → trackFor r f n ≡ trackFor r g n
@@ -112,3 +122,60 @@ track-rule = record {
   up = λ r held n k way a b. low-held held n k a (rw (le-leb (r .start .0) (r .end .0) way) at b);
   down = λ r held n k way a b. high-held held n k (rw (lt-leb (r .start .0) (r .end .0) way) at a) b;
 }
+
+-- ---- found by a search, from track 1 on or from the last one down
+
+module _ (held : ℕ → Bool) where
+  -- the tracks from i on and below k are held
+  pub record HeldFrom (i k : ℕ) : Type 0 where
+    pub each : (j : ℕ) → i ≤ j → j < k → held j ≡ true
+
+  pub none-passed : (i k : ℕ) → k ≤ i → HeldFrom i k
+  none-passed i k h = record { each = λ j a b. absurd (omega arith) }
+
+  pub passed-up : {i k : ℕ} → HeldFrom i k → held k ≡ true → HeldFrom i (k + 1)
+  passed-up {i} {k} h e = record { each = λ j a b. by-equality j k (λ q. rw (q, e)) (λ q. h .each j a (omega arith)) }
+
+  pub passed-down : {i k : ℕ} → HeldFrom (i + 1) k → held i ≡ true → (n : ℕ) → i ≤ n → HeldFrom n k
+  passed-down {i} {k} h e n l = record {
+    each = λ j a b. by-equality j i (λ q. rw (q, e)) (λ q. h .each j (omega arith) b);
+  }
+
+  -- a choice that is 0 though track k is not held
+  none-chosen : {A : Type 0} (n r k : ℕ) → Chosen held n r → r ≡ 0 → 1 ≤ k → k ≤ n → held k ≡ false → A
+  none-chosen n r k c z a b e =
+      let p : suc (k - 1) ≡ k = omega arith in
+      clash (held k) (subst (λ (j : ℕ). held j ≡ true) p (c .full z (k - 1) (omega arith))) e
+
+  -- where all are held, it is 0
+  all-held : (n r i k : ℕ) → Chosen held n r → HeldFrom i k → i ≤ 1 → n < k → 0 ≡ r
+  all-held n r i k c h a b = by-equality r 0 (λ z. sym z)
+      (λ z. clash (held r) (h .each r (omega arith) (omega (arith, c .few))) (c .free z))
+
+  module _ (n : ℕ) where
+    pub no-smallest : {k : ℕ} → HeldFrom 1 k → n < k → 0 ≡ smallest held n
+    no-smallest {k} h = all-held n (smallest held n) 1 k (chosen-smallest held n) h (omega arith)
+
+    pub no-largest : {i : ℕ} → HeldFrom i (n + 1) → i ≤ 1 → 0 ≡ largest held n
+    no-largest {i} h a = all-held n (largest held n) i (n + 1) (chosen-largest held n) h a (omega arith)
+
+    module _ (k : ℕ) (a : 1 ≤ k) (b : k ≤ n) (e : held k ≡ false) where
+      pub found-smallest : HeldFrom 1 k → k ≡ smallest held n
+      found-smallest h =
+          let r = smallest held n in
+          let c = chosen-smallest held n in
+          by-equality k r (λ q. q) (λ q. by-equality r 0
+          (λ z. none-chosen n r k c z a b e)
+          (λ z. by-order r k
+          (λ l. clash (held r) (h .each r (omega arith) l) (c .free z))
+          (λ l. clash (held k) (low-held held n k a (omega arith)) e)))
+
+      pub found-largest : HeldFrom (k + 1) (n + 1) → k ≡ largest held n
+      found-largest h =
+          let r = largest held n in
+          let c = chosen-largest held n in
+          by-equality k r (λ q. q) (λ q. by-equality r 0
+          (λ z. none-chosen n r k c z a b e)
+          (λ z. by-order k r
+          (λ l. clash (held r) (h .each r (omega arith) (omega (arith, c .few))) (c .free z))
+          (λ l. clash (held k) (high-held held n k (omega arith) b) e)))

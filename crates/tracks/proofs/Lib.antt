@@ -1,2 +1,4 @@
 -- The laws of the choice of a track, and of sets of tracks.
+pub mod Counting
 pub mod Choice
+pub mod Sets

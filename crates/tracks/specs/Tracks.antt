@@ -1,7 +1,7 @@
 -- 02, card 2: which track a train gets. Tracks are numbered from 1; 0 stands for none.
 use mathlib.Core.Path.{_≡_}
 use mathlib.Core.Logic.{_≢_}
-use mathlib.Core.Bool.{Bool, true, cond}
+use mathlib.Core.Bool.{Bool, true, false, cond}
 use Prim.Native.Nat.{ℕ, zero, suc, _≤_, _<_}
 use lib.Dec.{leb, eqb}
 use Rattle.line.specs.declared.route.Route.{Route}

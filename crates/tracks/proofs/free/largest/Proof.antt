@@ -1,53 +1,45 @@
+-- `largest` meets its contract. The loop's invariant: the tracks passed are held.
+use Prim.Native.Nat.{_+_, _-_, _≤_}
+use native.Mathlib.Omega.{arith}
+use mathlib.Core.Path.{_≡_, sym, _∙_}
+use borrow.Author.Tests.{not-true, not-false}
+use Rattle.common.specs.Bits.{bitAt}
+use Rattle.tracks.proofs.Choice.{HeldFrom, none-passed, passed-down, found-largest, no-largest}
 use Rattle.tracks.proofs.free.largest.Statement.{statement}
 use Rattle.tracks.proofs.free.largest.Tie as tie
-use Rattle.tracks.proofs.free.largest.Reads as reads
-use Rattle.tracks.proofs.free.largest.Lts as lts
-use Rattle.tracks.proofs.free.is_held.Reads as is-held-reads
 
 abbrev Inv-loop : tie.InvT-loop
-Inv-loop held tracks k₀ k = ?
+Inv-loop held tracks k₀ k = (k ≤ tracks) × HeldFrom (bitAt held) (k + 1) (tracks + 1)
 
 abbrev μ-loop : tie.MeasureT-loop
-μ-loop held tracks k₀ k = ?
+μ-loop held tracks k₀ k = k
 
--- src/free.rt:48:5
 loop-holds : tie.Need-loop-holds Inv-loop μ-loop
-loop-holds c = ?
+loop-holds c = (omega arith, none-passed _ _ _ (omega arith))
 
--- src/free.rt:49:13
 is-held-requires : tie.Need-is-held-requires Inv-loop μ-loop
-is-held-requires c κs = ?
+is-held-requires c κs = omega arith
 
--- src/free.rt:50:13
 returns : tie.Need-returns Inv-loop μ-loop
-returns c = ?
+returns c =
+    let at = c .before .before .before in
+    found-largest _ _ _ (omega arith) (omega arith) (sym (c .before .is-held .ensures) ∙ not-true _ (c .if1 .taken))
+    (at .loop .inv .1)
 
--- src/free.rt:52:9
 sub-k : tie.Need-sub-k Inv-loop μ-loop
-sub-k c = ?
+sub-k c = omega arith
 
--- src/free.rt:48:5
 loop-less : tie.Need-loop-less Inv-loop μ-loop
-loop-less c = ?
+loop-less c = omega arith
 
--- src/free.rt:48:5
 loop-again : tie.Need-loop-again Inv-loop μ-loop
-loop-again c = ?
+loop-again c =
+    let at = c .before .before .before in
+    (omega arith, passed-down _ (at .loop .inv .1) (sym (c .before .is-held .ensures) ∙ not-false _ (c .if1 .left)) _ (omega arith))
 
--- src/free.rt:43:1
 returns-2 : tie.Need-returns-2 Inv-loop μ-loop
-returns-2 c = ?
+returns-2 c = no-largest _ _ (c .before .loop .inv .1) (omega (arith, c .loop-test .left))
 
 pub largest-spec : {M : Type 1} → statement M
 largest-spec =
-    tie.close
-    (tie.spec
-    Inv-loop
-    μ-loop
-    loop-holds
-    is-held-requires
-    returns
-    sub-k
-    loop-less
-    loop-again
-    returns-2)
+    tie.close (tie.spec Inv-loop μ-loop loop-holds is-held-requires returns sub-k loop-less loop-again returns-2)
