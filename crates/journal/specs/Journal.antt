@@ -2,14 +2,16 @@
 -- logged, then each answer in order of sending. Records past the count are untouched." 02, card 2: "The FE record gains
 -- the track number at the post run to, from 1; other records have 0 there."
 use mathlib.Core.Path.{_≡_}
+use mathlib.Core.Logic.{_≢_}
 use mathlib.Core.Bool.{Bool, cond, _&&_}
 use mathlib.Core.List.{List, _++_}
 use Prim.Native.Nat.{ℕ, _+_, _≤_, _<_}
 use lib.Dec.{leb, ltb}
 use lib.ListN.{length, getD, set, take, drop, replicate}
+use Rattle.line.specs.Line.{tracksAt}
 use Rattle.frame.specs.Frame.{FA, FE, AFE, AM, frameBytes, bytesOf}
 use Rattle.frame.specs.RoundTrip.{IsMessage}
-use Rattle.journal.specs.Types.{Move, Message, Fa, Fe, Afe, Am, Refused, Record, Batch}
+use Rattle.journal.specs.Types.{Line, Move, Message, Fa, Fe, Afe, Am, Refused, Record, Batch}
 
 -- "at least 176"
 abbrev pub journalLength : ℕ
@@ -46,6 +48,15 @@ onTrack k r = record { kind = r .kind; train = r .train; from = r .from; to = r 
 -- "The FE record gains the track number": the record by which the message is logged whose train gets track k
 abbrev pub recordOn : ℕ → Message → Record
 recordOn k m = onTrack k (recordOf m)
+
+-- the record but for its track: what a frame says of it
+abbrev pub withoutTrack : Record → Record
+withoutTrack r = onTrack 0 r
+
+-- "The FE record gains the track number at the post run to, from 1; other records have 0 there."
+pub record Tracked (l : Line) (r : Record) : Type 0 where
+  pub given : r .kind ≡ FE → (1 ≤ r .track .0) × (r .track .0 ≤ tracksAt l (r .to .0))
+  pub other : r .kind ≢ FE → r .track .0 ≡ 0
 
 -- the seven bytes of the frame that a record was made of; no frame has a track
 abbrev pub frameOf : Record → List ℕ

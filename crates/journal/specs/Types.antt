@@ -1,4 +1,5 @@
 -- The declared types that the journal speaks of, under one module.
+pub use Rattle.line.specs.declared.line.Line.{Line}
 pub use Rattle.frame.specs.declared.message.Move.{Move}
 pub use Rattle.frame.specs.declared.message.Message.{Message}
 pub use Rattle.frame.specs.declared.message.Message.the-variants.{Fa, Fe, Afe, Am, Refused}

@@ -16,9 +16,10 @@ use Rattle.common.proofs.Below.{count-le, count-some}
 use Rattle.common.proofs.Check.{passed-by, both-pass, accepts, refuses}
 use Rattle.line.specs.Refusal.{strangeState, shortStore, wrongEnd, unknownTrain, atItsEnd, wrongPost}
 use Rattle.line.specs.Refusal.{alreadyAsked, underAuthority, noAuthority, journalFull}
-use Rattle.frame.specs.Frame.{moveIn, readFrame}
+use Rattle.frame.specs.Frame.{FE, moveIn, readFrame}
 use Rattle.frame.specs.RoundTrip.{IsMessage}
-use Rattle.journal.specs.Journal.{journalLength, recordOf}
+use Rattle.journal.specs.Journal.{journalLength, recordOf, withoutTrack, Tracked}
+use Rattle.journal.proofs.Records.{recorded-untracked, no-track}
 use Rattle.completion.specs.Table.{tableLength}
 use Rattle.rules.specs.Types.{Line, Move, Message, Fa, Fe, Afe, Am, Refused, Record, Asked, Train, State}
 use Rattle.rules.specs.Types.{RefusedBy}
@@ -156,18 +157,21 @@ pub record Accepted (s : State) (a : Message) (w : Work) : Type 0 where
   pub valid-state : Consistent (w .state)
   pub line : lineOf (w .state) ≡ lineOf s
   pub size : length (w .state .fleet) ≡ length (s .fleet)
-  -- the frame's record, then one for each answer
-  pub written : w .logged ≡ map recordOf (a ∷ w .sent)
+  -- the frame's record, then one for each answer; an FE's has a track
+  pub written : map withoutTrack (w .logged) ≡ map recordOf (a ∷ w .sent)
+  pub tracked : (r : Record) → List·Memᴰ r (w .logged) → Tracked (lineOf s) r
   pub few : length (w .logged) ≤ mostLogged
   pub counted : w .state .logged ≡ s .logged + length (w .logged)
   pub messages : (b : Message) → List·Memᴰ b (w .sent) → IsMessage b
 
 pub paired : {s : State} {a : Message} {w : Work} → Accepted s a w → length (w .logged) ≡ 1 + length (w .sent)
-paired {a = a} {w = w} k = ap length (k .written) ∙ omega (arith, length-map (a ∷ w .sent) recordOf)
+paired {a = a} {w = w} k =
+    sym (length-map (w .logged) withoutTrack) ∙ ap length (k .written)
+    ∙ omega (arith, length-map (a ∷ w .sent) recordOf)
 
 module _ (table : List ℕ) (s : State) (d : Consistent s) (a : Message) where
   -- the granting, after the frame's own change of its train's record
-  module _ (x : Train) (same : x .route ≡ trainOf s (moveIn a .train .0) .route)
+  module _ (own : recordOf a .kind ≢ FE) (x : Train) (same : x .route ≡ trainOf s (moveIn a .train .0) .route)
       (v : Consistent (taken s a x .state)) where
     few-asked : askedCount (taken s a x .state) ≤ 6
     few-asked =
@@ -179,12 +183,19 @@ module _ (table : List ℕ) (s : State) (d : Consistent s) (a : Message) where
     paid : length (settled table (taken s a x) .logged) + askedCount (settled table (taken s a x) .state) ≤ mostLogged
     paid = omega (arith, settles .spent, few-asked)
 
+    begun-line : lineOf (taken s a x .state) ≡ lineOf s
+    begun-line = changed-line s (moveIn a .train .0) x (s .logged + 1) same
+
     settled-accepted : Accepted s a (settled table (taken s a x))
     settled-accepted = record {
       valid-state = settled-valid table (taken s a x) v;
-      line = settles .line ∙ changed-line s (moveIn a .train .0) x (s .logged + 1) same;
+      line = settles .line ∙ begun-line;
       size = settles .size ∙ length-set (s .fleet) (moveIn a .train .0) x;
-      written = rw (settles .written, settles .added);
+      written = rw (settles .written, recorded-untracked a, settles .logs, settles .added);
+      tracked = λ r h.
+          ⊎-elim (λ q. subst (Tracked (lineOf s)) (sym (List·Memᴰ·eq-of-singleton q)) (no-track (lineOf s) a own))
+          (λ q. subst (λ (l : Line). Tracked l r) begun-line (settles .tracked r q))
+          (List·Memᴰ·append-cases (recordOf a ∷ []) (subst (List·Memᴰ r) (settles .written) h));
       few = omega (arith, paid);
       counted = omega (arith, settles .counted, settles .spent);
       messages = rw (settles .added) (settles .messages);
@@ -195,6 +206,19 @@ module _ (table : List ℕ) (s : State) (d : Consistent s) (a : Message) where
 declining : (m : Move) → IsMessage (Afe m)
 unfolding IsMessage
 declining m = tt
+
+-- of FA, AFE and AM no record is an FE's
+fa-other : (m : Move) → recordOf (Fa m) .kind ≢ FE
+unfolding recordOf
+fa-other m e = omega (arith, e)
+
+am-other : (m : Move) → recordOf (Am m) .kind ≢ FE
+unfolding recordOf
+am-other m e = omega (arith, e)
+
+afe-other : (m : Move) → recordOf (Afe m) .kind ≢ FE
+unfolding recordOf
+afe-other m e = omega (arith, e)
 
 -- "If the asker was not granted, its AFE comes last."
 declined-accepted : (s : State) (a : Message) (m : Move) (w : Work) → m .train .0 < s .trains
@@ -212,7 +236,14 @@ declined-accepted s a m w known paid k =
           valid-state = valid-logged (w .state) (k .valid-state);
           line = k .line;
           size = k .size;
-          written = rw (k .written, map-append recordOf (w .sent) (Afe m ∷ []));
+          written =
+              map-append withoutTrack (w .logged) (recordOf (Afe m) ∷ [])
+              ∙ rw (k .written, recorded-untracked (Afe m)) (sym (map-append recordOf (a ∷ w .sent) (Afe m ∷ [])));
+          tracked = λ r h.
+              ⊎-elim (k .tracked r)
+              (λ q. subst (Tracked (lineOf s)) (sym (List·Memᴰ·eq-of-singleton q))
+              (no-track (lineOf s) (Afe m) (afe-other m)))
+              (List·Memᴰ·append-cases (w .logged) h);
           few = omega (arith, long);
           counted = omega (arith, long, k .counted);
           messages = λ b h.
@@ -228,11 +259,11 @@ unfolding accepted
 accepted-facts table s d a (request m n free idle) =
     let x = withStatus (trainOf s (m .train .0)) (Asked (s .logged)) in
     let v = valid-request s d (m .train .0) (n .known) (n .short) idle in
-    declined-accepted s (Fa m) m _ (n .known) (paid table s d (Fa m) x refl v)
-    (settled-accepted table s d (Fa m) x refl v)
+    declined-accepted s (Fa m) m _ (n .known) (paid table s d (Fa m) (fa-other m) x refl v)
+    (settled-accepted table s d (Fa m) (fa-other m) x refl v)
 accepted-facts table s d a (arrival m n runs) =
-    let x = arrivedNext (trainOf s (m .train .0)) in
-    settled-accepted table s d (Am m) x refl (valid-arrival s d (m .train .0) (n .known) (n .short) runs)
+    let x = arrivedNext (s .sidings) (trainOf s (m .train .0)) in
+    settled-accepted table s d (Am m) (am-other m) x refl (valid-arrival s d (m .train .0) (n .known) (n .short) runs)
 
 -- the state is valid, its count included
 pub accepted-valid : (table : List ℕ) (s : State) → Consistent s → (a : Message) → Taken s a
@@ -262,4 +293,4 @@ accepted-nobody table s a (request m n free idle) =
     let w = taken s (Fa m) (withStatus (trainOf s (m .train .0)) (Asked (s .logged))) in
     declined-nobody table m (settled table w) (settled-end table w)
 accepted-nobody table s a (arrival m n runs) =
-    settled-end table (taken s (Am m) (arrivedNext (trainOf s (m .train .0))))
+    settled-end table (taken s (Am m) (arrivedNext (s .sidings) (trainOf s (m .train .0))))

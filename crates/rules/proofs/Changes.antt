@@ -3,31 +3,33 @@
 -- the old record was one, or where there is room.
 use mathlib.Core.Path.{_≡_, refl, sym, subst, _∙_}
 use mathlib.Core.Logic.{_≢_}
-use mathlib.Core.Bool.{Bool, true, false, not, _&&_, _||_, or-false, false≢true, true≢false}
+use mathlib.Core.Bool.{Bool, true, false, not, _&&_, _||_, or-false, or-true, false≢true, true≢false}
 use mathlib.Core.List.{List}
 use Prim.Native.Nat.{ℕ, _+_, _≤_, _<_}
 use native.Mathlib.Omega.{arith}
 use lib.Dec.{eqb}
 use lib.ListN.{length}
-use borrow.Author.Tests.{eqb-true, ltb-true, eq-eqb, lt-ltb, ne-eqb}
+use borrow.Author.Tests.{eqb-true, eqb-false, eq-eqb, ne-eqb, not-true}
 use Rattle.common.specs.Below.{ofBool}
-use Rattle.common.proofs.Tests.{by-equality, and-left, and-right}
-use Rattle.common.proofs.Below.{ofBool-le}
+use Rattle.common.proofs.Tests.{clash, by-equality, and-left, and-right, and-both}
+use Rattle.common.proofs.Below.{ofBool-le, below-any}
 use Rattle.line.specs.Route.{sectionOf}
 use Rattle.line.specs.Line.{tracksAt}
-use Rattle.line.specs.Holding.{isStabled, holdsPost, holdsSection, postHolders, sectionHolders}
+use Rattle.line.specs.Holding.{at, isStabled, holdsPost, holdsSection, postHolders, sectionHolders}
 use Rattle.line.proofs.Holding.{standing-holds, standing-section, standing-short}
-use Rattle.line.proofs.Travel.{next-between}
+use Rattle.line.proofs.Travel.{next-between, next-other}
 use Rattle.line.proofs.WellFormed.{WellFormed}
+use Rattle.tracks.proofs.Choice.{Chosen}
 use Rattle.completion.specs.Configuration.{moved, codeBelow}
 use Rattle.completion.specs.Table.{bitOf}
 use Rattle.rules.specs.Types.{Asked, Running, Train, State}
-use Rattle.rules.specs.State.{isAsked, isRunning, askedAs, atEnd, nextOf, locatedAt, trainOf, lineOf, located}
-use Rattle.rules.specs.State.{reached, withStatus, arrivedNext, withTrain, oneLogged}
+use Rattle.rules.specs.State.{isAsked, isRunning, askedAs, atEnd, nextOf, locatedAt, trackAt, trainOf, lineOf}
+use Rattle.rules.specs.State.{located, trackHeld, freeTrack, reached, withStatus, arrivedNext, withTrain, oneLogged}
 use Rattle.rules.specs.Granting.{grantable}
-use Rattle.rules.proofs.Trains.{asked-idle, in-fleet, changed, changed-own, changed-other, changed-each}
-use Rattle.rules.proofs.Trains.{changed-line, changed-count}
-use Rattle.rules.proofs.Validity.{TrainValid, Distinct, Consistent, asked-short}
+use Rattle.rules.proofs.Trains.{asked-idle, idle-ahead, in-fleet, changed, changed-own, changed-other}
+use Rattle.rules.proofs.Trains.{changed-each, changed-line, changed-count}
+use Rattle.rules.proofs.Validity.{TrainValid, Distinct, Consistent, next-post-below, asked-short}
+use Rattle.rules.proofs.FreeTrack.{free-chosen, free-fewer}
 
 -- ---- the law
 
@@ -43,6 +45,11 @@ pub record Change (s : State) (t : ℕ) (x : Train) (n : ℕ) : Type 0 where
   pub post : (p : ℕ) → p < s .posts
       → postHolders (s .trains) (located s) p + ofBool (holdsPost (locatedAt (s .sidings) x) p)
       ≤ tracksAt (lineOf s) p + ofBool (holdsPost (located s t) p)
+  pub track : (p : ℕ) → p < s .posts → holdsPost (locatedAt (s .sidings) x) p ≡ true
+      → (1 ≤ trackAt x p) × (trackAt x p ≤ tracksAt (lineOf s) p)
+  pub differ : (p u : ℕ) → p < s .posts → u < s .trains → u ≢ t → holdsPost (locatedAt (s .sidings) x) p ≡ true
+      → holdsPost (located s u) p ≡ true → trackAt x p ≢ trackAt (trainOf s u) p
+  pub away : isStabled (s .sidings) (x .route .end .0) (x .at .0) ≡ true → x .track .0 ≡ 0
   pub number : (u : ℕ) → u < s .trains → u ≢ t → isAsked (x .status) ≡ true → isAsked (trainOf s u .status) ≡ true
       → askedAs (x .status) ≢ askedAs (trainOf s u .status)
 
@@ -74,6 +81,24 @@ module _ (s : State) (d : Consistent s) (t : ℕ) (known : t < s .trains) (x : T
     posts = λ p k.
         let e = changed-count s t x n (λ y. holdsPost (locatedAt (s .sidings) y) p) (s .trains) known (c .place) in
         omega (arith, c .post p k);
+    tracks = λ p u kp ku.
+        changed-each s t x n
+        (λ v y. holdsPost (locatedAt (s .sidings) y) p ≡ true
+        → (1 ≤ trackAt y p) × (trackAt y p ≤ tracksAt (lineOf s) p))
+        (c .place) (c .track p kp) u (λ h. d .tracks p u kp ku);
+    differ = λ p u v kp ku kv. by-equality u t
+        (λ e. by-equality v t
+        (λ f a b z. e ∙ sym f)
+        (λ f. rw (e, changed-own s t x n (c .place), changed-other s t x n v f)
+        (λ a b z. absurd (c .differ p v kp kv f a b z))))
+        (λ e. by-equality v t
+        (λ f. rw (f, changed-own s t x n (c .place), changed-other s t x n u e)
+        (λ a b z. absurd (c .differ p u kp ku e b a (sym z))))
+        (λ f. rw (changed-other s t x n u e, changed-other s t x n v f) (d .differ p u v kp ku kv)));
+    away = λ u k.
+        changed-each s t x n
+        (λ v y. isStabled (s .sidings) (y .route .end .0) (y .at .0) ≡ true → y .track .0 ≡ 0)
+        (c .place) (c .away) u (λ h. d .away u k);
     distinct = distinct-change s t x n (c .place) (c .number) (d .distinct);
   }
 
@@ -82,7 +107,7 @@ module _ (s : State) (d : Consistent s) (t : ℕ) (known : t < s .trains) (x : T
 pub record Grantable (table : List ℕ) (s : State) (t : ℕ) : Type 0 where
   pub asks : isAsked (trainOf s t .status) ≡ true
   pub section : sectionHolders (s .trains) (located s) (sectionOf (trainOf s t .at .0) (nextOf (trainOf s t))) ≡ 0
-  pub post : postHolders (s .trains) (located s) (nextOf (trainOf s t)) < tracksAt (lineOf s) (nextOf (trainOf s t))
+  pub track : freeTrack s t (nextOf (trainOf s t)) ≢ 0
   pub bit : bitOf table (codeBelow (s .trains) (moved (reached s) t)) ≡ true
 
 module _ (table : List ℕ) (s : State) (t : ℕ) where
@@ -91,13 +116,13 @@ module _ (table : List ℕ) (s : State) (t : ℕ) where
   grantable-facts e = record {
     asks = search (and-left, and-right);
     section = eqb-true _ _ (search (and-left, and-right));
-    post = ltb-true _ _ (search (and-left, and-right));
+    track = eqb-false _ _ (not-true _ (search (and-left, and-right)));
     bit = search (and-left, and-right);
   }
 
   pub is-grantable : Grantable table s t → grantable table s t ≡ true
   unfolding grantable
-  is-grantable g = rw (g .asks, eq-eqb _ _ (g .section), lt-ltb _ _ (g .post), g .bit)
+  is-grantable g = rw (g .asks, eq-eqb _ _ (g .section), ne-eqb _ _ (g .track), g .bit)
 
 -- ---- its uses
 
@@ -113,6 +138,9 @@ valid-logged s d = record {
       };
   sections = d .sections;
   posts = d .posts;
+  tracks = d .tracks;
+  differ = d .differ;
+  away = d .away;
   distinct = d .distinct;
 }
 
@@ -132,6 +160,11 @@ module _ (s : State) (d : Consistent s) (t : ℕ) (known : t < s .trains) where
   pub valid-request : trainOf s t .at .0 ≢ trainOf s t .route .end .0 → isRunning (trainOf s t .status) ≡ false
       → Consistent (oneLogged (withTrain s t (withStatus (trainOf s t) (Asked (s .logged)))))
   valid-request short idle =
+      let y = trainOf s t in
+      let same : (p : ℕ) → trackAt (withStatus y (Asked (s .logged))) p ≡ trackAt y p =
+      λ p. rw (idle-ahead (y .status) idle) in
+      let held : (p : ℕ) → holdsPost (locatedAt (s .sidings) (withStatus y (Asked (s .logged)))) p ≡ true
+      → holdsPost (located s t) p ≡ true = λ p h. rw (idle, h) in
       valid-change s d t known (withStatus (trainOf s t) (Asked (s .logged))) (s .logged + 1) (record {
         place = short-place s t short;
         route = refl;
@@ -139,66 +172,136 @@ module _ (s : State) (d : Consistent s) (t : ℕ) (known : t < s .trains) where
         train = record { inside = d .each t known .inside; busy = λ q. short; numbered = λ q. omega arith };
         section = λ i k. rw (standing-section (s .sidings) _ _ i) (omega (arith, d .sections i k));
         post = λ p k. rw idle (omega (arith, d .posts p k));
+        track = λ p k h. rw (same p) (d .tracks p t k known (held p h));
+        differ = λ p u k ku z h g e. z (sym (d .differ p t u k known ku (held p h) g (sym (same p) ∙ e)));
+        away = d .away t known;
         number = λ u ku h p q e. omega (arith, d .each u ku .numbered q);
       })
 
   -- "the train becomes Free at the post it ran to"
-  pub valid-arrival : trainOf s t .at .0 ≢ trainOf s t .route .end .0 → isRunning (trainOf s t .status) ≡ true
-      → Consistent (oneLogged (withTrain s t (arrivedNext (trainOf s t))))
-  valid-arrival short runs = valid-change s d t known (arrivedNext (trainOf s t)) (s .logged + 1) (record {
-    place = short-place s t short;
-    route = refl;
-    more = omega arith;
-    train = record {
-      inside = next-between _ _ _ (d .each t known .inside) short;
-      busy = λ q. absurd (true≢false q);
-      numbered = λ q. absurd (false≢true q);
-    };
-    section = λ i k. rw (standing-section (s .sidings) _ _ i) (omega (arith, d .sections i k));
-    post = λ p k.
-        let x = trainOf s t in
-        let away = isStabled (s .sidings) (x .route .end .0) (nextOf x) in
-        let held : holdsPost (locatedAt (s .sidings) (arrivedNext x)) p ≡ not away && eqb (nextOf x) p =
-        standing-holds (s .sidings) (x .route .end .0) (nextOf x) p in
-        rw (runs, held)
-        (omega (arith, d .posts p k, fewer-held away (eqb (x .at .0) p) (eqb (nextOf x) p)));
-    number = λ u ku h p. absurd (false≢true p);
-  })
+  module _ (short : trainOf s t .at .0 ≢ trainOf s t .route .end .0) (runs : isRunning (trainOf s t .status) ≡ true) where
+    abbrev ran : Train
+    ran = trainOf s t
+
+    abbrev arrived : Train
+    arrived = arrivedNext (s .sidings) ran
+
+    abbrev stabled? : Bool
+    stabled? = isStabled (s .sidings) (ran .route .end .0) (nextOf ran)
+
+    holds-there : (p : ℕ) → holdsPost (locatedAt (s .sidings) arrived) p ≡ not stabled? && eqb (nextOf ran) p
+    holds-there p = standing-holds (s .sidings) (ran .route .end .0) (nextOf ran) p
+
+    -- it holds the post that it ran to, and no other
+    there : (p : ℕ) → holdsPost (locatedAt (s .sidings) arrived) p ≡ true → (stabled? ≡ false) × (nextOf ran ≡ p)
+    there p h =
+        let e = sym (holds-there p) ∙ h in
+        (not-true _ (and-left (not stabled?) _ e), eqb-true _ _ (and-right (not stabled?) _ e))
+
+    held-before : (p : ℕ) → holdsPost (locatedAt (s .sidings) arrived) p ≡ true → holdsPost (located s t) p ≡ true
+    held-before p h = rw (runs, eq-eqb _ _ (there p h .1)) (or-true (eqb (ran .at .0) p))
+
+    -- "A train keeps its track while it holds the post"
+    track-kept : (p : ℕ) → holdsPost (locatedAt (s .sidings) arrived) p ≡ true → trackAt arrived p ≡ trackAt ran p
+    track-kept p h =
+        let r = there p h in
+        let other : ran .at .0 ≢ p = λ z. next-other _ _ _ (d .each t known .inside) short (r .1 ∙ sym z) in
+        rw (eq-eqb _ _ (r .1), r .0, ne-eqb _ _ other)
+
+    pub valid-arrival : Consistent (oneLogged (withTrain s t (arrivedNext (s .sidings) (trainOf s t))))
+    valid-arrival = valid-change s d t known arrived (s .logged + 1) (record {
+      place = short-place s t short;
+      route = refl;
+      more = omega arith;
+      train = record {
+        inside = next-between _ _ _ (d .each t known .inside) short;
+        busy = λ q. absurd (true≢false q);
+        numbered = λ q. absurd (false≢true q);
+      };
+      section = λ i k. rw (standing-section (s .sidings) _ _ i) (omega (arith, d .sections i k));
+      post = λ p k.
+          rw (runs, holds-there p)
+          (omega (arith, d .posts p k, fewer-held stabled? (eqb (ran .at .0) p) (eqb (nextOf ran) p)));
+      track = λ p k h. rw (track-kept p h) (d .tracks p t k known (held-before p h));
+      differ = λ p u k ku z h g e.
+          z (sym (d .differ p t u k known ku (held-before p h) g (sym (track-kept p h) ∙ e)));
+      away = λ e. rw e;
+      number = λ u ku h p. absurd (false≢true p);
+    })
 
   -- a grant, by whatever table
-  pub valid-grant : (table : List ℕ) → grantable table s t ≡ true
-      → Consistent (oneLogged (withTrain s t (withStatus (trainOf s t) Running)))
-  valid-grant table e = valid-change s d t known (withStatus (trainOf s t) Running) (s .logged + 1) (record {
-    place = in-fleet s t (λ x. isAsked (x .status)) refl (g .asks);
-    route = refl;
-    more = omega arith;
-    train = record {
-      inside = d .each t known .inside;
-      busy = λ q. short;
-      numbered = λ q. absurd (false≢true q);
-    };
-    section = λ i k. by-equality (sectionOf (trainOf s t .at .0) (nextOf (trainOf s t))) i
-        (λ q.
-        let free : sectionHolders (s .trains) (located s) i ≡ 0 = rw q at (g .section) in
-        omega (arith, ofBool-le (eqb (sectionOf (trainOf s t .at .0) (nextOf (trainOf s t))) i)))
-        (λ q. rw (ne-eqb (sectionOf (trainOf s t .at .0) (nextOf (trainOf s t))) i q) (omega (arith, d .sections i k)));
-    post = λ p k. by-equality (nextOf (trainOf s t)) p
-        (λ q.
-        let free : postHolders (s .trains) (located s) p < tracksAt (lineOf s) p = rw q at (g .post) in
-        omega (arith, ofBool-le (eqb (trainOf s t .at .0) p || eqb (nextOf (trainOf s t)) p)))
-        (λ q.
-        rw (
-          asked-idle (trainOf s t .status) (g .asks),
-          standing-short (s .sidings) (trainOf s t .route .end .0) (trainOf s t .at .0) (ne-eqb _ _ short),
-          ne-eqb (nextOf (trainOf s t)) p q,
-          or-false (eqb (trainOf s t .at .0) p),
-        )
-        (omega (arith, d .posts p k)));
-    number = λ u ku h p. absurd (false≢true p);
-  })
-    where
-      g : Grantable table s t
-      g = grantable-facts table s t e
+  module _ (table : List ℕ) (can : grantable table s t ≡ true) where
+    abbrev asks : Train
+    asks = trainOf s t
 
-      short : trainOf s t .at .0 ≢ trainOf s t .route .end .0
-      short = asked-short s d t known (g .asks)
+    abbrev next : ℕ
+    next = nextOf (trainOf s t)
+
+    abbrev runs-to : Train
+    runs-to = withStatus (trainOf s t) (Running (record { 0 = freeTrack s t next }))
+
+    g : Grantable table s t
+    g = grantable-facts table s t can
+
+    short : asks .at .0 ≢ asks .route .end .0
+    short = asked-short s d t known (g .asks)
+
+    -- it stood at its post
+    was : located s t ≡ at (asks .at .0)
+    was = rw (
+      asked-idle (asks .status) (g .asks),
+      standing-short (s .sidings) (asks .route .end .0) (asks .at .0) (ne-eqb _ _ short),
+    )
+
+    fewer : postHolders (s .trains) (located s) next < tracksAt (lineOf s) next
+    fewer = free-fewer s d next (next-post-below s d t known short) t (g .track)
+
+    c : Chosen (trackHeld s next) (tracksAt (lineOf s) next) (freeTrack s t next)
+    c = free-chosen s t next
+
+    -- the post that it runs to, where it is not the one it stands at
+    ahead : (p : ℕ) → asks .at .0 ≢ p → holdsPost (locatedAt (s .sidings) runs-to) p ≡ true → next ≡ p
+    ahead p q h = eqb-true _ _ (rw (ne-eqb _ _ q) at h)
+
+    track-given : (p : ℕ) → p < s .posts → holdsPost (locatedAt (s .sidings) runs-to) p ≡ true
+        → (1 ≤ trackAt runs-to p) × (trackAt runs-to p ≤ tracksAt (lineOf s) p)
+    track-given p k h = by-equality (asks .at .0) p
+        (λ q. rw (eq-eqb _ _ q) (rw (eq-eqb _ _ q) at (d .tracks p t k known (rw (was, eq-eqb _ _ q)))))
+        (λ q. rw (ne-eqb _ _ q, ← ahead p q h) (omega (arith, g .track), c .few))
+
+    track-new : (p u : ℕ) → p < s .posts → u < s .trains → u ≢ t → holdsPost (locatedAt (s .sidings) runs-to) p ≡ true
+        → holdsPost (located s u) p ≡ true → trackAt runs-to p ≢ trackAt (trainOf s u) p
+    track-new p u k ku z h b = by-equality (asks .at .0) p
+        (λ q. rw (eq-eqb _ _ q)
+        (λ y. z (sym (d .differ p t u k known ku (rw (was, eq-eqb _ _ q)) b (rw (eq-eqb _ _ q) y)))))
+        (λ q. rw (ne-eqb _ _ q) (λ y. clash (trackHeld s p (freeTrack s t next))
+        (below-any (s .trains) _ u ku (and-both _ _ b (eq-eqb _ _ (sym y))))
+        (subst (λ (i : ℕ). trackHeld s i (freeTrack s t next) ≡ false) (ahead p q h) (c .free (g .track)))))
+
+    pub valid-grant : let k = freeTrack s t (nextOf (trainOf s t)) in
+        Consistent (oneLogged (withTrain s t (withStatus (trainOf s t) (Running (record { 0 = k })))))
+    valid-grant = valid-change s d t known runs-to (s .logged + 1) (record {
+      place = in-fleet s t (λ x. isAsked (x .status)) refl (g .asks);
+      route = refl;
+      more = omega arith;
+      train = record {
+        inside = d .each t known .inside;
+        busy = λ q. short;
+        numbered = λ q. absurd (false≢true q);
+      };
+      section = λ i k. by-equality (sectionOf (asks .at .0) next) i
+          (λ q.
+          let free : sectionHolders (s .trains) (located s) i ≡ 0 =
+          subst (λ (z : ℕ). sectionHolders (s .trains) (located s) z ≡ 0) q (g .section) in
+          omega (arith, ofBool-le (eqb (sectionOf (asks .at .0) next) i)))
+          (λ q. rw (ne-eqb (sectionOf (asks .at .0) next) i q) (omega (arith, d .sections i k)));
+      post = λ p k. by-equality next p
+          (λ q.
+          let free : postHolders (s .trains) (located s) p < tracksAt (lineOf s) p = rw q at fewer in
+          omega (arith, ofBool-le (eqb (asks .at .0) p || eqb next p)))
+          (λ q. rw (was, ne-eqb next p q, or-false (eqb (asks .at .0) p)) (omega (arith, d .posts p k)));
+      track = track-given;
+      differ = track-new;
+      away = d .away t known;
+      number = λ u ku h p. absurd (false≢true p);
+    })

@@ -12,7 +12,7 @@ use Rattle.common.specs.Below.{ofBool, countBelow}
 use Rattle.common.proofs.Tests.{clash, not-passed}
 use Rattle.common.proofs.Below.{none-counted, count-le}
 use Rattle.rules.specs.Types.{Running, Train, State}
-use Rattle.rules.specs.State.{isAsked, trainOf, lineOf, withStatus}
+use Rattle.rules.specs.State.{isAsked, nextOf, trainOf, lineOf, freeTrack, withStatus}
 use Rattle.rules.specs.Granting.{grantable, oldest, Work, granted, proceed, grants, settled}
 use Rattle.rules.proofs.Trains.{in-fleet, changed-line, changed-count}
 use Rattle.rules.proofs.Validity.{Consistent}
@@ -21,6 +21,10 @@ use Rattle.rules.proofs.Oldest.{Nobody, Oldest, oldest-none, oldest-som
 
 abbrev pub askedCount : State → ℕ
 askedCount s = countBelow (s .trains) (λ t. isAsked (trainOf s t .status))
+
+-- train t's record after its grant
+abbrev pub granting : State → ℕ → Train
+granting s t = withStatus (trainOf s t) (Running (record { 0 = freeTrack s t (nextOf (trainOf s t)) }))
 
 -- the work's oldest
 abbrev pub Turn : List ℕ → Work → ℕ → Type 0
@@ -66,16 +70,15 @@ module _ (table : List ℕ) where
     pub granted-fewer : askedCount (granted w t .state) + 1 ≡ askedCount (w .state)
     granted-fewer =
         let one : ofBool (isAsked (trainOf (w .state) t .status)) ≡ 1 = rw asks in
-        let x = withStatus (trainOf (w .state) t) Running in
         let asking : Train → Bool = λ y. isAsked (y .status) in
         omega (
           arith,
-          changed-count (w .state) t x (w .state .logged + 1) asking (w .state .trains)
+          changed-count (w .state) t (granting (w .state) t) (w .state .logged + 1) asking (w .state .trains)
               (f .known) granted-place,
         )
 
     pub granted-line : lineOf (granted w t .state) ≡ lineOf (w .state)
-    granted-line = changed-line (w .state) t (withStatus (trainOf (w .state) t) Running) (w .state .logged + 1) refl
+    granted-line = changed-line (w .state) t (granting (w .state) t) (w .state .logged + 1) refl
 
   -- ---- fuel
 

@@ -1,6 +1,7 @@
 -- The laws of the definitions, for any state and any table, right or altered.
 pub mod Trains
 pub mod Validity
+pub mod FreeTrack
 pub mod Changes
 pub mod Reached
 pub mod Oldest

@@ -28,8 +28,8 @@ use Rattle.completion.specs.Table.{tableLength, bitOf, filled, Filling}
 use Rattle.completion.proofs.Codes.{code-cong}
 use Rattle.rules.specs.Types.{Line, Opened}
 use Rattle.rules.specs.State.{noTrain}
-use Rattle.rules.specs.Opening.{openingChecks, fresh, openedState, emptyState, Opening, opened, openingOf}
-use Rattle.rules.specs.Opening.{refusedBook, openingWith}
+use Rattle.rules.specs.Opening.{openingChecks, openedTrack, fresh, openedState, emptyState, Opening, opened}
+use Rattle.rules.specs.Opening.{openingOf, refusedBook, openingWith}
 
 -- ---- parts of the opening
 
@@ -39,7 +39,7 @@ start-code l = code-cong (l .trains) (λ t. getD (replicate 6 0) t 0) start (λ 
     ap (λ (z : List ℕ). getD z t 0) (padded-none 6 start 0) ∙ past-padded 6 0 start 0 t (omega arith))
 
 -- a train for each of the six routes
-pub opened-fleet : (l : Line) → padded 6 6 (λ t. fresh (routeOf l t)) noTrain ≡ openedState l .fleet
+pub opened-fleet : (l : Line) → padded 6 6 (λ t. fresh (routeOf l t) (openedTrack l t)) noTrain ≡ openedState l .fleet
 unfolding valuesFrom padded
 opened-fleet l = refl
 

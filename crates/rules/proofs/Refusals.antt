@@ -27,17 +27,17 @@ use Rattle.rules.specs.Refusals.{Handed, RefusedAs, Prepared, Reads, nam
 free-unasked : (w : Status) → isFree w ≡ true → isAsked w ≡ false
 free-unasked Free e = refl
 free-unasked (Asked n) e = sym e
-free-unasked Running e = refl
+free-unasked (Running k) e = refl
 
 free-idle : (w : Status) → isFree w ≡ true → isRunning w ≡ false
 free-idle Free e = refl
 free-idle (Asked n) e = refl
-free-idle Running e = sym e
+free-idle (Running k) e = sym e
 
 running-unasked : (w : Status) → isRunning w ≡ true → isAsked w ≡ false
 running-unasked Free e = refl
 running-unasked (Asked n) e = sym e
-running-unasked Running e = refl
+running-unasked (Running k) e = refl
 
 pub is-message : (a : Message) → forBox a ≡ true → IsMessage a
 unfolding IsMessage

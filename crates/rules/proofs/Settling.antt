@@ -1,21 +1,24 @@
 -- What the granting leaves of the work that it begins with: lines, routes and posts are the same, and each answer is
 -- paid for by an Asked train. In a valid state with room in the journal for every Asked train it leaves a valid state.
 use mathlib.Core.Path.{_≡_, refl, sym, ap, subst, _∙_}
-use mathlib.Core.Logic.{⊎-elim}
+use mathlib.Core.Logic.{_≢_, ⊎-elim}
 use mathlib.Core.List.{List, [], _∷_, _++_, append-assoc, append-nil, map, map-append, List·Memᴰ}
 use mathlib.Core.List.{List·Memᴰ·append-cases, List·Memᴰ·eq-of-singleton, List·Memᴰ·not-nil}
 use Prim.Native.Nat.{ℕ, _+_, _≤_}
 use native.Mathlib.Omega.{arith}
 use lib.ListN.{length, length-append, length-set}
 use Rattle.frame.specs.RoundTrip.{IsMessage}
-use Rattle.journal.specs.Journal.{journalLength, recordOf}
-use Rattle.rules.specs.Types.{Message, Fe, Running, Train, State}
-use Rattle.rules.specs.State.{trainOf, lineOf, nextMove, withStatus}
+use Rattle.journal.specs.Journal.{journalLength, recordOf, recordOn, withoutTrack, Tracked}
+use Rattle.journal.proofs.Records.{recorded-untracked}
+use Rattle.rules.specs.Types.{Line, Message, Fe, Record, Train, State}
+use Rattle.rules.specs.State.{nextOf, trainOf, lineOf, freeTrack, nextMove}
 use Rattle.rules.specs.Granting.{Work, granted, settled}
 use Rattle.rules.proofs.Trains.{changed-each}
 use Rattle.rules.proofs.Validity.{Consistent}
-use Rattle.rules.proofs.Changes.{valid-grant}
-use Rattle.rules.proofs.Grants.{askedCount, Turn, grants-keep, granted-place, granted-fewer, granted-line}
+use Rattle.rules.proofs.FreeTrack.{free-chosen}
+use Rattle.rules.proofs.Changes.{grantable-facts, valid-grant}
+use Rattle.rules.proofs.Grants.{askedCount, granting, Turn, grants-keep, granted-place, granted-fewer}
+use Rattle.rules.proofs.Grants.{granted-line}
 
 pub record Settles (w v : Work) : Type 0 where
   pub line : lineOf (v .state) ≡ lineOf (w .state)
@@ -24,8 +27,11 @@ pub record Settles (w v : Work) : Type 0 where
   pub post : (t : ℕ) → trainOf (v .state) t .at ≡ trainOf (w .state) t .at
   -- what is sent is added at the end, and logged by its records; each of it is a message
   pub answers : List Message
+  pub records : List Record
   pub added : v .sent ≡ w .sent ++ answers
-  pub written : v .logged ≡ w .logged ++ map recordOf answers
+  pub written : v .logged ≡ w .logged ++ records
+  pub logs : map withoutTrack records ≡ map recordOf answers
+  pub tracked : (r : Record) → List·Memᴰ r records → Tracked (lineOf (w .state)) r
   pub messages : (a : Message) → List·Memᴰ a answers → IsMessage a
   -- each takes an Asked train
   pub spent : length (v .logged) + askedCount (v .state) ≡ length (w .logged) + askedCount (w .state)
@@ -38,8 +44,11 @@ settles-begin w = record {
   route = λ t. refl;
   post = λ t. refl;
   answers = [];
+  records = [];
   added = sym (append-nil (w .sent));
   written = sym (append-nil (w .logged));
+  logs = refl;
+  tracked = λ r h. absurd (List·Memᴰ·not-nil h);
   messages = λ a h. absurd (List·Memᴰ·not-nil h);
   spent = refl;
   counted = refl;
@@ -48,6 +57,15 @@ settles-begin w = record {
 authority : (s : State) (t : ℕ) → IsMessage (Fe (nextMove s t))
 unfolding IsMessage
 authority s t = tt
+
+-- the record of an FE has a track of the post that its train runs to
+granted-tracked : (s : State) (t : ℕ) → freeTrack s t (nextOf (trainOf s t)) ≢ 0
+    → Tracked (lineOf s) (recordOn (freeTrack s t (nextOf (trainOf s t))) (Fe (nextMove s t)))
+unfolding recordOf
+granted-tracked s t h = record {
+  given = λ e. (omega arith, free-chosen s t (nextOf (trainOf s t)) .few);
+  other = λ z. absurd (z refl);
+}
 
 settles-next : (table : List ℕ) (w v : Work) (t : ℕ) → Settles w v → Turn table v t → Settles w (granted v t)
 settles-next table w v t k f = record {
@@ -60,26 +78,43 @@ settles-next table w v t k f = record {
       changed-each (v .state) t x n (λ u (y : Train). y .at ≡ trainOf (w .state) u .at) (granted-place table v t f)
       (k .post t) u (λ h. k .post u);
   answers = k .answers ++ a ∷ [];
+  records = k .records ++ r ∷ [];
   added = ap (λ (l : List Message). l ++ a ∷ []) (k .added) ∙ append-assoc (w .sent) (k .answers) (a ∷ []);
-  written = rw (k .written, map-append recordOf (k .answers) (a ∷ []))
-      (append-assoc (w .logged) (map recordOf (k .answers)) (recordOf a ∷ []));
+  written = ap (λ (l : List Record). l ++ r ∷ []) (k .written) ∙ append-assoc (w .logged) (k .records) (r ∷ []);
+  logs =
+      map-append withoutTrack (k .records) (r ∷ [])
+      ∙ rw (k .logs, logs-one) (sym (map-append recordOf (k .answers) (a ∷ [])));
+  tracked = λ q h.
+      ⊎-elim (k .tracked q)
+      (λ m. subst (Tracked (lineOf (w .state))) (sym (List·Memᴰ·eq-of-singleton m))
+      (subst (λ (l : Line). Tracked l r) (k .line) given))
+      (List·Memᴰ·append-cases (k .records) h);
   messages = λ b h.
       ⊎-elim (k .messages b) (λ m. subst IsMessage (sym (List·Memᴰ·eq-of-singleton m)) (authority (v .state) t))
       (List·Memᴰ·append-cases (k .answers) h);
   spent =
-      let one = length-append (v .logged) (recordOf a ∷ []) in
+      let one = length-append (v .logged) (r ∷ []) in
       omega (arith, k .spent, granted-fewer table v t f);
   counted = omega (arith, k .counted, granted-fewer table v t f);
 }
   where
     x : Train
-    x = withStatus (trainOf (v .state) t) Running
+    x = granting (v .state) t
 
     n : ℕ
     n = v .state .logged + 1
 
     a : Message
     a = Fe (nextMove (v .state) t)
+
+    r : Record
+    r = recordOn (freeTrack (v .state) t (nextOf (trainOf (v .state) t))) a
+
+    given : Tracked (lineOf (v .state)) r
+    given = granted-tracked (v .state) t (grantable-facts table (v .state) t (f .can) .track)
+
+    logs-one : withoutTrack r ∷ [] ≡ recordOf a ∷ []
+    logs-one = ap (λ (q : Record). q ∷ []) (recorded-untracked a)
 
 pub settled-settles : (table : List ℕ) (w : Work) → Settles w (settled table w)
 settled-settles table w = grants-keep table (Settles w) (settles-next table w) (w .state .trains) w (settles-begin w)

@@ -12,30 +12,36 @@ use Rattle.common.specs.Below.{ofBool, countBelow}
 use Rattle.common.proofs.Tests.{clash, by-cases, by-equality}
 use Rattle.common.proofs.Below.{count-change}
 use Rattle.line.specs.Line.{routeOf}
-use Rattle.rules.specs.Types.{Status, Free, Asked, Running, Train, State}
-use Rattle.rules.specs.State.{isFree, isAsked, isRunning, noTrain, trainOf, lineOf, stateWith}
+use Rattle.rules.specs.Types.{TrackNo, Status, Free, Asked, Running, Train, State}
+use Rattle.rules.specs.State.{isFree, isAsked, isRunning, trackAhead, noTrain, trainOf, lineOf, stateWith}
 
 -- ---- a status
 
 pub asked-idle : (w : Status) → isAsked w ≡ true → isRunning w ≡ false
 asked-idle Free e = refl
 asked-idle (Asked n) e = refl
-asked-idle Running e = sym e
+asked-idle (Running k) e = sym e
 
 pub asked-busy : (w : Status) → isAsked w ≡ true → isFree w ≡ false
 asked-busy Free e = sym e
 asked-busy (Asked n) e = refl
-asked-busy Running e = refl
+asked-busy (Running k) e = refl
 
 pub running-busy : (w : Status) → isRunning w ≡ true → isFree w ≡ false
 running-busy Free e = sym e
 running-busy (Asked n) e = refl
-running-busy Running e = refl
+running-busy (Running k) e = refl
 
-pub running-is : (w : Status) → isRunning w ≡ true → w ≡ Running
+pub running-is : (w : Status) → isRunning w ≡ true → (k : TrackNo) × (w ≡ Running k)
 running-is Free e = absurd (false≢true e)
 running-is (Asked n) e = absurd (false≢true e)
-running-is Running e = refl
+running-is (Running k) e = (k, refl)
+
+-- an idle train has no track ahead
+pub idle-ahead : (w : Status) → isRunning w ≡ false → trackAhead w ≡ 0
+idle-ahead Free e = refl
+idle-ahead (Asked n) e = refl
+idle-ahead (Running k) e = absurd (false≢true (sym e))
 
 -- ---- the state
 

@@ -7,21 +7,22 @@ use Prim.Native.Nat.{ℕ, _≤_, _<_}
 use native.Mathlib.Omega.{arith}
 use lib.Dec.{leb, eqb, ltb}
 use lib.ListN.{getD}
-use borrow.Author.Tests.{ltb-true, ltb-false, leb-true, eqb-true, eqb-false, lt-ltb, le-leb, ne-eqb, not-true}
+use borrow.Author.Tests.{ltb-true, ltb-false, leb-true, eqb-true, eqb-false, lt-ltb, le-leb, eq-eqb, ne-eqb, not-true}
 use Rattle.common.specs.Below.{allBelow}
-use Rattle.common.proofs.Tests.{by-cases, by-equality, and-left, and-right, and-both, or-left, or-right}
+use Rattle.common.proofs.Tests.{clash, by-cases, by-equality, by-order, not-passed, and-left, and-right, and-both}
+use Rattle.common.proofs.Tests.{or-left, or-right, not-of-false}
 use Rattle.common.proofs.Below.{all-below, below-all, one-counted}
 use Rattle.line.specs.Route.{between, sectionOf}
-use Rattle.line.specs.Line.{tracksAt}
-use Rattle.line.specs.Holding.{holdsSection, postHolders, sectionHolders}
+use Rattle.line.specs.Line.{inRange, tracksAt}
+use Rattle.line.specs.Holding.{isStabled, holdsPost, holdsSection, postHolders, sectionHolders}
 use Rattle.line.proofs.Holding.{standing-section}
 use Rattle.line.proofs.Travel.{Between, between-of, of-between, next-below}
-use Rattle.line.proofs.WellFormed.{WellFormed, well-formed, is-well-formed}
+use Rattle.line.proofs.WellFormed.{WellFormed, ranged, well-formed, is-well-formed}
 use Rattle.rules.specs.Types.{Status, Free, Asked, Running, Train, State}
-use Rattle.rules.specs.State.{isFree, isAsked, isRunning, askedAs, atEnd, nextOf, locatedAt, trainOf, lineOf}
-use Rattle.rules.specs.State.{located}
-use Rattle.rules.specs.Valid.{trainValid, sectionsValid, postsValid, numberBelow, sameNumber, numberValid}
-use Rattle.rules.specs.Valid.{consistent, mostCounted, valid}
+use Rattle.rules.specs.State.{isFree, isAsked, isRunning, askedAs, atEnd, nextOf, locatedAt, trackAt, trainOf}
+use Rattle.rules.specs.State.{lineOf, located}
+use Rattle.rules.specs.Valid.{trainValid, sectionsValid, postsValid, trackValid, tracksValid, awayValid}
+use Rattle.rules.specs.Valid.{numberBelow, sameNumber, numberValid, consistent, mostCounted, valid}
 use Rattle.rules.proofs.Trains.{asked-busy, route-of}
 
 -- a train's record x, where n records are logged
@@ -36,11 +37,24 @@ Distinct s = (t u : ℕ) → t < s .trains → u < s .trains
     → isAsked (trainOf s t .status) ≡ true → isAsked (trainOf s u .status) ≡ true
     → askedAs (trainOf s t .status) ≡ askedAs (trainOf s u .status) → t ≡ u
 
+-- "the tracks held at a post differ"
+abbrev pub Differ : State → Type 0
+Differ s = (p t u : ℕ) → p < s .posts → t < s .trains → u < s .trains
+    → holdsPost (located s t) p ≡ true → holdsPost (located s u) p ≡ true
+    → trackAt (trainOf s t) p ≡ trackAt (trainOf s u) p → t ≡ u
+
 pub record Consistent (s : State) : Type 0 where
   pub line : WellFormed (lineOf s)
   pub each : (t : ℕ) → t < s .trains → TrainValid (trainOf s t) (s .logged)
   pub sections : (i : ℕ) → i < s .posts → sectionHolders (s .trains) (located s) i ≤ 1
   pub posts : (p : ℕ) → p < s .posts → postHolders (s .trains) (located s) p ≤ tracksAt (lineOf s) p
+  -- .. "and are in its count"
+  pub tracks : (p t : ℕ) → p < s .posts → t < s .trains → holdsPost (located s t) p ≡ true
+      → (1 ≤ trackAt (trainOf s t) p) × (trackAt (trainOf s t) p ≤ tracksAt (lineOf s) p)
+  pub differ : Differ s
+  -- "one put away in a siding has none"
+  pub away : (t : ℕ) → t < s .trains
+      → isStabled (s .sidings) (trainOf s t .route .end .0) (trainOf s t .at .0) ≡ true → trainOf s t .track .0 ≡ 0
   pub distinct : Distinct s
 
 -- ---- the tests of one train
@@ -61,7 +75,7 @@ tested-train x n e b =
     number : (w : Status) → numberBelow w n ≡ true → isAsked w ≡ true → askedAs w < n
     number Free b q = absurd (false≢true q)
     number (Asked m) b q = ltb-true m n b
-    number Running b q = absurd (false≢true q)
+    number (Running k) b q = absurd (false≢true q)
 
 train-tested : (x : Train) (n : ℕ) → TrainValid x n → (trainValid x ≡ true) × (numberBelow (x .status) n ≡ true)
 train-tested x n d = (
@@ -75,23 +89,23 @@ train-tested x n d = (
     number : (w : Status) → (isAsked w ≡ true → askedAs w < n) → numberBelow w n ≡ true
     number Free h = refl
     number (Asked m) h = lt-ltb m n (h refl)
-    number Running h = refl
+    number (Running k) h = refl
 
 -- ---- the tests of two trains' numbers
 
-differ : (v w : Status) → not (sameNumber v w) ≡ true → isAsked v ≡ true → isAsked w ≡ true → askedAs v ≢ askedAs w
-differ Free w e p q = absurd (false≢true p)
-differ (Asked m) Free e p q = absurd (false≢true q)
-differ (Asked m) (Asked n) e p q = eqb-false m n (not-true (eqb m n) e)
-differ (Asked m) Running e p q = absurd (false≢true q)
-differ Running w e p q = absurd (false≢true p)
+numbers-differ : (v w : Status) → not (sameNumber v w) ≡ true → isAsked v ≡ true → isAsked w ≡ true → askedAs v ≢ askedAs w
+numbers-differ Free w e p q = absurd (false≢true p)
+numbers-differ (Asked m) Free e p q = absurd (false≢true q)
+numbers-differ (Asked m) (Asked n) e p q = eqb-false m n (not-true (eqb m n) e)
+numbers-differ (Asked m) (Running k) e p q = absurd (false≢true q)
+numbers-differ (Running k) w e p q = absurd (false≢true p)
 
 different : (v w : Status) → (isAsked v ≡ true → isAsked w ≡ true → askedAs v ≢ askedAs w) → not (sameNumber v w) ≡ true
 different Free w h = refl
 different (Asked m) Free h = refl
 different (Asked m) (Asked n) h = rw (ne-eqb m n (h refl refl))
-different (Asked m) Running h = refl
-different Running w h = refl
+different (Asked m) (Running k) h = refl
+different (Running k) w h = refl
 
 -- the test looks at lower trains only; the numbers of two trains differ either way
 distinct-numbers : (s : State) → ((t : ℕ) → t < s .trains → numberValid s t ≡ true) → Distinct s
@@ -102,8 +116,46 @@ distinct-numbers s h t u kt ku p q e = by-equality t u (λ z. z) (λ z. absurd (
     lower : (a b : ℕ) → a < s .trains → b < a → isAsked (trainOf s a .status) ≡ true
         → isAsked (trainOf s b .status) ≡ true
         → askedAs (trainOf s a .status) ≢ askedAs (trainOf s b .status)
-    lower a b ka k = differ (trainOf s a .status) (trainOf s b .status)
+    lower a b ka k = numbers-differ (trainOf s a .status) (trainOf s b .status)
         (all-below a _ (and-right (numberBelow (trainOf s a .status) (s .logged)) _ (h a ka)) b k)
+
+-- ---- the tests of tracks
+
+-- where the one is so, the other is
+given : (a : Bool) {b : Bool} → not a || b ≡ true → a ≡ true → b ≡ true
+given true e q = e
+given false e q = absurd (false≢true q)
+
+module _ (s : State) where
+  tested-track : (p t : ℕ) → trackValid s p t ≡ true → holdsPost (located s t) p ≡ true
+      → (1 ≤ trackAt (trainOf s t) p) × (trackAt (trainOf s t) p ≤ tracksAt (lineOf s) p)
+  tested-track p t e h =
+      let k = trackAt (trainOf s t) p in
+      let r = and-left (inRange 1 (tracksAt (lineOf s) p) k) _ (given (holdsPost (located s t) p) e h) in
+      (leb-true 1 k (and-left (leb 1 k) _ r), leb-true k _ (and-right (leb 1 k) _ r))
+
+  -- the test looks at lower trains only; the tracks of two trains differ either way
+  tracks-differ : ((p t : ℕ) → p < s .posts → t < s .trains → trackValid s p t ≡ true) → Differ s
+  tracks-differ h p t u kp kt ku a b e = by-equality t u (λ z. z) (λ z. by-order t u
+      (λ l. lower u t ku l b a (sym e))
+      (λ l. lower t u kt (omega arith) a b e))
+    where
+      lower : {A : Type 0} (v w : ℕ) → v < s .trains → w < v → holdsPost (located s v) p ≡ true
+          → holdsPost (located s w) p ≡ true → trackAt (trainOf s v) p ≡ trackAt (trainOf s w) p → A
+      lower v w kv l a b e =
+          let r = and-right (inRange 1 (tracksAt (lineOf s) p) (trackAt (trainOf s v) p)) _
+          (given (holdsPost (located s v) p) (h p v kp kv) a) in
+          clash _ (and-both _ _ b (eq-eqb _ _ (sym e))) (not-true _ (all-below v _ r w l))
+
+  track-tested : Consistent s → (p t : ℕ) → p < s .posts → t < s .trains → trackValid s p t ≡ true
+  track-tested d p t kp kt = by-cases (holdsPost (located s t) p)
+      (λ e. rw e (
+      let r = d .tracks p t kp kt e in
+      and-both (inRange 1 (tracksAt (lineOf s) p) (trackAt (trainOf s t) p)) _ (ranged 1 _ _ (r .0) (r .1))
+      (below-all t _ (λ u l. not-of-false _ (not-passed _ (λ q.
+      let y = d .differ p t u kp kt (omega arith) e (and-left (holdsPost (located s u) p) _ q)
+      (sym (eqb-true _ _ (and-right (holdsPost (located s u) p) _ q))) in omega arith))))))
+      (λ e. rw e)
 
 -- ---- the state
 
@@ -114,6 +166,11 @@ module _ (s : State) where
       let trains : allBelow (s .trains) (λ t. trainValid (trainOf s t)) ≡ true = search (and-left, and-right) in
       let sections : sectionsValid s ≡ true = search (and-left, and-right) in
       let posts : postsValid s ≡ true = search (and-left, and-right) in
+      let held : tracksValid s ≡ true = search (and-left, and-right) in
+      let tracks : (p t : ℕ) → p < s .posts → t < s .trains → trackValid s p t ≡ true =
+      λ p t kp kt. all-below (s .trains) _ (all-below (s .posts) _ held p kp) t kt in
+      let away : allBelow (s .trains) (λ t. awayValid (s .sidings) (trainOf s t)) ≡ true =
+      search (and-left, and-right) in
       let numbers = all-below (s .trains) (numberValid s) (search (and-left, and-right)) in
       record {
         line = well-formed (lineOf s) (search (and-left, and-right));
@@ -122,6 +179,9 @@ module _ (s : State) where
             (and-left (numberBelow (trainOf s t .status) (s .logged)) _ (numbers t k));
         sections = λ i k. leb-true _ _ (all-below (s .posts) _ sections i k);
         posts = λ p k. leb-true _ _ (all-below (s .posts) _ posts p k);
+        tracks = λ p t kp kt. tested-track s p t (tracks p t kp kt);
+        differ = tracks-differ s tracks;
+        away = λ t k h. eqb-true _ _ (given _ (all-below (s .trains) _ away t k) h);
         distinct = distinct-numbers s numbers;
       }
 
@@ -142,6 +202,12 @@ module _ (s : State) where
             (λ i k. le-leb _ _ (d .sections i k)),
         below-all (s .posts) (λ p. leb (postHolders (s .trains) (located s) p) (getD (s .tracks) p 0))
             (λ p k. le-leb _ _ (d .posts p k)),
+        below-all (s .posts) (λ p. allBelow (s .trains) (trackValid s p))
+            (λ p kp. below-all (s .trains) (trackValid s p) (λ t kt. track-tested s d p t kp kt)),
+        below-all (s .trains) (λ t. awayValid (s .sidings) (trainOf s t)) (λ t k.
+            by-cases (isStabled (s .sidings) (trainOf s t .route .end .0) (trainOf s t .at .0))
+            (λ e. rw (e, eq-eqb _ _ (d .away t k e)))
+            (λ e. rw e)),
         below-all (s .trains) (numberValid s) numbers,
       )
 
