@@ -2,7 +2,6 @@
 -- unless it is put on one.
 use mathlib.Core.Path.{_≡_, refl, sym, ap}
 use mathlib.Core.Logic.{_≢_}
-use Prim.Native.Nat.{ℕ}
 use Rattle.frame.specs.Frame.{FE, bytesOf}
 use Rattle.frame.specs.RoundTrip.{IsMessage}
 use Rattle.journal.specs.Types.{Line, Message, Fa, Fe, Afe, Am, Refused, Record}

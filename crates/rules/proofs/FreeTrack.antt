@@ -1,7 +1,7 @@
 -- "The test for a free track": it finds one exactly where "its next post is held by fewer trains than tracks".
 use mathlib.Core.Path.{_≡_}
 use mathlib.Core.Logic.{_≢_}
-use mathlib.Core.Bool.{Bool, false}
+use mathlib.Core.Bool.{false}
 use Prim.Native.Nat.{ℕ, suc, _-_, _<_}
 use native.Mathlib.Omega.{arith}
 use Rattle.common.specs.Below.{countBelow}

@@ -11,4 +11,5 @@ pub mod Acceptance
 pub mod Frames
 pub mod Refusals
 pub mod Taking
+pub mod Starting
 pub mod OpeningCases

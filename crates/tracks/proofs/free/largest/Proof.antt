@@ -1,7 +1,7 @@
 -- `largest` meets its contract. The loop's invariant: the tracks passed are held.
-use Prim.Native.Nat.{_+_, _-_, _≤_}
+use Prim.Native.Nat.{_+_, _≤_}
 use native.Mathlib.Omega.{arith}
-use mathlib.Core.Path.{_≡_, sym, _∙_}
+use mathlib.Core.Path.{sym, _∙_}
 use borrow.Author.Tests.{not-true, not-false}
 use Rattle.common.specs.Bits.{bitAt}
 use Rattle.tracks.proofs.Choice.{HeldFrom, none-passed, passed-down, found-largest, no-largest}
