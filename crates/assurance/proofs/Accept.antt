@@ -14,15 +14,15 @@ use Rattle.common.proofs.Part.{replaced-more}
 use Rattle.common.proofs.Tests.{by-cases}
 use Rattle.common.proofs.Below.{count-le, count-some}
 use Rattle.frame.specs.RoundTrip.{IsMessage}
-use Rattle.journal.specs.Journal.{journalLength, blank, recordOf, frameOf}
+use Rattle.journal.specs.Journal.{journalLength, blank, frameOf}
 use Rattle.journal.proofs.Records.{logged-as-sent}
-use Rattle.rules.specs.declared.state.Status.the-variants.{Asked, Running}
+use Rattle.rules.specs.declared.state.Status.the-variants.{Asked}
 use Rattle.rules.specs.State.{isAsked, askedAs, trainOf, nextMove, withStatus, withTrain}
 use Rattle.rules.specs.State.{oneLogged}
 use Rattle.rules.specs.Granting.{grantable, Work, begun, sends, granted, settled}
 use Rattle.rules.specs.Answer.{mostLogged, taken, declined, accepted}
 use Rattle.rules.proofs.Changes.{grantable-facts}
-use Rattle.rules.proofs.Grants.{askedCount, Turn, grants-keep, granted-fewer}
+use Rattle.rules.proofs.Grants.{askedCount, granting, grantRecord, Turn, grants-keep, granted-fewer}
 use Rattle.rules.proofs.Settling.{settled-settles}
 use Rattle.rules.proofs.Acceptance.{Taken, request, arrival}
 use Rattle.assurance.specs.Types.{Line, Move, Message, Fa, Fe, Afe, Am, Record, State}
@@ -45,7 +45,7 @@ pub record Worked (table : List ℕ) (n : ℕ) (j : List Record) (o : Observer) 
 -- the FE of a grant has its request
 grant-requested : (table : List ℕ) (s : State) (j : List Record) (o : Observer) → Invariant table s j o
     → (t : ℕ) → t < s .trains → s .logged < journalLength → grantable table s t ≡ true
-    → Requested (s .logged + 1) (set j (s .logged) (recordOf (Fe (nextMove s t)))) (nextMove s t)
+    → Requested (s .logged + 1) (set j (s .logged) (grantRecord s t)) (nextMove s t)
 unfolding IsMessage
 grant-requested table s j o inv t known space e =
     let m = nextMove s t in
@@ -55,11 +55,11 @@ grant-requested table s j o inv t known space e =
     record {
       granted = s .logged;
       below = omega arith;
-      authority = ap frameOf (getD-set-same j (s .logged) (recordOf (Fe m)) blank (omega (arith, inv .room)))
+      authority = ap frameOf (getD-set-same j (s .logged) (grantRecord s t) blank (omega (arith, inv .room)))
           ∙ sym (logged-as-sent (Fe m) tt);
       requested = number;
       lower = lower;
-      request = ap frameOf (getD-set-other j (s .logged) number (recordOf (Fe m)) blank (λ z. omega arith)
+      request = ap frameOf (getD-set-other j (s .logged) number (grantRecord s t) blank (λ z. omega arith)
           ∙ inv .each t known .request asks)
           ∙ sym (logged-as-sent (Fa m) tt);
     }
@@ -95,7 +95,7 @@ module _ (table : List ℕ) (n : ℕ) (j : List Record) (o : Observer) (long : j
       let s = w .state in
       let less = granted-fewer table w t f in
       let space : s .logged < journalLength = omega arith in (
-        worked-more w k (withTrain s t (withStatus (trainOf s t) Running)) _ (Fe (nextMove s t)) refl space
+        worked-more w k (withTrain s t (granting s t)) _ (Fe (nextMove s t)) refl space
             (grant-kept table s _ _ (k .kept) t (f .known) space (f .can))
             (λ m e.
             let same : m ≡ nextMove s t = cc in

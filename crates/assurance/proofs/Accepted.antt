@@ -22,7 +22,7 @@ use Rattle.rules.specs.Answer.{taken, declined, accepted, answer}
 use Rattle.rules.proofs.Trains.{asked-idle, running-is, route-of}
 use Rattle.rules.proofs.Validity.{Consistent}
 use Rattle.rules.proofs.Changes.{grantable-facts, short-place}
-use Rattle.rules.proofs.Grants.{Turn, grants-keep, granted-place}
+use Rattle.rules.proofs.Grants.{granting, Turn, grants-keep, granted-place}
 use Rattle.rules.proofs.Acceptance.{Taken, request, arrival, by-verdict}
 use Rattle.assurance.specs.Types.{Move, Message, Fa, Am, Record, State}
 use Rattle.assurance.specs.Run.{Input, run}
@@ -46,11 +46,11 @@ module _ (table : List ℕ) where
   granted-frames n w t b f =
       let s = w .state in
       let asks = grantable-facts table s t (f .can) .asks in
-      let one : framesOf (trainOf s t) ≡ framesOf (withStatus (trainOf s t) Running) =
+      let one : framesOf (trainOf s t) ≡ framesOf (granting s t) =
       rw (asks, asked-idle (trainOf s t .status) asks) (omega arith) in
       omega (
         arith,
-        changed-sum framesOf s t (withStatus (trainOf s t) Running) (s .logged + 1) (f .known)
+        changed-sum framesOf s t (granting s t) (s .logged + 1) (f .known)
             (granted-place table w t f),
       )
 
@@ -73,10 +73,10 @@ module _ (table : List ℕ) where
       (settled-frames (framesIn s + 1) (taken s (Fa m) x) (omega arith))
   accepted-frames s d a (arrival m q runs) =
       let t = m .train .0 in
-      let x = arrivedNext (trainOf s t) in
+      let x = arrivedNext (s .sidings) (trainOf s t) in
       let far = next-travelled _ _ _ (d .each t (q .known) .inside) (q .short) in
       let one : framesOf (trainOf s t) + 1 ≡ framesOf x =
-      rw (running-is (trainOf s t .status) runs) (omega (arith, far)) in
+      rw (running-is (trainOf s t .status) runs .1) (omega (arith, far)) in
       let c = changed-sum framesOf s t x (s .logged + 1) (q .known) (short-place s t (q .short)) in
       settled-frames (framesIn s + 1) (taken s (Am m) x) (omega arith)
 
@@ -117,7 +117,7 @@ frames-within s d = sum-mono (s .trains) (λ t. framesOf (trainOf s t)) (λ t. 2
         ≤ 2 * distance (x .route .start .0) (x .route .end .0)
     at t kt Free e = omega (arith, travelled-within _ _ _ (d .each t kt .inside))
     at t kt (Asked n) e = omega (arith, next-within _ _ _ (d .each t kt .inside) (d .each t kt .busy (rw e)))
-    at t kt Running e = omega (arith, next-within _ _ _ (d .each t kt .inside) (d .each t kt .busy (rw e)))
+    at t kt (Running k) e = omega (arith, next-within _ _ _ (d .each t kt .inside) (d .each t kt .busy (rw e)))
 
 pub few-frames : (s : State) → Consistent s → mostFrames (lineOf s) ≤ 84
 few-frames s d =

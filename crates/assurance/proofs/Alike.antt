@@ -1,6 +1,6 @@
 -- Alike states: the same tests pass, the same trains are granted, and a train's new record leaves them alike.
 use mathlib.Core.Path.{_≡_, refl, sym, ap, subst, _∙_}
-use mathlib.Core.Bool.{true, cond}
+use mathlib.Core.Bool.{true, cond, _&&_}
 use mathlib.Core.Option.{Option, none, some}
 use mathlib.Core.List.{List, [], _∷_, _++_}
 use Prim.Native.Nat.{ℕ, zero, suc, _+_, _≤_, _<_}
@@ -11,20 +11,22 @@ use borrow.Author.Tests.{ltb-true}
 use Rattle.common.specs.Update.{update}
 use Rattle.common.specs.Check.{Check, check, refusal}
 use Rattle.common.proofs.Tests.{by-cases, by-equality, same-test}
-use Rattle.common.proofs.Below.{count-cong}
+use Rattle.common.proofs.Below.{count-cong, any-cong}
 use Rattle.common.proofs.Check.{check-passes, check-fails}
 use Rattle.line.specs.Route.{sectionOf}
 use Rattle.line.specs.Refusal.{unknownTrain}
-use Rattle.line.specs.Line.{routeOf}
+use Rattle.line.specs.Line.{routeOf, tracksAt}
 use Rattle.line.specs.Holding.{holdsPost, holdsSection, postHolders, sectionHolders}
 use Rattle.completion.specs.Configuration.{moved, codeBelow}
 use Rattle.completion.specs.Table.{bitOf}
 use Rattle.completion.proofs.Codes.{code-cong}
-use Rattle.frame.specs.Frame.{readFrame}
+use Rattle.frame.specs.Frame.{moveOf, readFrame}
+use Rattle.tracks.proofs.Choice.{track-cong}
+use Rattle.journal.specs.Journal.{recordOn}
 use Rattle.rules.specs.declared.state.Train.{Train}
 use Rattle.rules.specs.declared.state.Status.the-variants.{Running}
-use Rattle.rules.specs.State.{isAsked, nextOf, locatedAt, reachedBy, trainOf, lineOf, located, reached}
-use Rattle.rules.specs.State.{withStatus, oneLogged}
+use Rattle.rules.specs.State.{isAsked, nextOf, locatedAt, trackAt, reachedBy, trainOf, lineOf, located, trackHeld}
+use Rattle.rules.specs.State.{freeTrack, reached, nextMove, withStatus, oneLogged}
 use Rattle.rules.specs.Valid.{valid}
 use Rattle.rules.specs.Granting.{grantable, older, oldest, Work, granted, proceed, grants}
 use Rattle.rules.specs.Answer.{outerChecks, knows, contentChecks, frameChecks}
@@ -33,7 +35,7 @@ use Rattle.rules.proofs.Validity.{TrainValid, Consistent, valid-facts, few-logg
 use Rattle.rules.proofs.Validity.{next-post-below}
 use Rattle.rules.proofs.Changes.{grantable-facts, is-grantable}
 use Rattle.rules.proofs.Oldest.{oldest-some}
-use Rattle.rules.proofs.Grants.{Turn, granted-place}
+use Rattle.rules.proofs.Grants.{granting, grantRecord, Turn, granted-place}
 use Rattle.rules.proofs.Settling.{granted-valid}
 use Rattle.assurance.specs.Types.{Message, Fa, Fe, Afe, Am, Refused, State}
 use Rattle.assurance.specs.Unread.{Alike}
@@ -77,6 +79,15 @@ module _ (s u : State) (a : Alike s u) where
       rw (a .trains, a .sidings)
       (count-cong (s .trains) _ _ (of-train (λ x. holdsPost (locatedAt (s .sidings) x) p)))
 
+  free-same : (t p : ℕ) → t < s .trains → p < s .posts → freeTrack u t p ≡ freeTrack s t p
+  free-same t p kt kp =
+      let held : (k : ℕ) → trackHeld u p k ≡ trackHeld s p k = λ k.
+      rw (a .trains, a .sidings)
+      (any-cong (s .trains) _ _
+      (of-train (λ x. holdsPost (locatedAt (s .sidings) x) p && eqb (trackAt x p) k))) in
+      rw (a .train t kt, a .tracks p kp)
+      (track-cong (trainOf s t .route) (trackHeld u p) (trackHeld s p) (tracksAt (lineOf s) p) (λ k l. held (suc k)))
+
   route-same : (t : ℕ) → t < s .trains → routeOf (lineOf u) t ≡ routeOf (lineOf s) t
   route-same t k = route-of u t ∙ of-train (λ x. x .route) t k ∙ sym (route-of s t)
 
@@ -100,6 +111,11 @@ module _ (s u : State) (a : Alike s u) where
             (subst (TrainValid (trainOf s t)) (sym (a .logged)) (d .each t (trains t k)));
         sections = λ i k. rw (section-same i) (d .sections i (posts i k));
         posts = λ p k. rw (post-same p, a .tracks p (posts p k)) (d .posts p (posts p k));
+        tracks = λ p t k kt. rw (a .sidings, a .train t (trains t kt), a .tracks p (posts p k))
+            (d .tracks p t (posts p k) (trains t kt));
+        differ = λ p t v k kt kv. rw (a .sidings, a .train t (trains t kt), a .train v (trains v kv))
+            (d .differ p t v (posts p k) (trains t kt) (trains v kv));
+        away = λ t k. rw (a .sidings, a .train t (trains t k)) (d .away t (trains t k));
         distinct = λ t v kt kv. rw (a .train t (trains t kt), a .train v (trains v kv))
             (d .distinct t v (trains t kt) (trains v kv));
       }
@@ -124,7 +140,8 @@ module _ (s u : State) (a : Alike s u) where
             section-same _
             ∙ of-train (λ x. sectionHolders (s .trains) (located s) (sectionOf (x .at .0) (nextOf x))) t k
             ∙ g .section;
-        post = rw (a .train t k) (omega (arith, post-same next, a .tracks next below, g .post));
+        track = λ z. g .track (sym (free-same t next k below)
+            ∙ ap (λ (x : Train). freeTrack u t (nextOf x)) (sym (a .train t k)) ∙ z);
         bit = ap (bitOf table) (code-same t k) ∙ g .bit;
       })
 
@@ -174,6 +191,21 @@ module _ (s u : State) (a : Alike s u) where
     oldest-same : oldest table u (u .trains) ≡ oldest table s (s .trains)
     oldest-same = ap (oldest table u) (a .trains) ∙ oldest-below (s .trains) (omega arith)
 
+  -- a train that is granted gets the same track
+  module _ (d : Consistent s) (t : ℕ) (k : t < s .trains) (asks : isAsked (trainOf s t .status) ≡ true) where
+    track-same : freeTrack u t (nextOf (trainOf s t)) ≡ freeTrack s t (nextOf (trainOf s t))
+    track-same = free-same s u a t (nextOf (trainOf s t)) k (next-post-below s d t k (asked-short s d t k asks))
+
+    granting-same : granting u t ≡ granting s t
+    granting-same =
+        ap (λ (x : Train). withStatus x (Running (record { 0 = freeTrack u t (nextOf x) }))) (a .train t k)
+        ∙ ap (λ (n : ℕ). withStatus (trainOf s t) (Running (record { 0 = n }))) track-same
+
+    record-same : grantRecord u t ≡ grantRecord s t
+    record-same =
+        ap (λ (x : Train). recordOn (freeTrack u t (nextOf x)) (Fe (moveOf t (x .at .0) (nextOf x)))) (a .train t k)
+        ∙ ap (λ (n : ℕ). recordOn n (Fe (nextMove s t))) track-same
+
   -- ---- a change of one train's record
 
   pub changed-alike : (t : ℕ) (x y : Train) (m n : ℕ) → t < length (s .fleet) → t < length (u .fleet) → y ≡ x → n ≡ m
@@ -209,16 +241,18 @@ pub record SameWork (w v : Work) : Type 0 where
   pub sent : v .sent ≡ w .sent
 
 module _ (table : List ℕ) where
-  granted-same : (w v : Work) (t : ℕ) → SameWork w v → Turn table w t → SameWork (granted w t) (granted v t)
-  granted-same w v t k f =
+  granted-same : (w v : Work) (t : ℕ) → Consistent (w .state) → SameWork w v → Turn table w t
+      → SameWork (granted w t) (granted v t)
+  granted-same w v t d k f =
       let e = k .state .train t (f .known) in
-      let asks : isAsked (trainOf (v .state) t .status) ≡ true =
-      rw e (grantable-facts table (w .state) t (f .can) .asks) in
+      let own = grantable-facts table (w .state) t (f .can) .asks in
+      let asks : isAsked (trainOf (v .state) t .status) ≡ true = rw e own in
       record {
         state = changed-alike (w .state) (v .state) (k .state) t _ _ _ _ (granted-place table w t f)
             (in-fleet (v .state) t (λ x. isAsked (x .status)) refl asks)
-            (ap (λ (x : Train). withStatus x Running) e) (ap (λ (n : ℕ). n + 1) (k .state .logged));
-        logged = rw (k .logged, e);
+            (granting-same (w .state) (v .state) (k .state) d t (f .known) own)
+            (ap (λ (n : ℕ). n + 1) (k .state .logged));
+        logged = rw (k .logged, record-same (w .state) (v .state) (k .state) d t (f .known) own);
         sent = rw (k .sent, e);
       }
 
@@ -237,4 +271,4 @@ module _ (table : List ℕ) where
       at none e rest = k
       at (some t) e rest =
           let f = oldest-some table (w .state) (w .state .trains) t e in
-          rest t (granted-valid table w t d f) (granted-same w v t k f)
+          rest t (granted-valid table w t d f) (granted-same w v t d k f)

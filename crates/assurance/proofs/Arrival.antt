@@ -26,7 +26,7 @@ use Rattle.rules.proofs.Taking.{taken-accepted}
 use Rattle.assurance.specs.Types.{Line, Message, Fa, Record, State, Sent, RefusedBy}
 use Rattle.assurance.specs.Run.{Input, Ran, run, answerAfter}
 use Rattle.assurance.specs.Observer.{Observer, atOpening, observe}
-use Rattle.assurance.specs.WholeList.{Unhindered, Assured}
+use Rattle.assurance.specs.WholeList.{Unhindered}
 use Rattle.assurance.specs.Homecoming.{AllAtEnds}
 use Rattle.assurance.specs.Arrival.{dueBy, due, acceptedFrames, framesTold, Arrives, Arrival}
 use Rattle.assurance.proofs.Invariant.{claimOf, Invariant}
@@ -34,7 +34,7 @@ use Rattle.assurance.proofs.Exchanged.{Settled, valid-settled}
 use Rattle.assurance.proofs.Accepted.{framesIn, run-frames, frames-told, frames-within, few-frames}
 use Rattle.assurance.proofs.Opened.{opening-accepted, opened-line, opened-settled}
 use Rattle.assurance.proofs.Ran.{run-kept}
-use Rattle.assurance.proofs.Told.{seen, at-post, asked-told, next-told, assured}
+use Rattle.assurance.proofs.Told.{not-waiting, seen, at-post, asked-told, next-told}
 use Rattle.assurance.proofs.Homecoming.{next-move, taken-message, long-table}
 
 -- ---- the frame that a train has before it
@@ -59,7 +59,7 @@ module _ (table : List ℕ) (s : State) (j : List Record) (o : Observer) (inv : 
       at : (w : Status) → trainOf s (u .train) .status ≡ w → isAsked w ≡ false → Taken s (dueOf s w (u .train))
       at Free e free = request (nextMove s (u .train)) move (rw e) (rw e)
       at (Asked n) e free = absurd (false≢true (sym free))
-      at Running e free = arrival (nextMove s (u .train)) move (rw e)
+      at (Running k) e free = arrival (nextMove s (u .train)) move (rw e)
 
   -- a frame that passes the checks is that of such a train
   taken-due : (a : Message) → Taken s a → (u : Unhindered (lineOf s) o) × (a ≡ due (lineOf s) o (u .train))
@@ -78,11 +78,11 @@ module _ (table : List ℕ) (s : State) (j : List Record) (o : Observer) (inv : 
       at : (w : Status) → isAsked w ≡ false → isRunning w ≡ false → Fa m ≡ dueBy (claimOf w (m .from .0) (m .to .0)) m
       at Free a b = refl
       at (Asked n) a b = refl
-      at Running a b = absurd (false≢true (sym b))
+      at (Running k) a b = absurd (false≢true (sym b))
   taken-due a (arrival m q runs) =
       let t = m .train .0 in
       let kt = q .known in
-      let is : trainOf s t .status ≡ Running = running-is (trainOf s t .status) runs in (
+      let is = running-is (trainOf s t .status) runs .1 in (
         record {
           train = t;
           known = kt;
@@ -123,12 +123,11 @@ module _ (table : List ℕ) (long : tableLength ≤ length table) (r : Ran) (o :
       let written = round-trip .only frame (taken-message s (readFrame frame) (p .message)) in
       (d .0, sym written ∙ ap bytesOf (d .1)))
 
-  all-ended : Assured (lineOf s) r o
-      → ((frame out : List ℕ) → outLength ≤ length out
+  all-ended : ((frame out : List ℕ) → outLength ≤ length out
       → (n : ℕ) × (answerAfter table r frame out .verdict ≡ RefusedBy n))
       → AllAtEnds (lineOf s) o
-  all-ended sure none t kt = by-equality (o t .post) (routeOf (lineOf s) t .end .0) (λ e. e) (λ short.
-      let u = sure .onward t kt short in
+  all-ended none t kt = by-equality (o t .post) (routeOf (lineOf s) t .end .0) (λ e. e) (λ short.
+      let u = not-waiting table r o k t kt short in
       let a = due-accepted u (replicate outLength 0) (omega arith) in
       let b = none (bytesOf (due (lineOf s) o (u .train))) (replicate outLength 0) (omega arith) in
       let z : _≡_ {A = ℕ} 0 1 = cc in
@@ -145,7 +144,7 @@ arrives l table s j o inputs long k line none =
     subst (λ (z : Line). Arrives table z r (observe o (r .exchanges))) (kept .line ∙ line) (record {
       taken = due-accepted table long r _ after;
       only = accepted-due table long r _ after;
-      ended = all-ended table long r _ after (assured table r _ after (kept .requested));
+      ended = all-ended table long r _ after;
       frames = frames ∙ frames-told table (r .state) (r .journal) _ (after .kept);
       bounded = rw frames (frames-within (r .state) (after .kept .valid-state));
       few = few-frames (r .state) (after .kept .valid-state);

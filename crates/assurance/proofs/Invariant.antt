@@ -34,7 +34,7 @@ use Rattle.assurance.specs.WholeList.{isFeOf}
 abbrev pub claimOf : Status → ℕ → ℕ → Claim
 claimOf Free p q = nothing
 claimOf (Asked n) p q = asked
-claimOf Running p q = authority p q
+claimOf (Running k) p q = authority p q
 
 abbrev pub seenOf : Train → Seen
 seenOf x = record { post = x .at .0; claim = claimOf (x .status) (x .at .0) (nextOf x) }
@@ -44,7 +44,7 @@ abbrev pub given : ℕ → List Record → ℕ → ℕ
 given n j t = countBelow n (λ i. isFeOf t (recordAt j i))
 
 -- train t's record x, where the journal j has n records and the observer has y
-pub record Tracked (n : ℕ) (j : List Record) (y : Seen) (t : ℕ) (x : Train) : Type 0 where
+pub record Agrees (n : ℕ) (j : List Record) (y : Seen) (t : ℕ) (x : Train) : Type 0 where
   pub seen : y ≡ seenOf x
   -- the number of an Asked train is that of its FA
   pub request : isAsked (x .status) ≡ true
@@ -60,7 +60,7 @@ pub record Invariant (table : List ℕ) (s : State) (j : List Record) (o : Obser
   pub valid-state : Consistent s
   pub right : Right (lineOf s) table
   pub room : journalLength ≤ length j
-  pub each : (t : ℕ) → t < s .trains → Tracked (s .logged) j (o t) t (trainOf s t)
+  pub each : (t : ℕ) → t < s .trains → Agrees (s .logged) j (o t) t (trainOf s t)
   -- with every Running train at its next post, all trains can still reach their ends
   pub completable : Completable (lineOf s) (reached s)
 
@@ -76,22 +76,23 @@ given-more n j r u h =
     rw (add-one, own, below)
 
 -- a message of another train gives u no authority
-other-train : (u : ℕ) (a : Message) → moveIn a .train .0 ≢ u → isFeOf u (recordOf a) ≡ false
+pub other-train : (a : Message) (u : ℕ) → u ≢ moveIn a .train .0 → isFeOf u (recordOf a) ≡ false
 unfolding recordOf
-other-train u (Fa m) h = refl
-other-train u (Fe m) h = ne-eqb (m .train .0) u h
-other-train u (Afe m) h = refl
-other-train u (Am m) h = refl
-other-train u (Refused n) h = refl
+other-train (Fa m) u h = refl
+other-train (Fe m) u h = ne-eqb (m .train .0) u (λ e. h (sym e))
+other-train (Afe m) u h = refl
+other-train (Am m) u h = refl
+other-train (Refused n) u h = refl
 
 -- ---- one change
 
-module _ (table : List ℕ) (s : State) (j : List Record) (o o′ : Observer) (t : ℕ) (a : Message) (x : Train)
+module _ (table : List ℕ) (s : State) (j : List Record) (o o′ : Observer) (t : ℕ) (r : Record) (x : Train)
     (inv : Invariant table s j o)
-    (own : moveIn a .train .0 ≡ t) (space : s .logged < journalLength) (others : (u : ℕ) → u ≢ t → o′ u ≡ o u)
+    (own : (u : ℕ) → u ≢ t → isFeOf u r ≡ false) (space : s .logged < journalLength)
+    (others : (u : ℕ) → u ≢ t → o′ u ≡ o u)
     (place : t < length (s .fleet)) (route : x .route ≡ trainOf s t .route)
     (after : Consistent (changed s t x (s .logged + 1)))
-    (tracked : Tracked (s .logged + 1) (set j (s .logged) (recordOf a)) (o′ t) t x)
+    (agreed : Agrees (s .logged + 1) (set j (s .logged) r) (o′ t) t x)
     (onward : Completable (lineOf s) (update (reached s) t (reachedBy x))) where
   journal-room : s .logged < length j
   journal-room = omega (arith, inv .room)
@@ -99,18 +100,17 @@ module _ (table : List ℕ) (s : State) (j : List Record) (o o′ : Observer) (t
   same-line : lineOf (changed s t x (s .logged + 1)) ≡ lineOf s
   same-line = changed-line s t x (s .logged + 1) route
 
-  tracked-other : (u : ℕ) → u < s .trains → u ≢ t
-      → Tracked (s .logged + 1) (set j (s .logged) (recordOf a)) (o′ u) u (trainOf s u)
-  tracked-other u k h =
+  agreed-other : (u : ℕ) → u < s .trains → u ≢ t
+      → Agrees (s .logged + 1) (set j (s .logged) r) (o′ u) u (trainOf s u)
+  agreed-other u k h =
       let v = inv .each u k in
-      let none : isFeOf u (recordOf a) ≡ false = other-train u a (λ e. h (sym e ∙ own)) in
       record {
         seen = others u h ∙ v .seen;
         request = λ q.
-            getD-set-other j (s .logged) (askedAs (trainOf s u .status)) (recordOf a) blank
+            getD-set-other j (s .logged) (askedAs (trainOf s u .status)) r blank
             (λ z. omega (arith, inv .valid-state .each u k .numbered q))
             ∙ v .request q;
-        authorities = given-more (s .logged) j (recordOf a) u journal-room ∙ rw (none, v .authorities) (omega arith);
+        authorities = given-more (s .logged) j r u journal-room ∙ rw (own u h, v .authorities) (omega arith);
       }
 
   agrees : (u : ℕ) → update (reached s) t (reachedBy x) u ≡ reached (changed s t x (s .logged + 1)) u
@@ -118,14 +118,14 @@ module _ (table : List ℕ) (s : State) (j : List Record) (o o′ : Observer) (t
       (λ e. rw (e, changed-own s t x (s .logged + 1) place) (update-own (reached s) t (reachedBy x)))
       (λ h. rw (changed-other s t x (s .logged + 1) u h) (update-other (reached s) t (reachedBy x) u h))
 
-  pub changed-kept : Invariant table (changed s t x (s .logged + 1)) (set j (s .logged) (recordOf a)) o′
+  pub changed-kept : Invariant table (changed s t x (s .logged + 1)) (set j (s .logged) r) o′
   changed-kept = record {
     valid-state = after;
     right = subst (λ (l : Line). Right l table) (sym same-line) (inv .right);
     room = rw length-set (inv .room);
     each = λ u k.
-        changed-each s t x (s .logged + 1) (λ v y. Tracked (s .logged + 1) (set j (s .logged) (recordOf a)) (o′ v) v y)
-        place tracked u (tracked-other u k);
+        changed-each s t x (s .logged + 1) (λ v y. Agrees (s .logged + 1) (set j (s .logged) r) (o′ v) v y)
+        place agreed u (agreed-other u k);
     completable = subst (λ (l : Line). Completable l (reached (changed s t x (s .logged + 1)))) (sym same-line)
         (completable-cong (lineOf s) (update (reached s) t (reachedBy x)) (reached (changed s t x (s .logged + 1)))
         (λ u k. agrees u) onward);

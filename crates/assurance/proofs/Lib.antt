@@ -7,6 +7,7 @@ pub mod Steps
 pub mod Accept
 pub mod Records
 pub mod Exchanged
+pub mod Tracking
 pub mod Opened
 pub mod Ran
 pub mod Told

@@ -2,16 +2,20 @@
 -- records so far is what it would be.
 use mathlib.Core.Path.{_≡_, refl, ap, _∙_}
 use mathlib.Core.Logic.{_⊎_, inl, inr, ⊎-elim}
-use mathlib.Core.List.{List, [], _∷_, _++_}
-use Prim.Native.Nat.{ℕ, _+_, _≤_, _<_}
+use mathlib.Core.List.{List, [], _∷_, _++_, append-assoc}
+use Prim.Native.Nat.{ℕ, _+_, _-_, _≤_, _<_}
 use native.Mathlib.Nat.{add-zero}
 use native.Mathlib.Omega.{arith}
-use lib.ListN.{length, set, length-append}
-use lib.Seq.{getD-set-other}
+use lib.ListN.{length, set, take, drop, length-append}
+use lib.Seq.{getD-set-other, take-at, drop-at, length-take-le}
 use Rattle.common.specs.Part.{replaced}
 use Rattle.common.proofs.Part.{replaced-none, replaced-more}
+use Rattle.frame.specs.Frame.{readFrame}
 use Rattle.journal.specs.Journal.{blank, frameOf, recordAt}
-use Rattle.assurance.specs.Types.{Move, Message, Record}
+use Rattle.rules.specs.Answer.{accepted, answered}
+use Rattle.rules.proofs.Acceptance.{Passed, accepted-facts, taken-space}
+use Rattle.assurance.specs.Types.{Move, Message, Record, State}
+use Rattle.assurance.specs.Run.{newRecords}
 use Rattle.assurance.specs.Observer.{Observer, noteAnswer, noteAnswers}
 use Rattle.assurance.specs.WholeList.{Requested}
 
@@ -34,6 +38,27 @@ split-last (x ∷ xs) a (y ∷ ys) b zs e =
 -- one record in place n
 pub replaced-one : (j : List Record) (n : ℕ) (r : Record) → n < length j → replaced j n (r ∷ []) ≡ set j n r
 replaced-one j n r h = replaced-more j n [] r (rw add-zero h) ∙ rw (replaced-none j n, add-zero)
+
+-- the records that were put in from place n on
+pub replaced-part : (j : List Record) (n : ℕ) (b : List Record) → n ≤ length j
+    → take (length b) (drop n (replaced j n b)) ≡ b
+unfolding replaced
+replaced-part j n b h =
+    let rest = drop (n + length b) j in
+    ap (λ (z : List Record). take (length b) (drop n z)) (append-assoc (take n j) b rest)
+    ∙ ap (take (length b)) (drop-at (take n j) (b ++ rest) n (length-take-le n j h))
+    ∙ take-at b rest (length b) refl
+
+-- those that an accepted frame adds
+pub new-logged : (table : List ℕ) (s : State) (j : List Record) (frame out : List ℕ) → Passed s table j frame out
+    → let w = accepted table s (readFrame frame) in newRecords s (answered (s .logged) j out w) ≡ w .logged
+new-logged table s j frame out p =
+    let w = accepted table s (readFrame frame) in
+    let facts = accepted-facts table s (p .valid-state) (readFrame frame) (p .message) in
+    let size : w .state .logged - s .logged ≡ length (w .logged) = omega (arith, facts .counted) in
+    rw size
+    (replaced-part j (s .logged) (w .logged)
+    (omega (arith, p .long-journal, taken-space s (readFrame frame) (p .message))))
 
 -- a later journal: the records below the count n are the same
 pub record Later (n : ℕ) (j : List Record) (n′ : ℕ) (j′ : List Record) : Type 0 where

@@ -8,19 +8,20 @@ use native.Mathlib.Omega.{arith}
 use lib.ListN.{length}
 use Rattle.common.proofs.Tests.{by-equality}
 use Rattle.frame.specs.Frame.{readFrame}
-use Rattle.rules.specs.declared.state.Status.the-variants.{Running}
 use Rattle.completion.specs.Configuration.{moved}
 use Rattle.completion.specs.Table.{filled}
 use Rattle.completion.proofs.Rule.{bit-completable, completable-bit}
-use Rattle.rules.specs.State.{trainOf, lineOf, reached, nextMove, withStatus}
+use Rattle.rules.specs.State.{nextOf, trainOf, lineOf, reached, nextMove}
 use Rattle.rules.specs.Valid.{valid}
 use Rattle.rules.specs.Granting.{oldest, Work, granted, proceed, grants}
 use Rattle.rules.specs.Answer.{accepted, answer}
-use Rattle.rules.proofs.Validity.{Distinct, valid-facts}
+use Rattle.rules.proofs.Validity.{Distinct, valid-facts, next-post-below, asked-short}
+use Rattle.rules.proofs.FreeTrack.{free-fewer, fewer-free}
 use Rattle.rules.proofs.Changes.{distinct-change, grantable-facts, is-grantable}
 use Rattle.rules.proofs.Reached.{moved-within, moved-code}
 use Rattle.rules.proofs.Oldest.{Oldest, oldest-none, oldest-some, earlier}
-use Rattle.rules.proofs.Grants.{askedCount, Turn, granted-fewer, granted-place, none-asked, few-asked, settled-next}
+use Rattle.rules.proofs.Grants.{askedCount, granting, Turn, granted-fewer, granted-place, none-asked, few-asked}
+use Rattle.rules.proofs.Grants.{settled-next}
 use Rattle.rules.proofs.Settling.{settled-settles}
 use Rattle.rules.proofs.Acceptance.{by-verdict, refusal-leaves, paired, accepted-facts, accepted-valid}
 use Rattle.rules.proofs.Acceptance.{accepted-nobody}
@@ -71,7 +72,7 @@ module _ (table : List ℕ) where
   -- a grant takes a number away, and the others stay distinct
   granted-distinct : (w : Work) (t : ℕ) → Turn table w t → Distinct (w .state) → Distinct (granted w t .state)
   granted-distinct w t f =
-      distinct-change (w .state) t (withStatus (trainOf (w .state) t) Running) (w .state .logged + 1)
+      distinct-change (w .state) t (granting (w .state) t) (w .state .logged + 1)
       (granted-place table w t f)
       (λ u k h p. absurd (false≢true p))
 
@@ -116,7 +117,7 @@ right-grant = record {
       record {
         asks = f .asks;
         section = f .section;
-        post = f .post;
+        post = free-fewer s d (nextOf (trainOf s t)) (next-post-below s d t k (asked-short s d t k (f .asks))) t (f .track);
         completable = bit-completable (lineOf s) (d .line) table (moved (reached s) t)
             (moved-within s d t k (f .asks)) (f .bit);
       };
@@ -125,7 +126,7 @@ right-grant = record {
       is-grantable (filled (lineOf s) table) s t (record {
         asks = m .asks;
         section = m .section;
-        post = m .post;
+        track = fewer-free s d (nextOf (trainOf s t)) (next-post-below s d t k (asked-short s d t k (m .asks))) t (m .post);
         bit = completable-bit (lineOf s) (d .line) table (moved (reached s) t) (moved-within s d t k (m .asks))
             (m .completable);
       });

@@ -1,7 +1,7 @@
 -- An accepted opening establishes the invariant: the line is that of the book and well formed, the table is right, and
 -- every train stands at its start.
-use mathlib.Core.Path.{_≡_, refl, sym, subst}
-use mathlib.Core.Bool.{Bool, true, false≢true, true≢false}
+use mathlib.Core.Path.{_≡_, refl, sym, subst, _∙_}
+use mathlib.Core.Bool.{Bool, true, not, false≢true, true≢false}
 use mathlib.Core.List.{List}
 use Prim.Native.Nat.{ℕ, _≤_, _<_}
 use native.Mathlib.Omega.{arith}
@@ -17,9 +17,9 @@ use Rattle.common.proofs.Tabulate.{at-tabulate}
 use Rattle.common.proofs.Check.{passed-by, accepts, refuses}
 use Rattle.line.specs.Refusal.{shortStore, posts, tracks, sidings, trains, offTheLine, overfull, noWayThrough}
 use Rattle.line.specs.Line.{routeOf}
-use Rattle.line.specs.Holding.{holdsPost, holdsSection}
+use Rattle.line.specs.Holding.{isStabled, holdsPost, holdsSection}
 use Rattle.line.specs.Book.{lineIn}
-use Rattle.line.proofs.Holding.{standing-section}
+use Rattle.line.proofs.Holding.{standing-holds, standing-section}
 use Rattle.line.proofs.Travel.{start-between, post-start}
 use Rattle.line.proofs.WellFormed.{WellFormed, well-formed-parts, well-formed}
 use Rattle.journal.specs.Journal.{journalLength}
@@ -28,15 +28,19 @@ use Rattle.completion.specs.Table.{tableLength, bitOf, filled}
 use Rattle.completion.proofs.Feasibility.{feasible-of}
 use Rattle.completion.proofs.Agreement.{completable-cong}
 use Rattle.completion.proofs.Rule.{bit-completable, completable-bit}
-use Rattle.rules.specs.State.{noTrain, trainOf, lineOf, located, reached}
+use Rattle.rules.specs.State.{trackAt, noTrain, trainOf, lineOf, located, reached}
 use Rattle.rules.specs.Granting.{grantable}
-use Rattle.rules.specs.Opening.{openingChecks, fresh, openedState, opened, refusedBook, opening, openingWith}
+use Rattle.rules.specs.Opening.{openingChecks, openedTrack, fresh, openedState, opened, refusedBook, opening}
+use Rattle.rules.specs.Opening.{openingWith}
 use Rattle.rules.proofs.Validity.{Consistent}
 use Rattle.rules.proofs.Changes.{grantable-facts}
+use Rattle.rules.proofs.Starting.{started, stabled-start}
 use Rattle.assurance.specs.Types.{Line, Record}
 use Rattle.assurance.specs.Observer.{atOpening}
+use Rattle.assurance.specs.Tracks.{tracksAtOpening}
 use Rattle.assurance.proofs.Invariant.{Right, Invariant}
 use Rattle.assurance.proofs.Exchanged.{Settled}
+use Rattle.assurance.proofs.Tracking.{TracksAgree}
 
 -- ---- the checks
 
@@ -79,8 +83,21 @@ opened-line book = refl
 
 module _ (l : Line) (table : List ℕ) (journal : List Record) (a : Accepted l table journal)
     (same : lineOf (openedState l) ≡ l) where
-  fresh-train : (t : ℕ) → t < l .trains → trainOf (openedState l) t ≡ fresh (routeOf l t)
-  fresh-train t k = at-tabulate 6 (λ u. fresh (routeOf l u)) t noTrain (omega (arith, a .line .few-trains))
+  fresh-train : (t : ℕ) → t < l .trains → trainOf (openedState l) t ≡ fresh (routeOf l t) (openedTrack l t)
+  fresh-train t k =
+      at-tabulate 6 (λ u. fresh (routeOf l u) (openedTrack l u)) t noTrain (omega (arith, a .line .few-trains))
+
+  -- a train of the opened state holds what it holds in the start, on its track
+  opened-holds : (p t : ℕ) → t < l .trains
+      → holdsPost (located (openedState l) t) p ≡ holdsPost (whereabouts l start t) p
+  opened-holds p t k = rw (fresh-train t k, post-start (routeOf l t))
+
+  opened-track : (p t : ℕ) → t < l .trains → holdsPost (located (openedState l) t) p ≡ true
+      → trackAt (trainOf (openedState l) t) p ≡ openedTrack l t
+  opened-track p t k h =
+      let e = sym (standing-holds (l .sidings) (routeOf l t .end .0) (routeOf l t .start .0) p)
+      ∙ (rw (fresh-train t k) at h) in
+      rw (fresh-train t k, and-right (not (isStabled (l .sidings) (routeOf l t .end .0) (routeOf l t .start .0))) _ e)
 
   opened-valid : Consistent (openedState l)
   opened-valid = record {
@@ -97,9 +114,14 @@ module _ (l : Line) (table : List ℕ) (journal : List Record) (a : Accepted l t
         omega arith;
     posts = λ p k.
         rw (count-cong (l .trains) (λ t. holdsPost (located (openedState l) t) p)
-        (λ t. holdsPost (whereabouts l start t) p)
-        (λ t kt. rw (fresh-train t kt, post-start (routeOf l t))))
+        (λ t. holdsPost (whereabouts l start t) p) (opened-holds p))
         (a .fits .fits p k);
+    tracks = λ p t kp kt h.
+        rw (opened-track p t kt h) (started l (a .fits .fits) .some p t kp kt (sym (opened-holds p t kt) ∙ h));
+    differ = λ p t u kp kt ku g h e. started l (a .fits .fits) .apart p t u kp kt ku
+        (sym (opened-holds p t kt) ∙ g) (sym (opened-holds p u ku) ∙ h)
+        (sym (opened-track p t kt g) ∙ e ∙ opened-track p u ku h);
+    away = λ t k. rw (fresh-train t k) (stabled-start l t k);
     distinct = λ t u kt ku p. absurd (false≢true (rw (fresh-train t kt) at p));
   }
 
@@ -131,3 +153,6 @@ module _ (l : Line) (table : List ℕ) (journal : List Record) (a : Accepted l t
           false≢true (rw (fresh-train t k) at (grantable-facts (filled l table) (openedState l) t e .asks)));
     };
   }
+
+  pub opened-tracks : TracksAgree (openedState l) (tracksAtOpening l)
+  opened-tracks = record { each = λ t k. rw (fresh-train t k) }

@@ -1,25 +1,29 @@
 -- The journal of a run, told by its exchanges: each adds its records after those that were there.
 use mathlib.Core.Path.{_≡_, refl, sym, ap, subst, _∙_}
-use mathlib.Core.List.{List, [], _∷_, _++_, append-assoc, append-nil, map}
-use Prim.Native.Nat.{ℕ, _+_}
+use mathlib.Core.Logic.{⊎-elim}
+use mathlib.Core.List.{List, [], _∷_, _++_, append-assoc, append-nil, map, map-append, List·Memᴰ, List·Memᴰ·head}
+use mathlib.Core.List.{List·Memᴰ·tail, List·Memᴰ·append-cases, List·Memᴰ·not-nil}
+use Prim.Native.Nat.{ℕ, zero, suc, _+_, _-_, _<_}
 use native.Mathlib.Omega.{arith}
-use lib.ListN.{length, take, drop, length-append, take-append-drop}
-use lib.Seq.{take-at, drop-at, length-take-le, drop-drop}
+use lib.ListN.{length, getD, take, drop, length-append, length-map, take-append-drop}
+use lib.Seq.{take-at, drop-at, length-take-le, drop-drop, getD-take}
 use Rattle.common.specs.Part.{replaced}
 use Rattle.frame.specs.Frame.{readFrame}
-use Rattle.journal.specs.Journal.{recordOf}
+use Rattle.journal.specs.Journal.{blank, recordOf, withoutTrack, Tracked, recordAt}
 use Rattle.completion.specs.Table.{filled}
 use Rattle.line.specs.Book.{lineIn}
-use Rattle.rules.specs.Answer.{accepted, framesOf, answered, answer}
+use Rattle.rules.specs.State.{lineOf}
+use Rattle.rules.specs.Answer.{accepted, framesOf, answered, refused, answer}
 use Rattle.rules.specs.Opening.{Opening, openedState}
 use Rattle.rules.proofs.Acceptance.{Passed, by-verdict, accepted-facts, taken-space}
-use Rattle.assurance.specs.Types.{Message, Record, State, Sent}
-use Rattle.assurance.specs.Run.{Input, run}
+use Rattle.assurance.specs.Types.{Line, Message, Record, State, Verdict}
+use Rattle.assurance.specs.Run.{Input, Exchange, newRecords, run}
 use Rattle.assurance.specs.Observer.{readFrames}
 use Rattle.assurance.specs.Replies.{loggedBy}
 use Rattle.assurance.specs.Recorded.{loggedIn, Recorded, JournalTold}
+use Rattle.assurance.proofs.Logging.{new-logged}
 use Rattle.assurance.proofs.Exchanged.{answers-back}
-use Rattle.assurance.proofs.Opened.{opening-accepted}
+use Rattle.assurance.proofs.Opened.{opening-accepted, opened-line}
 
 -- the records `new`, after those that were there
 pub record Adds (s : State) (j : List Record) (u : State) (k : List Record) (new : List Record) : Type 0 where
@@ -32,48 +36,86 @@ pub all-records : {s u : State} {j k new : List Record} → Adds s j u k new
     → k ≡ take (s .logged) j ++ new ++ drop (u .logged) j
 all-records {u = u} {k = k} a = sym (take-append-drop (u .logged) k) ∙ rw (a .records, a .rest)
 
+-- ---- one frame
+
+-- the records `new` are logged for the frame and its answers, each with a track where it is an FE's
+pub record Logs (l : Line) (new : List Record) (verdict : Verdict) (frame out : List ℕ) : Type 0 where
+  pub logged : map withoutTrack new ≡ loggedBy verdict frame out
+  pub tracked : (r : Record) → List·Memᴰ r new → Tracked l r
+
 module _ (table : List ℕ) (s : State) (j : List Record) (frame out : List ℕ) where
   accepted-adds : Passed s table j frame out
       → let a = answered (s .logged) j out (accepted table s (readFrame frame)) in
-      Adds s j (a .state) (a .journal) (loggedBy (a .verdict) frame (a .out))
+      Adds s j (a .state) (a .journal) (newRecords s a)
   unfolding replaced
   accepted-adds p =
       let w = accepted table s (readFrame frame) in
       let facts = accepted-facts table s (p .valid-state) (readFrame frame) (p .message) in
-      let after = replaced out 0 (framesOf (w .sent)) in
-      let back : readFrames (length (w .sent)) after ≡ w .sent = answers-back (w .sent) out (facts .messages) in
-      let new : w .logged ≡ loggedBy (Sent (length (w .sent))) frame after =
-      facts .written ∙ ap (λ (z : List Message). map recordOf (readFrame frame ∷ z)) (sym back) in
       let old : length (take (s .logged) j) ≡ s .logged =
       length-take-le (s .logged) j (omega (arith, p .long-journal, taken-space s (readFrame frame) (p .message))) in
       let whole : length (take (s .logged) j ++ w .logged) ≡ w .state .logged =
       length-append (take (s .logged) j) (w .logged) ∙ omega (arith, facts .counted) in
       let reach : s .logged + length (w .logged) ≡ w .state .logged = omega (arith, facts .counted) in
-      subst (Adds s j (w .state) (replaced j (s .logged) (w .logged))) new (record {
+      subst (Adds s j (w .state) (replaced j (s .logged) (w .logged))) (sym (new-logged table s j frame out p)) (record {
         count = facts .counted;
         records = take-at (take (s .logged) j ++ w .logged) _ (w .state .logged) whole;
         rest = drop-at (take (s .logged) j ++ w .logged) _ (w .state .logged) whole
             ∙ ap (λ n. drop n j) reach;
       })
 
-  pub answer-adds : let a = answer s table j frame out in
-      Adds s j (a .state) (a .journal) (loggedBy (a .verdict) frame (a .out))
-  answer-adds = by-verdict s table j frame out
-      (λ a. Adds s j (a .state) (a .journal) (loggedBy (a .verdict) frame (a .out)))
-      (λ n e. record { count = omega arith; records = sym (append-nil (take (s .logged) j)); rest = refl })
+  accepted-logs : Passed s table j frame out
+      → let a = answered (s .logged) j out (accepted table s (readFrame frame)) in
+      Logs (lineOf s) (newRecords s a) (a .verdict) frame (a .out)
+  accepted-logs p =
+      let w = accepted table s (readFrame frame) in
+      let facts = accepted-facts table s (p .valid-state) (readFrame frame) (p .message) in
+      let back : readFrames (length (w .sent)) (replaced out 0 (framesOf (w .sent))) ≡ w .sent =
+      answers-back (w .sent) out (facts .messages) in
+      rw (new-logged table s j frame out p) (record {
+        logged = facts .written ∙ ap (λ (z : List Message). map recordOf (readFrame frame ∷ z)) (sym back);
+        tracked = facts .tracked;
+      })
+
+  -- a refused frame adds none
+  none-new : (n : ℕ) → newRecords s (refused s j out n) ≡ []
+  none-new n = let none : s .logged - s .logged ≡ 0 = omega arith in rw none
+
+  pub answer-adds : let a = answer s table j frame out in Adds s j (a .state) (a .journal) (newRecords s a)
+  answer-adds = by-verdict s table j frame out (λ a. Adds s j (a .state) (a .journal) (newRecords s a))
+      (λ n e. rw (none-new n)
+      (record { count = omega arith; records = sym (append-nil (take (s .logged) j)); rest = refl }))
       accepted-adds
 
+  same-line : lineOf (answer s table j frame out .state) ≡ lineOf s
+  same-line = by-verdict s table j frame out (λ a. lineOf (a .state) ≡ lineOf s)
+      (λ n e. refl)
+      (λ p. accepted-facts table s (p .valid-state) (readFrame frame) (p .message) .line)
+
+  pub answer-logs : let a = answer s table j frame out in
+      Logs (lineOf s) (newRecords s a) (a .verdict) frame (a .out)
+  answer-logs = by-verdict s table j frame out
+      (λ a. Logs (lineOf s) (newRecords s a) (a .verdict) frame (a .out))
+      (λ n e. rw (none-new n) (record { logged = refl; tracked = λ r h. absurd (List·Memᴰ·not-nil h) }))
+      accepted-logs
+
+-- ---- a run
+
+-- the records of a list of exchanges
+unfoldable newIn : List Exchange → List Record
+newIn [] = []
+newIn (e ∷ es) = e .records ++ newIn es
+
 run-adds : (table : List ℕ) (inputs : List Input) (s : State) (j : List Record)
-    → let r = run table s j inputs in Adds s j (r .state) (r .journal) (loggedIn (r .exchanges))
-unfolding run loggedIn
+    → let r = run table s j inputs in Adds s j (r .state) (r .journal) (newIn (r .exchanges))
+unfolding run newIn
 run-adds table [] s j =
     record { count = omega arith; records = sym (append-nil (take (s .logged) j)); rest = refl }
 run-adds table (i ∷ is) s j =
     let a = answer s table j (i .frame) (i .out) in
     let f = answer-adds table s j (i .frame) (i .out) in
     let r = run-adds table is (a .state) (a .journal) in
-    let new = loggedBy (a .verdict) (i .frame) (a .out) in
-    let more = loggedIn (run table (a .state) (a .journal) is .exchanges) in
+    let new = newRecords s a in
+    let more = newIn (run table (a .state) (a .journal) is .exchanges) in
     let end = run table (a .state) (a .journal) is .state .logged in
     record {
       count = r .count ∙ omega (arith, f .count, length-append new more);
@@ -87,10 +129,57 @@ run-adds table (i ∷ is) s j =
           ∙ drop-drop (length more) (a .state .logged) j);
     }
 
+-- what is logged for each
+run-logged : (table : List ℕ) (inputs : List Input) (s : State) (j : List Record)
+    → let es = run table s j inputs .exchanges in map withoutTrack (newIn es) ≡ loggedIn es
+unfolding run newIn loggedIn
+run-logged table [] s j = refl
+run-logged table (i ∷ is) s j =
+    let a = answer s table j (i .frame) (i .out) in
+    map-append withoutTrack (newRecords s a) (newIn (run table (a .state) (a .journal) is .exchanges))
+    ∙ rw (answer-logs table s j (i .frame) (i .out) .logged, run-logged table is (a .state) (a .journal))
+
+run-tracked : (table : List ℕ) (inputs : List Input) (s : State) (j : List Record) (r : Record)
+    → List·Memᴰ r (newIn (run table s j inputs .exchanges)) → Tracked (lineOf s) r
+unfolding run newIn
+run-tracked table [] s j r h = absurd (List·Memᴰ·not-nil h)
+run-tracked table (i ∷ is) s j r h =
+    let a = answer s table j (i .frame) (i .out) in
+    ⊎-elim
+    (answer-logs table s j (i .frame) (i .out) .tracked r)
+    (λ q. subst (λ (l : Line). Tracked l r) (same-line table s j (i .frame) (i .out))
+    (run-tracked table is (a .state) (a .journal) r q))
+    (List·Memᴰ·append-cases (newRecords s a) h)
+
+-- a record below the count is one of them
+member : (l : List Record) (i : ℕ) → i < length l → List·Memᴰ (getD l i blank) l
+member [] i h = absurd (omega arith)
+member (r ∷ l) zero h = List·Memᴰ·head refl
+member (r ∷ l) (suc i) h = List·Memᴰ·tail (member l i (omega arith))
+
+recorded : (table : List ℕ) (inputs : List Input) (s : State) (journal : List Record) → s .logged ≡ 0
+    → Recorded (lineOf s) journal (run table s journal inputs)
+recorded table inputs s journal none =
+    let r = run table s journal inputs in
+    let f = run-adds table inputs s journal in
+    let logged = run-logged table inputs s journal in
+    let all : take (r .state .logged) (r .journal) ≡ newIn (r .exchanges) = f .records ∙ rw none in
+    let size : length (newIn (r .exchanges)) ≡ r .state .logged = omega (arith, f .count) in
+    record {
+      count = sym size ∙ sym (length-map (newIn (r .exchanges)) withoutTrack) ∙ ap length logged;
+      records = ap (map withoutTrack) all ∙ logged;
+      tracked = λ i h.
+          let at : recordAt (r .journal) i ≡ recordAt (newIn (r .exchanges)) i =
+          sym (getD-take (r .state .logged) (r .journal) i blank h) ∙ ap (λ (l : List Record). recordAt l i) all in
+          rw at (run-tracked table inputs s journal _ (member (newIn (r .exchanges)) i (omega arith)));
+      rest = f .rest;
+    }
+
 pub journal-told : JournalTold
 journal-told book table journal inputs e =
     let l = lineIn book in
-    let a = opening-accepted book table journal e in
-    let f = run-adds (filled l table) inputs (openedState l) journal in
-    subst (λ (o : Opening). Recorded journal (run (o .table) (o .state) journal inputs)) (sym (a .0))
-    (record { count = f .count ∙ omega arith; records = all-records f })
+    subst (λ (o : Opening). Recorded l journal (run (o .table) (o .state) journal inputs))
+    (sym (opening-accepted book table journal e .0))
+    (subst
+    (λ (z : Line). Recorded z journal (run (filled l table) (openedState l) journal inputs)) (opened-line book)
+    (recorded (filled l table) inputs (openedState l) journal refl))

@@ -23,7 +23,7 @@ use Rattle.rules.specs.Answer.{taken, declined, accepted}
 use Rattle.rules.proofs.Trains.{running-is, route-of, changed, changed-own, changed-other}
 use Rattle.rules.proofs.Validity.{Consistent}
 use Rattle.rules.proofs.Changes.{grantable-facts, short-place}
-use Rattle.rules.proofs.Grants.{Turn, grants-keep, granted-place}
+use Rattle.rules.proofs.Grants.{granting, Turn, grants-keep, granted-place}
 use Rattle.rules.proofs.Acceptance.{Taken, request, arrival}
 use Rattle.assurance.specs.Types.{Move, Message, Fa, Am, State}
 
@@ -33,7 +33,7 @@ use Rattle.assurance.specs.Types.{Move, Message, Fa, Am, State}
 abbrev askedFor : Status → ℕ
 askedFor Free = 0
 askedFor (Asked n) = 2
-askedFor Running = 3
+askedFor (Running k) = 3
 
 abbrev recordsOf : Train → ℕ
 recordsOf x = 4 * distance (x .route .start .0) (x .at .0) + askedFor (x .status)
@@ -41,22 +41,22 @@ recordsOf x = 4 * distance (x .route .start .0) (x .at .0) + askedFor (x .status
 free-none : (w : Status) → isFree w ≡ true → askedFor w ≡ 0
 free-none Free e = refl
 free-none (Asked n) e = absurd (false≢true e)
-free-none Running e = absurd (false≢true e)
+free-none (Running k) e = absurd (false≢true e)
 
 asked-two : (w : Status) → isAsked w ≡ true → askedFor w ≡ 2
 asked-two Free e = absurd (false≢true e)
 asked-two (Asked n) e = refl
-asked-two Running e = absurd (false≢true e)
+asked-two (Running k) e = absurd (false≢true e)
 
 most-three : (w : Status) → askedFor w ≤ 3
 most-three Free = omega arith
 most-three (Asked n) = omega arith
-most-three Running = omega arith
+most-three (Running k) = omega arith
 
 neither : (w : Status) → isAsked w ≡ false → isRunning w ≡ false → isFree w ≡ true
 neither Free a b = refl
 neither (Asked n) a b = absurd (false≢true (sym a))
-neither Running a b = absurd (false≢true (sym b))
+neither (Running k) a b = absurd (false≢true (sym b))
 
 -- ---- all trains
 
@@ -99,7 +99,7 @@ module _ (table : List ℕ) (e n : ℕ) where
   granted-bounded w t b f =
       let two = asked-two (trainOf (w .state) t .status) (grantable-facts table (w .state) t (f .can) .asks) in
       let c =
-      changed-sum recordsOf (w .state) t (withStatus (trainOf (w .state) t) Running) (w .state .logged + 1) (f .known)
+      changed-sum recordsOf (w .state) t (granting (w .state) t) (w .state .logged + 1) (f .known)
       (granted-place table w t f) in
       record { spare = omega (arith, b .spare); raised = omega (arith, b .raised) }
 
@@ -127,9 +127,9 @@ accepted-bounded table s d a (request m q free idle) b =
     (settled-bounded table 1 (recordsIn s + 1) w (record { spare = omega arith; raised = omega arith }))
 accepted-bounded table s d a (arrival m q runs) b =
     let t = m .train .0 in
-    let three : askedFor (trainOf s t .status) ≡ 3 = rw (running-is (trainOf s t .status) runs) in
+    let three : askedFor (trainOf s t .status) ≡ 3 = rw (running-is (trainOf s t .status) runs .1) in
     let c =
-    changed-sum recordsOf s t (arrivedNext (trainOf s t)) (s .logged + 1) (q .known) (short-place s t (q .short)) in
+    changed-sum recordsOf s t (arrivedNext (s .sidings) (trainOf s t)) (s .logged + 1) (q .known) (short-place s t (q .short)) in
     let far = next-travelled _ _ _ (d .each t (q .known) .inside) (q .short) in
-    settled-bounded table 0 (recordsIn s + 1) (taken s (Am m) (arrivedNext (trainOf s t)))
+    settled-bounded table 0 (recordsIn s + 1) (taken s (Am m) (arrivedNext (s .sidings) (trainOf s t)))
     (record { spare = omega arith; raised = omega arith })

@@ -10,7 +10,7 @@ use lib.Seq.{drop-at}
 use Rattle.common.specs.Part.{replaced}
 use Rattle.common.proofs.Tests.{clash, by-cases, by-equality}
 use Rattle.frame.specs.Frame.{readFrame}
-use Rattle.journal.specs.Journal.{recordOf}
+use Rattle.journal.specs.Journal.{recordOf, withoutTrack}
 use Rattle.rules.specs.declared.state.Status.the-variants.{Asked}
 use Rattle.rules.specs.declared.state.Train.{Train}
 use Rattle.rules.specs.State.{isAsked, trainOf, nextMove, withStatus, arrivedNext}
@@ -21,12 +21,13 @@ use Rattle.rules.proofs.Changes.{short-place}
 use Rattle.rules.proofs.Frames.{frames-length}
 use Rattle.rules.proofs.Acceptance.{NextMove, Taken, request, arrival, by-verdict, accepted-facts}
 use Rattle.assurance.specs.Types.{Move, Message, Fa, Fe, Am, Record, State, Sent}
+use Rattle.assurance.specs.Run.{newRecords}
 use Rattle.assurance.specs.Observer.{readFrames}
 use Rattle.assurance.specs.Replies.{Awaited, Authorities, Reply, OnlyAdded, Replies}
 use Rattle.assurance.specs.Replies as replies
 use Rattle.assurance.proofs.Serving.{Serves, begins, settled-serves}
 use Rattle.assurance.proofs.Exchanged.{answers-back}
-use Rattle.assurance.proofs.Recorded.{all-records, answer-adds}
+use Rattle.assurance.proofs.Recorded.{all-records, answer-adds, answer-logs}
 
 -- ---- from the state before the frame on
 
@@ -88,7 +89,7 @@ module _ (s : State) (m : Move) (n : NextMove s m) where
 
   -- a train that arrives
   abbrev arriving : Train
-  arriving = arrivedNext (trainOf s t)
+  arriving = arrivedNext (s .sidings) (trainOf s t)
 
   arriving-awaited : (q : Move) → q .train .0 < s .trains → q ≡ nextMove (taken s (Am m) arriving .state) (q .train .0)
       → isAsked (trainOf (taken s (Am m) arriving .state) (q .train .0) .status) ≡ true → Awaited s (Am m) q
@@ -140,11 +141,17 @@ module _ (s : State) (table : List ℕ) (journal : List Record) (frame out : Lis
   added : let a = answer s table journal frame out in a .verdict ≡ Sent n → OnlyAdded s journal frame out n a
   added e =
       let a = answer s table journal frame out in
-      let f = rw e at (answer-adds table s journal frame out) in
+      let f = answer-adds table s journal frame out in
+      let g = rw e at (answer-logs table s journal frame out) in
+      let size : length (newRecords s a) ≡ 1 + n =
+      sym (length-map (newRecords s a) withoutTrack) ∙ ap length (g .logged)
+      ∙ omega (arith, length-map (readFrames n (a .out)) recordOf, read-count n (a .out)) in
       record {
         rest = rest-kept e;
-        count = f .count ∙ omega (arith, length-map (readFrames n (a .out)) recordOf, read-count n (a .out));
+        count = f .count ∙ ap (λ (i : ℕ). s .logged + i) size;
         records = all-records f;
+        logged = g .logged;
+        tracked = g .tracked;
       }
 
 pub all-replies : Replies

@@ -10,13 +10,12 @@ use native.Mathlib.Omega.{arith}
 use lib.ListN.{length, length-append}
 use Rattle.common.proofs.Tests.{clash, by-equality}
 use Rattle.frame.specs.Frame.{moveOf}
-use Rattle.rules.specs.declared.state.Status.the-variants.{Running}
 use Rattle.rules.specs.declared.state.Train.{Train}
-use Rattle.rules.specs.State.{isAsked, nextOf, trainOf, nextMove, withStatus, oneLogged}
+use Rattle.rules.specs.State.{isAsked, nextOf, trainOf, nextMove, oneLogged}
 use Rattle.rules.specs.Granting.{Work, begun, granted, settled}
 use Rattle.rules.proofs.Trains.{changed-own, changed-other, changed-each}
 use Rattle.rules.proofs.Changes.{grantable-facts}
-use Rattle.rules.proofs.Grants.{Turn, grants-keep, granted-place}
+use Rattle.rules.proofs.Grants.{granting, Turn, grants-keep, granted-place}
 use Rattle.assurance.specs.Types.{Move, Message, Fe, Record, State}
 use Rattle.assurance.proofs.Logging.{split-last}
 
@@ -60,7 +59,7 @@ module _ (table : List ℕ) (b : State) (w : Work) (t : ℕ) (k : Serves b w) (f
   s = w .state
 
   abbrev x : Train
-  x = withStatus (trainOf s t) Running
+  x = granting s t
 
   abbrev new : Move
   new = nextMove s t

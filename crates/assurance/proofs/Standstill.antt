@@ -22,7 +22,8 @@ use Rattle.rules.specs.declared.state.Train.{Train}
 use Rattle.rules.specs.State.{isAsked, isRunning, atEnd, nextOf, trainOf, lineOf, located, reached}
 use Rattle.rules.specs.Granting.{grantable}
 use Rattle.rules.proofs.Trains.{asked-idle, running-busy, route-of}
-use Rattle.rules.proofs.Validity.{Consistent}
+use Rattle.rules.proofs.Validity.{Consistent, next-post-below}
+use Rattle.rules.proofs.FreeTrack.{fewer-free}
 use Rattle.rules.proofs.Changes.{is-grantable}
 use Rattle.rules.proofs.Oldest.{Nobody}
 use Rattle.rules.proofs.Reached.{reached-idle}
@@ -85,7 +86,7 @@ module _ (table : List ℕ) (s : State) (d : Consistent s) (right : Right (lineO
       mover-grantable a = is-grantable table s (m .train) (record {
         asks = a;
         section = free-section;
-        post = free-track;
+        track = fewer-free s d (nextOf mover) (next-post-below s d (m .train) (m .known) away) (m .train) free-track;
         bit = right .full (moved (reached s) (m .train)) (m .next);
       })
 

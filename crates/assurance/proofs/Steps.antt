@@ -15,7 +15,7 @@ use Rattle.journal.specs.Journal.{journalLength, blank, recordOf}
 use Rattle.line.proofs.Travel.{next-travelled}
 use Rattle.completion.specs.Configuration.{Completable, moved}
 use Rattle.completion.proofs.Agreement.{completable-cong}
-use Rattle.rules.specs.declared.state.Status.the-variants.{Asked, Running}
+use Rattle.rules.specs.declared.state.Status.the-variants.{Asked}
 use Rattle.rules.specs.declared.state.Train.{Train}
 use Rattle.rules.specs.State.{isAsked, isRunning, askedAs, nextOf, reachedBy, noTrain, trainOf, lineOf, reached}
 use Rattle.rules.specs.State.{nextMove, withStatus, arrivedNext, withTrain, oneLogged}
@@ -23,13 +23,14 @@ use Rattle.rules.specs.Granting.{grantable}
 use Rattle.rules.proofs.Trains.{asked-idle, running-is, in-fleet, changed}
 use Rattle.rules.proofs.Validity.{Consistent}
 use Rattle.rules.proofs.Changes.{grantable-facts, short-place, valid-logged, valid-request, valid-arrival, valid-grant}
+use Rattle.rules.proofs.Grants.{granting, grantRecord}
 use Rattle.rules.proofs.Acceptance.{NextMove}
 use Rattle.rules.proofs.Reached.{moved-within}
 use Rattle.assurance.specs.Types.{Move, Message, Fa, Fe, Afe, Am, Record, State}
 use Rattle.assurance.specs.Observer.{Claim, nothing, asked, authority, Seen, Observer, isFor, noteFrame}
 use Rattle.assurance.specs.Observer.{noteAnswer}
 use Rattle.assurance.specs.WholeList.{isFeOf}
-use Rattle.assurance.proofs.Invariant.{given, given-more, Invariant, changed-kept}
+use Rattle.assurance.proofs.Invariant.{given, given-more, other-train, Invariant, changed-kept}
 
 -- the record of an FE is one of its train's
 own-authority : (m : Move) → isFeOf (m .train .0) (recordOf (Fe m)) ≡ true
@@ -45,23 +46,22 @@ module _ (table : List ℕ) (s : State) (j : List Record) (o : Observer) (inv : 
     (known : t < s .trains)
     (space : s .logged < journalLength) where
   pub grant-kept : grantable table s t ≡ true
-      → let x = withStatus (trainOf s t) Running in
-      let a = Fe (nextMove s t) in
-      Invariant table (oneLogged (withTrain s t x)) (set j (s .logged) (recordOf a)) (noteAnswer o a)
+      → Invariant table (oneLogged (withTrain s t (granting s t))) (set j (s .logged) (grantRecord s t))
+      (noteAnswer o (Fe (nextMove s t)))
   grant-kept e =
       let g = grantable-facts table s t e in
       let d = inv .valid-state in
-      let x = withStatus (trainOf s t) Running in
+      let x = granting s t in
       let idle = asked-idle (trainOf s t .status) (g .asks) in
       let permit = authority (trainOf s t .at .0) (nextOf (trainOf s t)) in
       let further : reachedBy x ≡ reached s t + 1 = rw idle (omega arith) in
-      changed-kept table s j o (noteAnswer o (Fe (nextMove s t))) t (Fe (nextMove s t)) x inv refl space
+      changed-kept table s j o (noteAnswer o (Fe (nextMove s t))) t (grantRecord s t) x inv (other-train (Fe (nextMove s t))) space
       (λ u h. update-other o t _ u h)
       (in-fleet s t (λ y. isAsked (y .status)) refl (g .asks)) refl (valid-grant s d t known table e)
       (record {
         seen = update-own o t _ ∙ ap (λ (y : Seen). seenWith (y .post) permit) (inv .each t known .seen);
         request = λ q. absurd (false≢true q);
-        authorities = given-more (s .logged) j (recordOf (Fe (nextMove s t))) t (omega (arith, inv .room))
+        authorities = given-more (s .logged) j (grantRecord s t) t (omega (arith, inv .room))
             ∙ rw (own-authority (nextMove s t), inv .each t known .authorities, idle) (omega arith);
       })
       (rw further (inv .right .sound (moved (reached s) t) (moved-within s d t known (g .asks)) (g .bit)))
@@ -99,7 +99,7 @@ module _ (table : List ℕ) (s : State) (j : List Record) (o : Observer) (inv : 
     request-kept idle =
         let t = m .train .0 in
         let x = withStatus (trainOf s t) (Asked (s .logged)) in
-        changed-kept table s j o (noteFrame o (Fa m)) t (Fa m) x inv refl space (λ u h. update-other o t _ u h)
+        changed-kept table s j o (noteFrame o (Fa m)) t (recordOf (Fa m)) x inv (other-train (Fa m)) space (λ u h. update-other o t _ u h)
         place refl (valid-request s (inv .valid-state) t (n .known) (n .short) idle)
         (record {
           seen = update-own o t _ ∙ ap (λ (y : Seen). seenWith (y .post) asked) (inv .each t (n .known) .seen);
@@ -109,29 +109,32 @@ module _ (table : List ℕ) (s : State) (j : List Record) (o : Observer) (inv : 
         })
         (stays t x (rw idle))
 
+    -- an AM that is taken is for its train's authority
+    pub authorised : isRunning (trainOf s (m .train .0) .status) ≡ true
+        → isFor (o (m .train .0) .claim) (m .from .0) (m .to .0) ≡ true
+    authorised runs = rw (
+      inv .each (m .train .0) (n .known) .seen,
+      running-is (trainOf s (m .train .0) .status) runs .1,
+      n .to,
+      n .from,
+      eq-eqb (trainOf s (m .train .0) .at .0) _ refl,
+      eq-eqb (nextOf (trainOf s (m .train .0))) _ refl,
+    )
+
     pub arrival-kept : isRunning (trainOf s (m .train .0) .status) ≡ true
-        → let x = arrivedNext (trainOf s (m .train .0)) in
+        → let x = arrivedNext (s .sidings) (trainOf s (m .train .0)) in
         Invariant table (oneLogged (withTrain s (m .train .0) x)) (set j (s .logged) (recordOf (Am m)))
         (noteFrame o (Am m))
     unfolding recordOf
     arrival-kept runs =
         let t = m .train .0 in
-        let x = arrivedNext (trainOf s t) in
+        let x = arrivedNext (s .sidings) (trainOf s t) in
         let v = inv .each t (n .known) in
         let further : reachedBy x ≡ reached s t =
         rw runs (omega (arith, next-travelled _ _ _ (inv .valid-state .each t (n .known) .inside) (n .short))) in
         let arrived : Observer = update o t (seenWith (m .to .0) nothing) in
-        let authorised : isFor (o t .claim) (m .from .0) (m .to .0) ≡ true =
-        rw (
-          v .seen,
-          running-is (trainOf s t .status) runs,
-          n .to,
-          n .from,
-          eq-eqb (trainOf s t .at .0) _ refl,
-          eq-eqb (nextOf (trainOf s t)) _ refl,
-        ) in
-        let heard : noteFrame o (Am m) ≡ arrived = rw authorised in
-        rw heard (changed-kept table s j o arrived t (Am m) x inv refl space (λ u h. update-other o t _ u h) place refl
+        let heard : noteFrame o (Am m) ≡ arrived = rw (authorised runs) in
+        rw heard (changed-kept table s j o arrived t (recordOf (Am m)) x inv (other-train (Am m)) space (λ u h. update-other o t _ u h) place refl
         (valid-arrival s (inv .valid-state) t (n .known) (n .short) runs)
         (record {
           seen = update-own o t _ ∙ rw (n .to);
@@ -149,7 +152,7 @@ module _ (table : List ℕ) (s : State) (j : List Record) (o : Observer) (inv : 
       let v = inv .each t known in
       let same : changed s t (trainOf s t) (s .logged + 1) ≡ oneLogged s = rw (set-getD (s .fleet) t noTrain) in
       subst (λ (z : State). Invariant table z (set j (s .logged) (recordOf (Afe m))) o) same
-      (changed-kept table s j o o t (Afe m) (trainOf s t) inv refl room (λ u h. refl)
+      (changed-kept table s j o o t (recordOf (Afe m)) (trainOf s t) inv (other-train (Afe m)) room (λ u h. refl)
       (in-fleet s t (λ y. isAsked (y .status)) refl asks) refl
       (subst Consistent (sym same) (valid-logged s (inv .valid-state)))
       (record {

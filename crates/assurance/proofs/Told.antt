@@ -13,7 +13,7 @@ use Rattle.line.specs.Holding.{Whereabouts, moving, standing, holdsPost, holdsS
 use Rattle.rules.specs.declared.state.Status.{Status}
 use Rattle.rules.specs.declared.state.Status.the-variants.{Free, Asked, Running}
 use Rattle.rules.specs.declared.state.Train.{Train}
-use Rattle.rules.specs.State.{isFree, isAsked, isRunning, nextOf, trainOf, lineOf, located as recorded}
+use Rattle.rules.specs.State.{isFree, isAsked, isRunning, nextOf, trackAt, trainOf, lineOf, located as recorded}
 use Rattle.rules.specs.State.{reached}
 use Rattle.rules.proofs.Trains.{route-of}
 use Rattle.rules.proofs.Validity.{one-holder}
@@ -21,10 +21,12 @@ use Rattle.assurance.specs.Types.{Record, State}
 use Rattle.assurance.specs.Run.{Ran}
 use Rattle.assurance.specs.Observer.{nothing, authority, Seen, Observer, locatedBy, locatedTold, hasAuthority}
 use Rattle.assurance.specs.Observer.{hasAsked, nextTold, reachedTold}
+use Rattle.assurance.specs.Tracks.{Tracks, trackTold}
 use Rattle.assurance.specs.WholeList.{ShortOfEnd, Unhindered, Assured}
 use Rattle.assurance.proofs.Invariant.{claimOf, seenOf, Invariant}
 use Rattle.assurance.proofs.Standstill.{goes-on}
 use Rattle.assurance.proofs.Exchanged.{Settled, valid-settled}
+use Rattle.assurance.proofs.Tracking.{TracksAgree}
 use Rattle.assurance.proofs.Ran.{AllRequested}
 
 -- ---- a claim, by a status
@@ -33,27 +35,27 @@ located-as : (w : Status) (here : Whereabouts) (p q : ℕ)
     → locatedBy here (claimOf w p q) ≡ cond (isRunning w) (moving p q) here
 located-as Free here p q = refl
 located-as (Asked n) here p q = refl
-located-as Running here p q = refl
+located-as (Running k) here p q = refl
 
 asked-as : (w : Status) (p q : ℕ) → hasAsked (claimOf w p q) ≡ isAsked w
 asked-as Free p q = refl
 asked-as (Asked n) p q = refl
-asked-as Running p q = refl
+asked-as (Running k) p q = refl
 
 authority-as : (w : Status) (p q : ℕ) → hasAuthority (claimOf w p q) ≡ isRunning w
 authority-as Free p q = refl
 authority-as (Asked n) p q = refl
-authority-as Running p q = refl
+authority-as (Running k) p q = refl
 
 claim-move : (w : Status) (a b p q : ℕ) → claimOf w a b ≡ authority p q → (p ≡ a) × (q ≡ b)
 claim-move Free a b p q e = absurd (let z : _≡_ {A = ℕ} 0 1 = cc in omega arith)
 claim-move (Asked n) a b p q e = absurd (let z : _≡_ {A = ℕ} 0 1 = cc in omega arith)
-claim-move Running a b p q e = (cc, cc)
+claim-move (Running k) a b p q e = (cc, cc)
 
 some-claim : (w : Status) (p q : ℕ) → claimOf w p q ≢ nothing → isFree w ≡ false
 some-claim Free p q h = absurd (h refl)
 some-claim (Asked n) p q h = refl
-some-claim Running p q h = refl
+some-claim (Running k) p q h = refl
 
 -- ---- each train, by its record
 
@@ -103,9 +105,9 @@ module _ (table : List ℕ) (s : State) (j : List Record) (o : Observer) (inv : 
 
 -- ---- the claim over a list
 
-module _ (table : List ℕ) (r : Ran) (o : Observer) (k : Settled table (r .state) (r .journal) o) where
+module _ (table : List ℕ) (r : Ran) (o : Observer) (settled : Settled table (r .state) (r .journal) o) where
   abbrev inv : Invariant table (r .state) (r .journal) o
-  inv = k .kept
+  inv = settled .kept
 
   onward-move : (t p q : ℕ) → t < r .state .trains → o t .claim ≡ authority p q
       → (p ≡ o t .post) × (q ≡ nextTold (lineOf (r .state)) o t)
@@ -123,11 +125,11 @@ module _ (table : List ℕ) (r : Ran) (o : Observer) (k : Settled table (r .stat
       inv .valid-state .each t kt .busy (some-claim (trainOf s t .status) _ _ (λ q. some (same ∙ q)))
       (sym here ∙ e ∙ rw (route-of s t))
 
-  not-waiting : (t : ℕ) → t < r .state .trains → ShortOfEnd (lineOf (r .state)) o t → Unhindered (lineOf (r .state)) o
+  pub not-waiting : (t : ℕ) → t < r .state .trains → ShortOfEnd (lineOf (r .state)) o t → Unhindered (lineOf (r .state)) o
   not-waiting t kt short =
       let s = r .state in
       let g =
-      goes-on table s (inv .valid-state) (inv .right) (inv .completable) (k .nobody) t kt
+      goes-on table s (inv .valid-state) (inv .right) (inv .completable) (settled .nobody) t kt
       (λ e. short (at-post table _ _ o inv t kt ∙ e ∙ rw (route-of s t))) in
       record {
         train = g .0;
@@ -136,8 +138,13 @@ module _ (table : List ℕ) (r : Ran) (o : Observer) (k : Settled table (r .stat
         unasked = asked-told table _ _ o inv (g .0) (g .1) ∙ g .3;
       }
 
-  pub assured : AllRequested r → Assured (lineOf (r .state)) r o
-  assured requested =
+  -- its tracks are those of the records
+  track-told : (k : Tracks) → TracksAgree (r .state) k → (p t : ℕ) → t < r .state .trains
+      → trackTold o k t p ≡ trackAt (trainOf (r .state) t) p
+  track-told k h p t kt = rw (seen table (r .state) (r .journal) o inv t kt, h .each t kt)
+
+  pub assured : AllRequested r → (k : Tracks) → TracksAgree (r .state) k → Assured (lineOf (r .state)) r o k
+  assured requested k h =
       let s = r .state in
       let told = told table s (r .journal) o inv in
       record {
@@ -145,6 +152,10 @@ module _ (table : List ℕ) (r : Ran) (o : Observer) (k : Settled table (r .stat
             one-holder s (inv .valid-state) i t u kt ku (rw (told t kt) at p) (rw (told u ku) at q);
         posts = λ p kp.
             rw (posts-told table s (r .journal) o inv p) (inv .valid-state .posts p kp);
+        tracks = λ p t u kp kt ku a b e. inv .valid-state .differ p t u kp kt ku
+            (rw (told t kt) at a) (rw (told u ku) at b) (sym (track-told k h p t kt) ∙ e ∙ track-told k h p u ku);
+        tracks-of-post = λ p t kp kt a.
+            rw (track-told k h p t kt) (inv .valid-state .tracks p t kp kt (rw (told t kt) at a));
         moves = onward-move;
         short = short-of-end;
         requests = requested;
@@ -152,5 +163,5 @@ module _ (table : List ℕ) (r : Ran) (o : Observer) (k : Settled table (r .stat
         authorities-given = λ t kt. inv .each t kt .authorities;
         authorities-seen = λ t kt.
             inv .each t kt .authorities ∙ sym (reached-told table _ _ o inv t kt);
-        valid-state = valid-settled k;
+        valid-state = valid-settled settled;
       }

@@ -15,7 +15,7 @@ use Rattle.line.specs.Book.{lineIn}
 use Rattle.frame.specs.Frame.{readFrame}
 use Rattle.journal.specs.Journal.{journalLength}
 use Rattle.completion.specs.Table.{filled}
-use Rattle.rules.specs.declared.state.Status.the-variants.{Asked, Running}
+use Rattle.rules.specs.declared.state.Status.the-variants.{Asked}
 use Rattle.rules.specs.State.{isAsked, trainOf, lineOf, nextMove, withStatus, arrivedNext}
 use Rattle.rules.specs.Granting.{Work, granted, settled}
 use Rattle.rules.specs.Answer.{taken, declined, accepted, Answer, answer}
@@ -23,7 +23,7 @@ use Rattle.rules.specs.Opening.{openedState}
 use Rattle.rules.proofs.Trains.{changed-line}
 use Rattle.rules.proofs.Changes.{grantable-facts, short-place}
 use Rattle.rules.proofs.Oldest.{earlier}
-use Rattle.rules.proofs.Grants.{Turn, grants-keep, granted-place, granted-line}
+use Rattle.rules.proofs.Grants.{granting, Turn, grants-keep, granted-place, granted-line}
 use Rattle.rules.proofs.Acceptance.{Taken, request, arrival, by-verdict, accepted-facts}
 use Rattle.assurance.specs.Types.{Line, Move, Message, Fa, Fe, Afe, Am, Record, State}
 use Rattle.assurance.specs.Run.{Input, run}
@@ -90,7 +90,7 @@ module _ (table : List ℕ) (c : ℕ) (j : List Record) (o : Observer) (long : j
     granted-turned = record {
       worked = granted-worked table c j o long w t (h .worked) f;
       line = granted-line table w t f ∙ h .line;
-      ordered = no-more-asked s t (withStatus (trainOf s t) Running) (s .logged + 1) n k (granted-place table w t f)
+      ordered = no-more-asked s t (granting s t) (s .logged + 1) n k (granted-place table w t f)
           refl (h .ordered);
       given = given-more l k o (w .sent) (Fe (nextMove s t)) (h .given) (λ m e.
           let same : m ≡ nextMove s t = cc in
@@ -137,7 +137,7 @@ module _ (table : List ℕ) (s : State) (j : List Record) (o : Observer) (inv : 
       }))
   accepted-turned a (arrival m q runs) =
       let t = m .train .0 in
-      let x = arrivedNext (trainOf s t) in
+      let x = arrivedNext (s .sidings) (trainOf s t) in
       let w = taken s (Am m) x in
       let later : InOrder s (n + 1) k =
       record { before = λ u ku e. omega (arith, h .before u ku e); order = h .order } in

@@ -71,10 +71,11 @@ accepted-same table s u a d b (request m n free idle) =
     declined-same m _ _ (settled-same table s u a (Fa m) x y same v (n .known) (n .short))
     (rw (ap (λ (l : Line). l .trains) line) (n .known))
 accepted-same table s u a d b (arrival m n runs) =
-    let x = arrivedNext (trainOf s (m .train .0)) in
-    let y = arrivedNext (trainOf u (m .train .0)) in
+    let x = arrivedNext (s .sidings) (trainOf s (m .train .0)) in
+    let y = arrivedNext (u .sidings) (trainOf u (m .train .0)) in
+    let same : y ≡ x = rw (a .sidings, a .train (m .train .0) (n .known)) in
     let v = valid-arrival s d (m .train .0) (n .known) (n .short) runs in
-    settled-same table s u a (Am m) x y (ap arrivedNext (a .train (m .train .0) (n .known))) v (n .known) (n .short)
+    settled-same table s u a (Am m) x y same v (n .known) (n .short)
 
 answered-same : (s u : State) (journal : List Record) (out : List ℕ) (w v : Work) → Alike s u → SameWork w v
     → SameAnswer (answered (s .logged) journal out w) (answered (u .logged) journal out v)
@@ -161,7 +162,7 @@ accepted-kept table s b (request m n free idle) =
     declined-kept s m (settled table w)
     (settled-kept table s w (own-kept s m n _ refl))
 accepted-kept table s b (arrival m n runs) =
-    settled-kept table s (taken s (Am m) (arrivedNext (trainOf s (m .train .0))))
+    settled-kept table s (taken s (Am m) (arrivedNext (s .sidings) (trainOf s (m .train .0))))
     (own-kept s m n _ refl)
 
 pub left-alone : LeftAlone

@@ -11,9 +11,11 @@ use Rattle.completion.specs.Configuration.{Agree, moved}
 use Rattle.completion.specs.Table.{filled}
 use Rattle.completion.proofs.Agreement.{completable-cong, moved-cong}
 use Rattle.rules.specs.declared.state.Train.{Train}
-use Rattle.rules.specs.State.{trainOf, nextOf, lineOf, reached}
+use Rattle.rules.specs.State.{isAsked, trainOf, nextOf, lineOf, reached}
 use Rattle.rules.specs.Granting.{grantable}
 use Rattle.rules.specs.Opening.{Opening, openedState}
+use Rattle.rules.proofs.Validity.{next-post-below, asked-short}
+use Rattle.rules.proofs.FreeTrack.{free-fewer, fewer-free}
 use Rattle.rules.proofs.Changes.{grantable-facts, is-grantable}
 use Rattle.rules.proofs.Reached.{moved-within}
 use Rattle.assurance.specs.Types.{Line, Record, State}
@@ -36,6 +38,10 @@ module _ (table : List ℕ) (s : State) (j : List Record) (o : Observer) (inv : 
     abbrev x : Train
     x = trainOf s t
 
+    below : isAsked (x .status) ≡ true → nextOf x < s .posts
+    below asks =
+        next-post-below s (inv .valid-state) t kt (asked-short s (inv .valid-state) t kt asks)
+
     pub could-granted : CouldGo (lineOf s) o t → grantable table s t ≡ true
     could-granted c =
         let here = at-post table s j o inv t kt in
@@ -44,7 +50,8 @@ module _ (table : List ℕ) (s : State) (j : List Record) (o : Observer) (inv : 
         is-grantable table s t (record {
           asks = sym (asked-told table s j o inv t kt) ∙ c .asks;
           section = sym holders ∙ rw (next, here) at (c .section);
-          post = rw (← posts-told table s j o inv (nextOf x)) (rw next at (c .post));
+          track = fewer-free s (inv .valid-state) (nextOf x) (below (sym (asked-told table s j o inv t kt) ∙ c .asks)) t
+              (rw (← posts-told table s j o inv (nextOf x)) (rw next at (c .post)));
           bit = inv .right .full (moved (reached s) t)
               (completable-cong (lineOf s) _ _ (same-moved t kt) (c .completable));
         })
@@ -58,7 +65,8 @@ module _ (table : List ℕ) (s : State) (j : List Record) (o : Observer) (inv : 
         record {
           asks = asked-told table s j o inv t kt ∙ g .asks;
           section = rw (next, here, holders) (g .section);
-          post = rw (next, posts-told table s j o inv (nextOf x)) (g .post);
+          post = rw (next, posts-told table s j o inv (nextOf x))
+              (free-fewer s (inv .valid-state) (nextOf x) (below (g .asks)) t (g .track));
           completable = completable-cong (lineOf s) (moved (reached s) t) (moved (reachedTold (lineOf s) o) t)
               (λ u ku. sym (same-moved t kt u ku))
               (inv .right .sound (moved (reached s) t) (moved-within s (inv .valid-state) t kt (g .asks)) (g .bit));

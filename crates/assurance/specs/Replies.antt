@@ -7,10 +7,11 @@ use mathlib.Core.List.{List, [], _∷_, _++_, map, List·Memᴰ}
 use Prim.Native.Nat.{ℕ, _+_, _*_, _<_}
 use lib.ListN.{take, drop}
 use Rattle.frame.specs.Frame.{readFrame}
-use Rattle.journal.specs.Journal.{recordOf}
-use Rattle.rules.specs.State.{isAsked, trainOf, nextMove}
+use Rattle.journal.specs.Journal.{recordOf, withoutTrack, Tracked}
+use Rattle.rules.specs.State.{isAsked, trainOf, lineOf, nextMove}
 use Rattle.rules.specs.Answer.{Answer, answer}
 use Rattle.assurance.specs.Types.{Move, Message, Fa, Fe, Afe, Am, Record, State, Verdict, Sent, RefusedBy}
+use Rattle.assurance.specs.Run.{newRecords}
 use Rattle.assurance.specs.Observer.{readFrames}
 
 -- the next move of a train that waits: it was Asked in s, or asks by the frame a itself
@@ -34,7 +35,7 @@ pub data Reply (s : State) : Message → List Message → Type 0 where
       → ((q : Move) → List·Memᴰ (Fe q) answers → q .train .0 ≢ m .train .0) → Reply s (Fa m) (answers ++ Afe m ∷ [])
   arrived : (m : Move) (answers : List Message) → Authorities s (Am m) answers → Reply s (Am m) answers
 
--- the records of one exchange: "An accepted frame is logged, then each answer in order of sending."
+-- the records of one exchange, but for the tracks: "An accepted frame is logged, then each answer in order of sending."
 abbrev pub loggedBy : Verdict → List ℕ → List ℕ → List Record
 loggedBy (RefusedBy n) frame out = []
 loggedBy (Sent n) frame out = map recordOf (readFrame frame ∷ readFrames n out)
@@ -45,8 +46,10 @@ pub record OnlyAdded (s : State) (journal : List Record) (frame out : List ℕ) 
   pub rest : drop (7 * n) (a .out) ≡ drop (7 * n) out
   pub count : a .state .logged ≡ s .logged + (1 + n)
   -- the records that were there, the new ones, and "Records past the count are untouched."
-  pub records : a .journal
-      ≡ take (s .logged) journal ++ loggedBy (Sent n) frame (a .out) ++ drop (a .state .logged) journal
+  pub records : a .journal ≡ take (s .logged) journal ++ newRecords s a ++ drop (a .state .logged) journal
+  pub logged : map withoutTrack (newRecords s a) ≡ loggedBy (Sent n) frame (a .out)
+  -- "The FE record gains the track number at the post run to, from 1; other records have 0 there."
+  pub tracked : (r : Record) → List·Memᴰ r (newRecords s a) → Tracked (lineOf s) r
 
 pub record Replies : Type 0 where
   pub reply : (s : State) (table : List ℕ) (journal : List Record) (frame out : List ℕ) (n : ℕ)

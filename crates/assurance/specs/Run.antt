@@ -2,7 +2,8 @@
 -- out buffer. The first frame gets the state, table and journal that an accepted opening left. Each later one gets them
 -- as the frame before it, accepted or refused, left them".
 use mathlib.Core.List.{List, [], _∷_}
-use Prim.Native.Nat.{ℕ}
+use Prim.Native.Nat.{ℕ, _-_}
+use lib.ListN.{take, drop}
 use Rattle.rules.specs.Answer.{Answer, answer}
 use Rattle.assurance.specs.Types.{Record, State, Verdict}
 
@@ -11,19 +12,25 @@ pub record Input : Type 0 where
   pub frame : List ℕ
   pub out : List ℕ
 
--- what the outside sees of it: the frame, the verdict, and the out buffer afterwards
+-- what the outside sees of it: the frame, the verdict, the out buffer afterwards, and the records that were written for
+-- it. The observer hears of the records for its tracks alone.
 pub record Exchange : Type 0 where
   pub frame : List ℕ
   pub verdict : Verdict
   pub out : List ℕ
+  pub records : List Record
 
 pub record Ran : Type 0 where
   pub state : State
   pub journal : List Record
   pub exchanges : List Exchange
 
-abbrev pub exchange : Input → Answer → Exchange
-exchange i a = record { frame = i .frame; verdict = a .verdict; out = a .out }
+-- the records that an answer adds to those that the state counted
+abbrev pub newRecords : State → Answer → List Record
+newRecords s a = take (a .state .logged - s .logged) (drop (s .logged) (a .journal))
+
+abbrev pub exchange : State → Input → Answer → Exchange
+exchange s i a = record { frame = i .frame; verdict = a .verdict; out = a .out; records = newRecords s a }
 
 -- the table is only read
 unfoldable pub run : List ℕ → State → List Record → List Input → Ran
@@ -31,7 +38,7 @@ run table s journal [] = record { state = s; journal = journal; exchanges = [] }
 run table s journal (i ∷ is) =
     let a = answer s table journal (i .frame) (i .out) in
     let r = run table (a .state) (a .journal) is in
-    record { state = r .state; journal = r .journal; exchanges = exchange i a ∷ r .exchanges }
+    record { state = r .state; journal = r .journal; exchanges = exchange s i a ∷ r .exchanges }
 
 -- the answer to one frame more, after a run with that table
 abbrev pub answerAfter : List ℕ → Ran → List ℕ → List ℕ → Answer

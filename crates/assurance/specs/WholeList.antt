@@ -9,7 +9,7 @@ use Prim.Native.Nat.{ℕ, _≤_, _<_}
 use lib.Dec.{eqb}
 use Rattle.common.specs.Below.{countBelow}
 use Rattle.line.specs.Line.{routeOf, tracksAt}
-use Rattle.line.specs.Holding.{holdsSection, postHolders}
+use Rattle.line.specs.Holding.{holdsPost, holdsSection, postHolders}
 use Rattle.line.specs.Book.{lineIn}
 use Rattle.frame.specs.Frame.{FE, bytesOf}
 use Rattle.journal.specs.Journal.{frameOf, recordAt}
@@ -20,6 +20,7 @@ use Rattle.assurance.specs.Types.{Line, Move, Fa, Fe, Record}
 use Rattle.assurance.specs.Run.{Input, Exchange, Ran, run}
 use Rattle.assurance.specs.Observer.{nothing, authority, Observer, atOpening, answersOf, observe, locatedTold}
 use Rattle.assurance.specs.Observer.{hasAsked, nextTold, reachedTold}
+use Rattle.assurance.specs.Tracks.{Tracks, tracksAtOpening, observeTracks, trackTold}
 
 -- "An authority written, that is an FE, has its logged request if, below the journal count, the journal has that FE
 -- and, at a lower number, an FA of the same train, from and to."
@@ -49,12 +50,18 @@ pub record Unhindered (l : Line) (o : Observer) : Type 0 where
   pub short : ShortOfEnd l o train
   pub unasked : hasAsked (o train .claim) ≡ false
 
-pub record Assured (l : Line) (r : Ran) (o : Observer) : Type 0 where
+pub record Assured (l : Line) (r : Ran) (o : Observer) (k : Tracks) : Type 0 where
   -- "no section has two holders"
   pub sections : (i t u : ℕ) → t < l .trains → u < l .trains → holdsSection (locatedTold l o t) i ≡ true
       → holdsSection (locatedTold l o u) i ≡ true → t ≡ u
   -- "no post is held by more trains than it has tracks"
   pub posts : (p : ℕ) → p < l .posts → postHolders (l .trains) (locatedTold l o) p ≤ tracksAt l p
+  -- "no track has two trains", and each that is held is one of its post's
+  pub tracks : (p t u : ℕ) → p < l .posts → t < l .trains → u < l .trains
+      → holdsPost (locatedTold l o t) p ≡ true → holdsPost (locatedTold l o u) p ≡ true
+      → trackTold o k t p ≡ trackTold o k u p → t ≡ u
+  pub tracks-of-post : (p t : ℕ) → p < l .posts → t < l .trains → holdsPost (locatedTold l o t) p ≡ true
+      → (1 ≤ trackTold o k t p) × (trackTold o k t p ≤ tracksAt l p)
   -- an authority is for the move from the train's post to its next one, so that the section between them is one
   pub moves : (t p q : ℕ) → t < l .trains → o t .claim ≡ authority p q
       → (p ≡ o t .post) × (q ≡ nextTold l o t)
@@ -81,3 +88,4 @@ WholeList = (book table : List ℕ) (journal : List Record) (inputs : List Input
     → let l = lineIn book in
     let r = run (o .table) (o .state) journal inputs in
     Assured l r (observe (atOpening l) (r .exchanges))
+    (observeTracks l (atOpening l) (tracksAtOpening l) (r .exchanges))

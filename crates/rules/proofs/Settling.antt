@@ -8,7 +8,7 @@ use Prim.Native.Nat.{ℕ, _+_, _≤_}
 use native.Mathlib.Omega.{arith}
 use lib.ListN.{length, length-append, length-set}
 use Rattle.frame.specs.RoundTrip.{IsMessage}
-use Rattle.journal.specs.Journal.{journalLength, recordOf, recordOn, withoutTrack, Tracked}
+use Rattle.journal.specs.Journal.{journalLength, recordOf, withoutTrack, Tracked}
 use Rattle.journal.proofs.Records.{recorded-untracked}
 use Rattle.rules.specs.Types.{Line, Message, Fe, Record, Train, State}
 use Rattle.rules.specs.State.{nextOf, trainOf, lineOf, freeTrack, nextMove}
@@ -17,8 +17,8 @@ use Rattle.rules.proofs.Trains.{changed-each}
 use Rattle.rules.proofs.Validity.{Consistent}
 use Rattle.rules.proofs.FreeTrack.{free-chosen}
 use Rattle.rules.proofs.Changes.{grantable-facts, valid-grant}
-use Rattle.rules.proofs.Grants.{askedCount, granting, Turn, grants-keep, granted-place, granted-fewer}
-use Rattle.rules.proofs.Grants.{granted-line}
+use Rattle.rules.proofs.Grants.{askedCount, granting, grantRecord, Turn, grants-keep, granted-place}
+use Rattle.rules.proofs.Grants.{granted-fewer, granted-line}
 
 pub record Settles (w v : Work) : Type 0 where
   pub line : lineOf (v .state) ≡ lineOf (w .state)
@@ -60,7 +60,7 @@ authority s t = tt
 
 -- the record of an FE has a track of the post that its train runs to
 granted-tracked : (s : State) (t : ℕ) → freeTrack s t (nextOf (trainOf s t)) ≢ 0
-    → Tracked (lineOf s) (recordOn (freeTrack s t (nextOf (trainOf s t))) (Fe (nextMove s t)))
+    → Tracked (lineOf s) (grantRecord s t)
 unfolding recordOf
 granted-tracked s t h = record {
   given = λ e. (omega arith, free-chosen s t (nextOf (trainOf s t)) .few);
@@ -108,7 +108,7 @@ settles-next table w v t k f = record {
     a = Fe (nextMove (v .state) t)
 
     r : Record
-    r = recordOn (freeTrack (v .state) t (nextOf (trainOf (v .state) t))) a
+    r = grantRecord (v .state) t
 
     given : Tracked (lineOf (v .state)) r
     given = granted-tracked (v .state) t (grantable-facts table (v .state) t (f .can) .track)
