@@ -25,9 +25,13 @@ pub record Ran : Type 0 where
   pub journal : List Record
   pub exchanges : List Exchange
 
--- the records that an answer adds to those that the state counted
+-- the records of a journal from number m on and below n
+abbrev pub recordsBetween : ℕ → ℕ → List Record → List Record
+recordsBetween m n journal = take (n - m) (drop m journal)
+
+-- those that an answer adds to what the state counted
 abbrev pub newRecords : State → Answer → List Record
-newRecords s a = take (a .state .logged - s .logged) (drop (s .logged) (a .journal))
+newRecords s a = recordsBetween (s .logged) (a .state .logged) (a .journal)
 
 abbrev pub exchange : State → Input → Answer → Exchange
 exchange s i a = record { frame = i .frame; verdict = a .verdict; out = a .out; records = newRecords s a }

@@ -21,8 +21,9 @@ use Rattle.rules.specs.Answer.{frameChecks, accepted, answered, refused, answer
 use Rattle.rules.specs.Valid.{consistent, valid}
 use Rattle.rules.specs.Opening.{Opening, emptyState, openingWith, opening}
 use Rattle.rules.proofs.Acceptance.{by-content}
-use Rattle.assurance.specs.Run.{Input, Exchange, Ran, exchange, run}
+use Rattle.assurance.specs.Run.{Input, Exchange, Ran, recordsBetween, exchange, run}
 use Rattle.assurance.specs.Observer.{atOpening, observe}
+use Rattle.assurance.specs.Tracks.{tracksAtOpening, observeTracks}
 use Rattle.assurance.specs.WholeList.{Assured}
 use Rattle.assurance.proofs.WholeList.{whole-list}
 use Rattle.encoding.specs.StateBytes.{stateLength, encodesState, stateIn}
@@ -102,6 +103,13 @@ calls-rest table (i ∷ is) state journal h =
     ∙ ap (λ (b : List ℕ). withRecords b new) first
     ∙ with-again journal (a .journal) size new
 
+-- an exchange by its parts, the last of them the records that a call added
+abbrev exchangeWith : Input → Verdict → List ℕ → List Record → Exchange
+exchangeWith i v out records = record { frame = i .frame; verdict = v; out = out; records = records }
+
+abbrev added : List ℕ → AnswerCall → List Record
+added state c = recordsBetween (stateIn state .logged) (stateIn (c .state) .logged) (recordsIn (c .journal))
+
 -- one exchange more
 abbrev more : Exchange → Ran → Ran
 more e r = record { state = r .state; journal = r .journal; exchanges = e ∷ r .exchanges }
@@ -114,15 +122,23 @@ calls-run table (i ∷ is) state journal h =
     let c = answerCall state table journal (i .frame) (i .out) in
     let a = ruled state table journal (i .frame) (i .out) in
     let left = handed-on .answered state table journal (i .frame) (i .out) h in
-    let seen : exchangeOf i c ≡ exchange i a =
-    ap (λ (d : AnswerCall). exchangeOf i d) (call-is state table journal (i .frame) (i .out) h)
-    ∙ ap (λ (v : Verdict). record { frame = i .frame; verdict = v; out = a .out })
-    (verdict-read (stateIn state) table (recordsIn journal) (i .frame) (i .out)) in
+    let before = stateIn state .logged in
+    let last : c .out ≡ a .out = ap (λ (d : AnswerCall). d .out) (call-is state table journal (i .frame) (i .out) h) in
+    let seen : exchangeOf state i c ≡ exchange (stateIn state) i a =
+    ap (λ (d : AnswerCall). exchangeWith i (verdictIn (d .answer)) (c .out) (added state c))
+    (call-is state table journal (i .frame) (i .out) h)
+    ∙ ap (λ (v : Verdict). exchangeWith i v (c .out) (added state c))
+    (verdict-read (stateIn state) table (recordsIn journal) (i .frame) (i .out))
+    ∙ ap (λ (z : List ℕ). exchangeWith i (a .verdict) z (added state c)) last
+    ∙ ap (λ (s : State). exchangeWith i (a .verdict) (a .out)
+    (recordsBetween before (s .logged) (recordsIn (c .journal)))) (left .state .is)
+    ∙ ap (λ (k : List Record). exchangeWith i (a .verdict) (a .out) (recordsBetween before (a .state .logged) k))
+    (left .journal) in
     let rest : decoded (calls table (c .state) (c .journal) is) ≡ run table (a .state) (a .journal) is =
     calls-run table is (c .state) (c .journal) (left .state .encodes)
     ∙ ap (λ (s : State). run table s (recordsIn (c .journal)) is) (left .state .is)
     ∙ ap (λ (k : List Record). run table (a .state) k is) (left .journal) in
-    ap (more (exchangeOf i c)) rest ∙ ap (λ (e : Exchange). more e (run table (a .state) (a .journal) is)) seen
+    ap (more (exchangeOf state i c)) rest ∙ ap (λ (e : Exchange). more e (run table (a .state) (a .journal) is)) seen
 
 -- ---- after an opening
 
@@ -172,7 +188,11 @@ opened book state table journal inputs e =
       encodes = calls-encode _ inputs _ journal start;
       same = same;
       rest = calls-rest _ inputs _ journal start;
-      assured = subst (λ (r : Ran). Assured l r (observe (atOpening l) (r .exchanges))) (sym same)
+      assured = subst
+          (λ (r : Ran).
+          Assured l r (observe (atOpening l) (r .exchanges))
+          (observeTracks l (atOpening l) (tracksAtOpening l) (r .exchanges)))
+          (sym same)
           (whole-list book table (recordsIn journal) inputs (opens book state table journal e));
     }
 

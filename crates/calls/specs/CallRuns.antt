@@ -11,8 +11,9 @@ use lib.Dec.{eqb}
 use Rattle.line.specs.Refusal.{strangeState}
 use Rattle.line.specs.Book.{lineIn}
 use Rattle.rules.specs.Opening.{opening}
-use Rattle.assurance.specs.Run.{Input, Exchange, Ran, run}
+use Rattle.assurance.specs.Run.{Input, Exchange, Ran, recordsBetween, run}
 use Rattle.assurance.specs.Observer.{atOpening, observe}
+use Rattle.assurance.specs.Tracks.{tracksAtOpening, observeTracks}
 use Rattle.assurance.specs.WholeList.{Assured}
 use Rattle.encoding.specs.StateBytes.{encodesState, stateIn}
 use Rattle.encoding.specs.JournalBytes.{recordsIn, withRecords}
@@ -24,9 +25,14 @@ use Rattle.calls.specs.BoxCalls.{openCall, AnswerCall, answerCallOf, ans
 abbrev pub verdictIn : ℕ → Verdict
 verdictIn word = cond (eqb (refusalIn word) 0) (Sent (word / 256)) (RefusedBy (refusalIn word))
 
--- a call as the outside sees it
-abbrev pub exchangeOf : Input → AnswerCall → Exchange
-exchangeOf i c = record { frame = i .frame; verdict = verdictIn (c .answer); out = c .out }
+-- a call on the bytes of a state, as the outside sees it
+abbrev pub exchangeOf : List ℕ → Input → AnswerCall → Exchange
+exchangeOf state i c = record {
+  frame = i .frame;
+  verdict = verdictIn (c .answer);
+  out = c .out;
+  records = recordsBetween (stateIn state .logged) (stateIn (c .state) .logged) (recordsIn (c .journal));
+}
 
 -- the bytes that a list of calls leaves, and what was seen
 pub record Called : Type 0 where
@@ -40,7 +46,7 @@ calls table state journal [] = record { state = state; journal = journal; exchan
 calls table state journal (i ∷ is) =
     let c = answerCall state table journal (i .frame) (i .out) in
     let r = calls table (c .state) (c .journal) is in
-    record { state = r .state; journal = r .journal; exchanges = exchangeOf i c ∷ r .exchanges }
+    record { state = r .state; journal = r .journal; exchanges = exchangeOf state i c ∷ r .exchanges }
 
 -- the bytes as a state and a journal
 abbrev pub decoded : Called → Ran
@@ -56,7 +62,9 @@ pub record AsRun (book table journal : List ℕ) (inputs : List Input) (c : Call
   -- the bytes past the journal's last whole record are those that were lent
   pub rest : c .journal ≡ withRecords journal (recordsIn (c .journal))
   -- so that demand 3 holds of it
-  pub assured : let l = lineIn book in Assured l (decoded c) (observe (atOpening l) (c .exchanges))
+  pub assured : let l = lineIn book in
+      Assured l (decoded c) (observe (atOpening l) (c .exchanges))
+      (observeTracks l (atOpening l) (tracksAtOpening l) (c .exchanges))
 
 pub record CallRuns : Type 0 where
   -- quangevit_open that answers 0, then any list of calls
