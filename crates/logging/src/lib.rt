@@ -13,5 +13,6 @@ pub use log::log_length;
 pub use log::log_with;
 pub use record::frame_of;
 pub use record::record_of;
+pub use record::record_on;
 pub use writing::append;
 pub use writing::fitting;

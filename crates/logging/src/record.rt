@@ -1,6 +1,6 @@
 // The record of a message, and the frame of a record.
 ghost use mathlib.Core.Path.{_≡_};
-ghost use Rattle.journal.specs.Journal.{blank, recordWith, recordOf, frameOf};
+ghost use Rattle.journal.specs.Journal.{blank, recordWith, recordOf, recordOn, frameOf};
 use frame::AFE;
 use frame::AM;
 use frame::FA;
@@ -10,6 +10,7 @@ use frame::Message;
 use frame::Move;
 use journal::Record;
 use line::PostNo;
+use line::TrackNo;
 use line::TrainNo;
 
 // No record: all 0.
@@ -21,6 +22,7 @@ pub fn blank() -> Record
         train: TrainNo(0),
         from: PostNo(0),
         to: PostNo(0),
+        track: TrackNo(0),
     }
 }
 
@@ -37,6 +39,23 @@ pub fn record_of(message: Message) -> Record
     }
 }
 
+// The same, with the track that its train gets.
+pub fn record_on(message: Message, track: TrackNo) -> Record
+    ensures { λ r. ⌜ r ≡ recordOn (track .0) message ⌝ }
+{
+    let entry = record_of(message);
+    let train = entry.train;
+    let from = entry.from;
+    let to = entry.to;
+    Record {
+        kind: entry.kind,
+        train,
+        from,
+        to,
+        track,
+    }
+}
+
 fn of_kind(kind: u8, m: Move) -> Record
     ensures { λ r. ⌜ r ≡ recordWith kind m ⌝ }
 {
@@ -48,6 +67,7 @@ fn of_kind(kind: u8, m: Move) -> Record
         train,
         from,
         to,
+        track: TrackNo(0),
     }
 }
 

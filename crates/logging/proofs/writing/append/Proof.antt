@@ -97,7 +97,7 @@ word = tyInt w64
 
 -- the bytes of a record in memory
 abbrev recordSize : ℕ
-recordSize = 4
+recordSize = 5
 
 -- the contracts of the two callees
 module _ {M : Type 1} (𝓤 : URA M) (H : Heap 𝓤) (A : Atoms 𝓤) (mem : Memory → SProp 𝓤) (run : Routine → Fun 𝓤) where
@@ -303,7 +303,7 @@ module _ {M : Type 1} (𝓤 : URA M) (H : Heap 𝓤) (A : Atoms 𝓤) (W : Given
           use1 W (raw (fact 𝓤 (r ≡ recordAt (h .items) k))) (nth-says k r) $ heard ! (r ≡ recordAt (h .items) k) (λ e.
           split ! $ drop ! $ peeks ! R.the-row (Is R.the-row) (shows 𝓤 H A R.the-row) r (v ∷ []) (λ ok.
           land ! (from ! (stop !)) (init ! 11 refl (typed r v ok)) $
-          -- _9 = _2 + _5, _10 = _9 * 4, _11 = _1.0 offset by _10: [what r owns; the row; the open borrow; two facts;
+          -- _9 = _2 + _5, _10 = _9 * 5, _11 = _1.0 offset by _10: [what r owns; the row; the open borrow; two facts;
           -- _11; …]
           assigns ! (bin ! (load ! (from ! (stop !)) (look ! 23 refl)) (load ! (from ! (stop !)) (look ! 17 refl))
           (record { fits = omega (arith, room .0) })) (from ! (stop !))
