@@ -82,11 +82,19 @@ kind-length k =
     (λ g. by-cases (eqb k 4) (λ h. rw (e, f, g, h) (omega arith)) (λ h. rw (e, f, g, h) (omega arith)))))
 
 pub record-fits : (n : ℕ) (r : Record) → n < 2 ^ 8 → r .train .0 < 2 ^ 8 → r .from .0 < 2 ^ 8 → r .to .0 < 2 ^ 8
-    → length (recordLine n r) ≤ recordLineLength
-record-fits n r h₀ h₁ h₂ h₃ =
+    → r .track .0 < 2 ^ 8 → length (recordLine n r) ≤ recordLineLength
+record-fits n r h₀ h₁ h₂ h₃ h₄ =
     let d : (k : ℕ) → k < 2 ^ 8 → length (decimal k) ≤ 3 = λ k h. decimal-length 20 k 3 (omega arith) (lit< tt) in
     simp length-append
-    (omega (arith, kind-length (r .kind), d n h₀, d (r .train .0) h₁, d (r .from .0) h₂, d (r .to .0) h₃))
+    (omega (
+      arith,
+      kind-length (r .kind),
+      d n h₀,
+      d (r .train .0) h₁,
+      d (r .from .0) h₂,
+      d (r .to .0) h₃,
+      d (r .track .0) h₄,
+    ))
 
 pub end-fits : (logged refused : ℕ) → logged < 2 ^ 8 → refused < 2 ^ 64
     → length (endLine logged refused) ≤ endLineLength

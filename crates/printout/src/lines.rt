@@ -13,7 +13,8 @@ use frame::FA;
 use frame::FE;
 use journal::Record;
 
-// 01: "each journal record (number, kind, train, from, to)".
+// 01: "each journal record (number, kind, train, from, to)". 02, card 2: "The printed line of a
+// record ends with its track number."
 pub fn with_record(text: Text, number: u8, entry: Record) -> Text
     ensures { λ r. ⌜ r ≡ followed text (recordLine number entry) ⌝ }
     ensures { λ r. ⌜ length (recordLine number entry) ≤ recordLineLength ⌝ }
@@ -23,6 +24,7 @@ pub fn with_record(text: Text, number: u8, entry: Record) -> Text
     let text = with_spaced(text, entry.train.0 as u64);
     let text = with_spaced(text, entry.from.0 as u64);
     let text = with_spaced(text, entry.to.0 as u64);
+    let text = with_spaced(text, entry.track.0 as u64);
     with_word(text, b"\n")
 }
 

@@ -5,7 +5,7 @@ ghost use Rattle.printout.specs.Text.{textOf, textWith, followed};
 ghost use Rattle.printout.specs.Lines.{decimal};
 
 // The longest line of a record, and the longest end line.
-const RECORD_LINE_LENGTH: usize = 20;
+const RECORD_LINE_LENGTH: usize = 24;
 
 const END_LINE_LENGTH: usize = 29;
 

@@ -8,7 +8,8 @@ use Rattle.printout.proofs.lines.with_record.Tie as tie
 
 returns : tie.Need-returns
 returns c =
-    let to = c .before .before in
+    let track = c .before .before in
+    let to = track .before .before in
     let from = to .before .before in
     let train = from .before .before in
     let kind = train .before .before in
@@ -21,9 +22,11 @@ returns c =
     let k₃ = then-more (spaced (r .train .0)) k₂ (train .with-spaced .ensures) in
     let k₄ = then-more (spaced (r .from .0)) k₃ (from .with-spaced2 .ensures) in
     let k₅ = then-more (spaced (r .to .0)) k₄ (to .with-spaced3 .ensures) in
-    let range = to .before .struct-known3 .given .1 in (
-      then-more newline k₅ (c .with-word .ensures) .is,
-      record-fits (a .number) r (search needs) (range .0 .0 .fits) (range .1 .0 .0 .fits) (range .1 .1 .0 .0 .fits),
+    let k₆ = then-more (spaced (r .track .0)) k₅ (track .with-spaced4 .ensures) in
+    let range = track .before .struct-known4 .given .1 in (
+      then-more newline k₆ (c .with-word .ensures) .is,
+      record-fits (a .number) r (search needs) (range .0 .0 .fits) (range .1 .0 .0 .fits) (range .1 .1 .0 .0 .fits)
+          (range .1 .1 .1 .0 .0 .fits),
     )
 
 pub with-record-spec : {M : Type 1} → statement M
@@ -31,6 +34,8 @@ with-record-spec =
     tie.close
     (tie.spec
     (λ c κs. search needs)
+    (λ c κs. search needs)
+    (λ c. search needs)
     (λ c κs. search needs)
     (λ c. search needs)
     (λ c κs. search needs)
