@@ -98,7 +98,7 @@ module _ (s : State) (eight : length (s .tracks) ≡ 8) (six : length (s .fleet)
 
   pub at-standing : (t : ℕ) → t < 6 → At (stateBytes s) (trainAt t + routeLength) (standingBytes (trainOf s t))
   at-standing t h =
-      within (at-train t h) (bytes-at {n = routeLength} (refl, (refl, (refl, tt)))) (omega arith) (omega arith)
+      within (at-train t h) (bytes-at {n = routeLength} (refl, (refl, (refl, (refl, tt))))) (omega arith) (omega arith)
 
   pub at-logged : getD (stateBytes s) loggedAt 0 ≡ s .logged
   at-logged =

@@ -1,4 +1,4 @@
--- The journal as bytes: its records and the bytes past them are the buffer, and one record is replaced by its four
+-- The journal as bytes: its records and the bytes past them are the buffer, and one record is replaced by its five
 -- bytes.
 use mathlib.Core.Path.{_≡_, refl, sym, ap, _∙_}
 use mathlib.Core.List.{List, [], _++_, append-nil}
@@ -19,7 +19,7 @@ use Rattle.encoding.proofs.Parts.{At, same-place, bytes-at, at-joined, 
 
 -- a record that is read at i stands there
 record-at : (b : List ℕ) (i : ℕ) → At b i (recordBytes (recordIn b i))
-record-at b i = bytes-at (rw add-zero, (refl, (refl, (refl, tt))))
+record-at b i = bytes-at (rw add-zero, (refl, (refl, (refl, (refl, tt)))))
 
 module _ (b : List ℕ) where
   abbrev count : ℕ
@@ -57,7 +57,7 @@ module _ (b : List ℕ) where
     unfolding withRecords joined
     set-there i r h = each-set recordBytes recordLength (λ x. refl) j i r _ h
 
-    -- four bytes at the place of record i are another record there
+    -- five bytes at the place of record i are another record there
     pub with-set : (i : ℕ) (r : Record) → i < length j
         → replacedIfRoom (withRecords b j) (recordLength * i) (recordBytes r) ≡ withRecords b (set j i r)
     with-set i r h =

@@ -6,7 +6,6 @@ use mathlib.Core.List.{List}
 use Prim.Native.Nat.{ℕ, zero, suc, _+_, _<_}
 use native.Mathlib.Nat.{add-zero}
 use native.Mathlib.Omega.{arith}
-use lib.Dec.{leb}
 use lib.ListN.{length, List·getD-map}
 use borrow.Author.Tests.{eqb-true, leb-true}
 use Rattle.common.proofs.Tests.{and-left}
@@ -14,28 +13,28 @@ use Rattle.common.proofs.Below.{all-below}
 use Rattle.common.proofs.Tabulate.{length-tabulate, at-tabulate}
 use Rattle.line.specs.Line.{routeOf}
 use Rattle.line.specs.Book.{byteAt}
-use Rattle.rules.specs.State.{askedAs, noTrain, trainOf, lineOf}
+use Rattle.rules.specs.State.{noTrain, trainOf, lineOf}
 use Rattle.encoding.specs.Types.{Route, Line, Train, State}
 use Rattle.encoding.specs.Parts.{each, headParts, headBytes, tracksByte, headLength}
 use Rattle.encoding.specs.LineBytes.{routeEnds}
-use Rattle.encoding.specs.StateBytes.{statusNo, trainLength, trainBytes, trainAt}
+use Rattle.encoding.specs.StateBytes.{statusNo, detail, trainLength, trainBytes, trainAt}
 use Rattle.encoding.specs.StateBytes.{encodesStatus, encodesTrain, encodesState, statusOf, trainIn, stateIn}
 use Rattle.encoding.proofs.Parts.{At, same-place, bytes-at, at-joined, at-each}
 use Rattle.encoding.proofs.Statuses.{encoded-trains}
 
-status-only : (k n : ℕ) → encodesStatus k n ≡ true → (statusNo (statusOf k n) ≡ k) × (askedAs (statusOf k n) ≡ n)
+status-only : (k n : ℕ) → encodesStatus k n ≡ true → (statusNo (statusOf k n) ≡ k) × (detail (statusOf k n) ≡ n)
 unfolding statusOf
 status-only zero n h = (refl, sym (eqb-true n 0 h))
 status-only (suc zero) n h = (refl, refl)
-status-only (suc (suc zero)) n h = (refl, sym (eqb-true n 0 h))
+status-only (suc (suc zero)) n h = (refl, refl)
 status-only (suc (suc (suc k))) n h =
-    let few = leb-true (suc (suc (suc k))) 2 (and-left (leb (suc (suc (suc k))) 2) _ h) in absurd (omega arith)
+    let few = leb-true (suc (suc (suc k))) _ (and-left _ _ h) in absurd (omega arith)
 
 -- a train that is read at i stands there
 train-stands : (b : List ℕ) (i : ℕ) → encodesTrain b i ≡ true → At b i (trainBytes (trainIn b i))
 train-stands b i h =
-    let status = status-only (byteAt b (i + 3)) (byteAt b (i + 4)) h in
-    bytes-at (rw add-zero, (refl, (refl, (status .0, (status .1, tt)))))
+    let status = status-only (byteAt b (i + 4)) (byteAt b (i + 5)) h in
+    bytes-at (rw add-zero, (refl, (refl, (refl, (status .0, (status .1, tt))))))
 
 module _ (b : List ℕ) where
   abbrev read : State

@@ -16,12 +16,12 @@ use Rattle.common.proofs.Tabulate.{length-tabulate, at-tabulate, tabulate-cong}
 use Rattle.line.specs.Book.{byteAt}
 use Rattle.journal.specs.Journal.{blank}
 use Rattle.driver.specs.State.{phaseNo}
-use Rattle.rules.specs.State.{askedAs, noTrain, trainOf}
+use Rattle.rules.specs.State.{noTrain, trainOf}
 use Rattle.encoding.specs.Types.{Phase, Standing, Asked, Declined, Granted, UnderWay, Arrived, Unit}
 use Rattle.encoding.specs.Types.{Status, Free, AskedAs, Running, Train, State, Record}
 use Rattle.encoding.specs.Parts.{headBytes}
 use Rattle.encoding.specs.UnitBytes.{unitBytes, encodesUnit, phaseOf, unitIn}
-use Rattle.encoding.specs.StateBytes.{statusNo, trainBytes, stateParts, stateBytes, trainAt}
+use Rattle.encoding.specs.StateBytes.{statusNo, detail, trainBytes, stateParts, stateBytes, trainAt}
 use Rattle.encoding.specs.StateBytes.{encodesStatus, encodesState}
 use Rattle.encoding.specs.StateBytes.{statusOf, trainIn, tracksIn, fleetIn, stateIn}
 use Rattle.encoding.specs.JournalBytes.{recordLength, recordBytes, recordIn, recordCount, recordsIn}
@@ -82,16 +82,16 @@ unit-only b h =
 
 -- ---- statuses and trains
 
-status-back : (w : Status) → statusOf (statusNo w) (askedAs w) ≡ w
+status-back : (w : Status) → statusOf (statusNo w) (detail w) ≡ w
 unfolding statusOf
 status-back Free = refl
 status-back (AskedAs n) = refl
-status-back Running = refl
+status-back (Running k) = refl
 
-status-encodes : (w : Status) → encodesStatus (statusNo w) (askedAs w) ≡ true
+status-encodes : (w : Status) → encodesStatus (statusNo w) (detail w) ≡ true
 status-encodes Free = refl
 status-encodes (AskedAs n) = refl
-status-encodes Running = refl
+status-encodes (Running k) = refl
 
 -- a train that stands at i is read
 train-read : (b : List ℕ) (i : ℕ) (x : Train) → At b i (trainBytes x) → trainIn b i ≡ x
@@ -103,6 +103,7 @@ train-read b i x h =
       ← h .byte 2 (omega arith),
       ← h .byte 3 (omega arith),
       ← h .byte 4 (omega arith),
+      ← h .byte 5 (omega arith),
       status-back (x .status),
     )
 
@@ -152,7 +153,7 @@ module _ (s : State) (shaped : Shaped s) where
       let at = at-train s (shaped .eight) (shaped .six) in
       sym (by-trains bytes (state-length s (shaped .eight) (shaped .six)))
       ∙ below-all 6 _ (λ t h.
-      rw (← at t h .byte 3 (omega arith), ← at t h .byte 4 (omega arith)) (status-encodes (trainOf s t .status)))
+      rw (← at t h .byte 4 (omega arith), ← at t h .byte 5 (omega arith)) (status-encodes (trainOf s t .status)))
 
 module _ (b : List ℕ) (h : encodesState b ≡ true) where
   abbrev read : State
@@ -177,7 +178,13 @@ module _ (b : List ℕ) (h : encodesState b ≡ true) where
 record-read : (b : List ℕ) (i : ℕ) (r : Record) → At b i (recordBytes r) → recordIn b i ≡ r
 record-read b i r h =
     let kind : byteAt b i ≡ r .kind = rw add-zero at (sym (h .byte 0 (omega arith))) in
-    rw (kind, ← h .byte 1 (omega arith), ← h .byte 2 (omega arith), ← h .byte 3 (omega arith))
+    rw (
+      kind,
+      ← h .byte 1 (omega arith),
+      ← h .byte 2 (omega arith),
+      ← h .byte 3 (omega arith),
+      ← h .byte 4 (omega arith),
+    )
 
 module _ (b : List ℕ) (j : List Record) (size : length j ≡ recordCount (length b)) where
   record-stands : (i : ℕ) → i < length j → At (withRecords b j) (recordLength * i) (recordBytes (getD j i blank))
