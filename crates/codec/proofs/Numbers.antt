@@ -1,10 +1,10 @@
 -- Laws of statuses, phases and buttons as numbers, and of a list that a loop has filled.
 use mathlib.Core.Path.{_≡_, sym}
 use mathlib.Core.Logic.{_≢_}
-use mathlib.Core.Bool.{true, false, and-true, and-false}
+use mathlib.Core.Bool.{and-true}
 use Prim.Native.Nat.{ℕ, _≤_}
 use native.Mathlib.Omega.{arith}
-use lib.Dec.{leb}
+use lib.Dec.{eqb, leb}
 use borrow.Author.Tests.{ne-eqb, lt-ltb}
 use Rattle.common.specs.Tabulate.{tabulate, padded}
 use Rattle.common.proofs.Tabulate.{tabulate-cong}
@@ -18,18 +18,15 @@ unfolding padded
 padded-all n f d = tabulate-cong n _ f (λ i h. rw (lt-ltb i n h))
 
 module _ (k n : ℕ) where
-  pub running : 2 ≤ k → Running ≡ statusOf k n
+  pub running : 2 ≤ k → Running (record { 0 = n }) ≡ statusOf k n
   unfolding statusOf
   running h = rw (ne-eqb k 0 (λ e. omega arith), ne-eqb k 1 (λ e. omega arith))
 
-  pub asked-number : k ≡ 1 → true ≡ encodesStatus k n
-  asked-number e = rw e
+  pub free-status : k ≡ 0 → eqb n 0 ≡ encodesStatus k n
+  free-status e = rw e
 
-  pub no-number : k ≢ 1 → n ≢ 0 → false ≡ encodesStatus k n
-  no-number h e = rw (ne-eqb k 1 h, ne-eqb n 0 e) (sym (and-false (leb k 2)))
-
-  pub other-status : k ≢ 1 → n ≡ 0 → leb k 2 ≡ encodesStatus k n
-  other-status h e = rw (ne-eqb k 1 h, e) (sym (and-true (leb k 2)))
+  pub other-status : k ≢ 0 → leb k 2 ≡ encodesStatus k n
+  other-status h = rw (ne-eqb k 0 h) (sym (and-true (leb k 2)))
 
 pub last-phase : (n : ℕ) → 5 ≤ n → Arrived ≡ phaseOf n
 unfolding phaseOf

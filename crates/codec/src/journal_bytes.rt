@@ -1,4 +1,4 @@
-// The journal as bytes: records of four, and writing a batch of them.
+// The journal as bytes: records of five, and writing a batch of them.
 ghost use mathlib.Core.Path.{_≡_};
 ghost use Rattle.journal.specs.Journal.{appended};
 ghost use Rattle.encoding.specs.JournalBytes.{recordBytes, recordsIn, withRecords};
@@ -6,7 +6,7 @@ use crate::placing::put;
 use journal::Batch;
 use journal::Record;
 
-pub const RECORD_LENGTH: usize = 4;
+pub const RECORD_LENGTH: usize = 5;
 
 // Writes the records of the batch from record `at` on, and nothing where they do not all fit.
 pub fn append(bytes: &mut [u8], at: usize, batch: Batch)
@@ -26,5 +26,11 @@ pub fn append(bytes: &mut [u8], at: usize, batch: Batch)
 fn record_bytes(entry: Record) -> [u8; RECORD_LENGTH]
     ensures { λ r. ⌜ r ≡ recordBytes entry ⌝ }
 {
-    [entry.kind, entry.train.0, entry.from.0, entry.to.0]
+    [
+        entry.kind,
+        entry.train.0,
+        entry.from.0,
+        entry.to.0,
+        entry.track.0,
+    ]
 }

@@ -1,4 +1,4 @@
-// A state as 42 bytes: which bytes encode one, reading it and writing it.
+// A state as 48 bytes: which bytes encode one, reading it and writing it.
 ghost use mathlib.Core.Path.{_≡_};
 ghost use Prim.Native.Nat.{_+_, _≤_};
 ghost use lib.ListN.{length};
@@ -15,12 +15,14 @@ use crate::line_bytes::ROUTE_LENGTH;
 use crate::placing::put;
 use line::PostNo;
 use line::Route;
+use line::TrackNo;
 use rules::State;
 use rules::Status;
 use rules::Train;
 
-// What a frame can change of a train: present post, status, number of its FA.
-const STANDING_LENGTH: usize = 3;
+// What a frame can change of a train: present post, track there, status, and what the status
+// carries.
+const STANDING_LENGTH: usize = 4;
 
 const TRAIN_LENGTH: usize = ROUTE_LENGTH + STANDING_LENGTH;
 
@@ -39,7 +41,7 @@ pub fn encodes_state(bytes: &[u8]) -> bool
     let mut t: usize = 0;
     while t < 6 {
         let i = HEAD_LENGTH + TRAIN_LENGTH * t;
-        if !encodes_status(bytes[i + 3], bytes[i + 4]) {
+        if !encodes_status(bytes[i + 4], bytes[i + 5]) {
             return false;
         }
         t += 1;
@@ -47,15 +49,12 @@ pub fn encodes_state(bytes: &[u8]) -> bool
     true
 }
 
-// Whether a number is a status, with 0 for the request's number where it is not Asked.
-fn encodes_status(status: u8, number: u8) -> bool
-    ensures { λ r. ⌜ r ≡ encodesStatus status number ⌝ }
+// Whether a number is a status, with 0 for what it carries where it is Free.
+fn encodes_status(status: u8, detail: u8) -> bool
+    ensures { λ r. ⌜ r ≡ encodesStatus status detail ⌝ }
 {
-    if status == 1 {
-        return true;
-    }
-    if number != 0 {
-        return false;
+    if status == 0 {
+        return detail == 0;
     }
     status <= 2
 }
@@ -108,28 +107,29 @@ fn train_in(bytes: &[u8], i: usize) -> Train
     requires { ⌜ i + trainLength ≤ length (now bytes) ⌝ }
     ensures { λ r. ⌜ r ≡ trainIn (now (bytes .entry)) i ⌝ }
 {
-    let status = status_of(bytes[i + 3], bytes[i + 4]);
+    let status = status_of(bytes[i + 4], bytes[i + 5]);
     Train {
         route: Route {
             start: PostNo(bytes[i]),
             end: PostNo(bytes[i + 1]),
         },
         at: PostNo(bytes[i + 2]),
+        track: TrackNo(bytes[i + 3]),
         status,
     }
 }
 
-fn status_of(status: u8, number: u8) -> Status
-    ensures { λ r. ⌜ r ≡ statusOf status number ⌝ }
+fn status_of(status: u8, detail: u8) -> Status
+    ensures { λ r. ⌜ r ≡ statusOf status detail ⌝ }
 {
     match status {
         0 => Status::Free,
-        1 => Status::Asked(number),
-        2..=255 => Status::Running,
+        1 => Status::Asked(detail),
+        2..=255 => Status::Running(TrackNo(detail)),
     }
 }
 
-// Writes the 42 bytes of a state.
+// Writes the 48 bytes of a state.
 pub fn put_state(state: State, to: &mut [u8])
     requires { ⌜ length (now to) ≡ stateLength ⌝ }
     ensures { λ _. ⌜ now (to .exit) ≡ stateBytes state ⌝ }
@@ -171,6 +171,7 @@ fn train_bytes(train: Train) -> [u8; TRAIN_LENGTH]
         standing[0],
         standing[1],
         standing[2],
+        standing[3],
     ]
 }
 
@@ -179,8 +180,8 @@ fn standing_bytes(train: Train) -> [u8; STANDING_LENGTH]
 {
     let status = train.status;
     match status {
-        Status::Free => [train.at.0, 0, 0],
-        Status::Asked(number) => [train.at.0, 1, number],
-        Status::Running => [train.at.0, 2, 0],
+        Status::Free => [train.at.0, train.track.0, 0, 0],
+        Status::Asked(number) => [train.at.0, train.track.0, 1, number],
+        Status::Running(ahead) => [train.at.0, train.track.0, 2, ahead.0],
     }
 }

@@ -10,7 +10,7 @@ returns-2 : tie.Need-returns-2
 returns-2 c = rw (c .before .status .given .1)
 
 returns-3 : tie.Need-returns-3
-returns-3 c = rw (c .enum-told2 .given .1)
+returns-3 c = rw (c .before .status2 .given .1)
 
 pub standing-bytes-spec : {M : Type 1} → statement M
 standing-bytes-spec =

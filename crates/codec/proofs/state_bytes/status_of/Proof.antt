@@ -9,11 +9,11 @@ use Rattle.codec.proofs.state_bytes.status_of.Tie as tie
 
 returns : tie.Need-returns
 unfolding statusOf
-returns c = ap (λ (k : ℕ). statusOf k (c .before .args .number)) (sym (c .match .keys1))
+returns c = ap (λ (k : ℕ). statusOf k (c .before .args .detail)) (sym (c .match .keys1))
 
 returns-2 : tie.Need-returns-2
 unfolding statusOf
-returns-2 c = ap (λ (k : ℕ). statusOf k (c .before .args .number)) (sym (c .match .keys2))
+returns-2 c = ap (λ (k : ℕ). statusOf k (c .before .args .detail)) (sym (c .match .keys2))
 
 returns-3 : tie.Need-returns-3
 returns-3 c = running _ _ (omega arith)

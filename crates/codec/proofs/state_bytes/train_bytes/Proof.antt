@@ -1,4 +1,4 @@
--- `train_bytes` meets its contract: the last three bytes are those of `standing_bytes`.
+-- `train_bytes` meets its contract: the last four bytes are those of `standing_bytes`.
 use borrow.Author.Needs.{needs}
 use Rattle.codec.proofs.state_bytes.train_bytes.Statement.{statement}
 use Rattle.codec.proofs.state_bytes.train_bytes.Tie as tie
@@ -9,4 +9,10 @@ returns c = rw (c .standing-bytes .ensures)
 pub train-bytes-spec : {M : Type 1} → statement M
 train-bytes-spec =
     tie.close
-    (tie.spec (λ c κs. search needs) (λ c. search needs) (λ c. search needs) (λ c. search needs) returns)
+    (tie.spec
+    (λ c κs. search needs)
+    (λ c. search needs)
+    (λ c. search needs)
+    (λ c. search needs)
+    (λ c. search needs)
+    returns)

@@ -4,7 +4,7 @@ use Rattle.codec.proofs.state_bytes.train_in.Statement.{statement}
 use Rattle.codec.proofs.state_bytes.train_in.Tie as tie
 
 returns : tie.Need-returns
-returns c = rw (c .before .before .before .status-of .ensures)
+returns c = rw (c .before .before .before .before .status-of .ensures)
 
 pub train-in-spec : {M : Type 1} → statement M
 train-in-spec =
@@ -15,6 +15,8 @@ train-in-spec =
     (λ c. search needs)
     (λ c. search needs)
     (λ c κs. search needs)
+    (λ c. search needs)
+    (λ c. search needs)
     (λ c. search needs)
     (λ c. search needs)
     (λ c. search needs)
