@@ -12,8 +12,8 @@
  * (crates/calls/specs), for every content and every length of the buffers. It is proved too
  * that after a quangevit_open that answers 0, where each quangevit_answer gets the bytes that the
  * call before it left, whatever the frames, no section has two holders, no post more trains on its
- * tracks than it has, every authority has its logged request, and the trains never all wait for
- * each other.
+ * tracks than it has, no track two trains, every authority has its logged request, and the trains
+ * never all wait for each other.
  *
  * The library is for x86-64 with SSE2 and the System V ABI, whose 128 bytes below the stack pointer
  * it uses: the handler of an interrupt leaves them alone, or has a stack of its own. It has no data
@@ -36,8 +36,8 @@
 extern "C" {
 #endif
 
-/* 100 times the edition (what the ends answer) plus the revision: 200 is version 2.00. */
-#define QUANGEVIT_VERSION 200
+/* 100 times the edition (what the ends answer) plus the revision: 300 is version 3.00. */
+#define QUANGEVIT_VERSION 300
 
 #define QUANGEVIT_REFUSAL(answer) ((answer) & 255u)
 #define QUANGEVIT_SENT(answer) ((answer) >> 8)
@@ -48,9 +48,9 @@ extern "C" {
  * that a press is lent for its frame at least this length.
  */
 #define QUANGEVIT_LINE_BYTES 23
-#define QUANGEVIT_STATE_BYTES 42
+#define QUANGEVIT_STATE_BYTES 48
 #define QUANGEVIT_TABLE_BYTES 32768
-#define QUANGEVIT_JOURNAL_BYTES 704 /* 176 records */
+#define QUANGEVIT_JOURNAL_BYTES 880 /* 176 records */
 #define QUANGEVIT_OUT_BYTES 42      /* six frames */
 #define QUANGEVIT_FRAME_BYTES 7
 #define QUANGEVIT_UNIT_BYTES 5
@@ -79,6 +79,13 @@ extern "C" {
  */
 
 /*
+ * Track: the tracks of a post have the numbers from 1 to its track count, and 0 is none. A train
+ * gets its track at the opening, in the order of the trains' numbers, and with each authority that
+ * at the post it runs to: the smallest that no train holds, or the largest where its end is below
+ * its start. It keeps it while it holds the post. A train put away in a siding has none.
+ */
+
+/*
  * Line: the number of posts, the tracks of posts 0 to 7, the siding byte, the number of trains,
  * then two bytes for each of trains 0 to 5. What the book does not name is 0.
  */
@@ -95,9 +102,9 @@ enum quangevit_route_at { QUANGEVIT_ROUTE_START_AT = 0, QUANGEVIT_ROUTE_END_AT =
 
 /*
  * State: the number of posts, the tracks of posts 0 to 7, the siding byte, the number of trains,
- * then five bytes for each of trains 0 to 5, last the number of records in the journal. Keep it
- * between calls and do not change it. 42 bytes with another status, or with a number of a request
- * where the status is not Asked, encode no state.
+ * then six bytes for each of trains 0 to 5, last the number of records in the journal. Keep it
+ * between calls and do not change it. 48 bytes with another status, or with a detail that is not 0
+ * where the status is Free, encode no state.
  */
 enum quangevit_state_at {
     QUANGEVIT_STATE_POSTS_AT = 0,
@@ -105,16 +112,18 @@ enum quangevit_state_at {
     QUANGEVIT_STATE_SIDINGS_AT = 9,
     QUANGEVIT_STATE_TRAINS_AT = 10,
     QUANGEVIT_STATE_FLEET_AT = 11, /* of train t: + QUANGEVIT_TRAIN_BYTES * t */
-    QUANGEVIT_STATE_LOGGED_AT = 41
+    QUANGEVIT_STATE_LOGGED_AT = 47
 };
 
-#define QUANGEVIT_TRAIN_BYTES 5
+#define QUANGEVIT_TRAIN_BYTES 6
 enum quangevit_train_at {
     QUANGEVIT_TRAIN_START_AT = 0,
     QUANGEVIT_TRAIN_END_AT = 1,
     QUANGEVIT_TRAIN_POST_AT = 2,
-    QUANGEVIT_TRAIN_STATUS_AT = 3,
-    QUANGEVIT_TRAIN_REQUEST_AT = 4 /* number of its FA in the journal; 0 unless Asked */
+    QUANGEVIT_TRAIN_TRACK_AT = 3, /* at its post */
+    QUANGEVIT_TRAIN_STATUS_AT = 4,
+    QUANGEVIT_TRAIN_DETAIL_AT = 5 /* Asked: number of its FA in the journal; Running: track at the
+                                     post it runs to; Free: 0 */
 };
 
 enum quangevit_status {
@@ -129,15 +138,17 @@ enum quangevit_status {
  */
 
 /*
- * Journal: records of four bytes. A buffer of n bytes has n / 4 records; the n % 4 bytes past them
- * are neither read nor written. Kinds are the same in records and frames.
+ * Journal: records of five bytes. A buffer of n bytes has n / 5 records; the n % 5 bytes past them
+ * are neither read nor written. Kinds are the same in records and frames. The record of an FE has
+ * the track at the post run to; every other record has 0 there.
  */
-#define QUANGEVIT_RECORD_BYTES 4
+#define QUANGEVIT_RECORD_BYTES 5
 enum quangevit_record_at {
     QUANGEVIT_RECORD_KIND_AT = 0,
     QUANGEVIT_RECORD_TRAIN_AT = 1,
     QUANGEVIT_RECORD_FROM_AT = 2,
-    QUANGEVIT_RECORD_TO_AT = 3
+    QUANGEVIT_RECORD_TO_AT = 3,
+    QUANGEVIT_RECORD_TRACK_AT = 4
 };
 
 /* Frame: two bytes of length, 0 and 5, version byte 1, then kind, train, from post, to post. */
@@ -225,12 +236,12 @@ uint32_t quangevit_version(void);
 uint32_t quangevit_read_book(const uint8_t *book, size_t book_len, uint8_t *line, size_t line_len);
 
 /*
- * Opens a book: fills the table and writes the state in which every train is Free at its start and
- * the journal has no record. What the state buffer held is not looked at; the journal is only
- * measured. Checks, in this order: 1, a state buffer that is not 42 bytes, and nothing is changed;
- * 2, table or journal; those of quangevit_read_book from 14 on; 19; 20. A refusal by 2, 4, 14 to 20
- * or 23 writes 42 zeros, a state on which quangevit_answer gives 1; the table is then left alone,
- * but for 20, which leaves it filled.
+ * Opens a book: fills the table and writes the state in which every train is Free at its start, on
+ * its track there, and the journal has no record. What the state buffer held is not looked at; the
+ * journal is only measured. Checks, in this order: 1, a state buffer that is not 48 bytes, and
+ * nothing is changed; 2, table or journal; those of quangevit_read_book from 14 on; 19; 20. A
+ * refusal by 2, 4, 14 to 20 or 23 writes 48 zeros, a state on which quangevit_answer gives 1; the
+ * table is then left alone, but for 20, which leaves it filled.
  */
 uint32_t quangevit_open(const uint8_t *book, size_t book_len, uint8_t *state, size_t state_len,
                         uint8_t *table, size_t table_len, const uint8_t *journal,

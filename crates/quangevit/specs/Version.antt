@@ -3,7 +3,7 @@
 use Prim.Native.Nat.{ℕ, _+_, _*_}
 
 abbrev pub edition : ℕ
-edition = 2
+edition = 3
 
 abbrev pub revision : ℕ
 revision = 0
