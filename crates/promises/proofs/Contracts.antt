@@ -11,6 +11,7 @@ use Rattle.logging.proofs.with.Met.{met as with-record-met}
 use Rattle.logging.proofs.append.Met.{met as append-met}
 use Rattle.logging.proofs.empty.Met.{met as empty-batch-met}
 use Rattle.logging.proofs.record_of.Met.{met as record-of-met}
+use Rattle.logging.proofs.record_on.Met.{met as record-on-met}
 use Rattle.logging.proofs.frame_of.Met.{met as frame-of-met}
 use Rattle.logging.proofs.blank_log.Met.{met as blank-log-met}
 use Rattle.logging.proofs.log_length.Met.{met as log-length-met}
@@ -57,6 +58,7 @@ functions = record {
   append = append-met;
   empty-batch = empty-batch-met;
   record-of = record-of-met;
+  record-on = record-on-met;
   frame-of = frame-of-met;
   blank-log = blank-log-met;
   log-length = log-length-met;

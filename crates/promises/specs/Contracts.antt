@@ -12,6 +12,7 @@ use Rattle.logging.proofs.with.Statement.{statement as WithRecord}
 use Rattle.logging.proofs.append.Statement.{statement as Append}
 use Rattle.logging.proofs.empty.Statement.{statement as EmptyBatch}
 use Rattle.logging.proofs.record_of.Statement.{statement as RecordOf}
+use Rattle.logging.proofs.record_on.Statement.{statement as RecordOn}
 use Rattle.logging.proofs.frame_of.Statement.{statement as FrameOf}
 use Rattle.logging.proofs.blank_log.Statement.{statement as BlankLog}
 use Rattle.logging.proofs.log_length.Statement.{statement as LogLength}
@@ -57,6 +58,7 @@ pub record Functions (M : Type 1) : Type 2 where
   pub append : Append M
   pub empty-batch : EmptyBatch M
   pub record-of : RecordOf M
+  pub record-on : RecordOn M
   pub frame-of : FrameOf M
   pub blank-log : BlankLog M
   pub log-length : LogLength M
