@@ -6,7 +6,7 @@ use Rattle.framing.proofs.place.Met.{met as place-frame-met}
 use Rattle.table.proofs.code.Met.{met as code-of-met}
 use Rattle.table.proofs.bit.Met.{met as bit-at-met}
 use Rattle.table.proofs.feasible_start.Met.{met as feasible-start-met}
-use Rattle.table.proofs.fill.Met.{met as fill-met}
+use Rattle.filling.proofs.fill.Met.{met as fill-met}
 use Rattle.logging.proofs.with.Met.{met as with-record-met}
 use Rattle.logging.proofs.append.Met.{met as append-met}
 use Rattle.logging.proofs.empty.Met.{met as empty-batch-met}

@@ -7,7 +7,7 @@ use Rattle.framing.proofs.place.Statement.{statement as PlaceFrame}
 use Rattle.table.proofs.code.Statement.{statement as CodeOf}
 use Rattle.table.proofs.bit.Statement.{statement as BitAt}
 use Rattle.table.proofs.feasible_start.Statement.{statement as FeasibleStart}
-use Rattle.table.proofs.fill.Statement.{statement as Fill}
+use Rattle.filling.proofs.fill.Statement.{statement as Fill}
 use Rattle.logging.proofs.with.Statement.{statement as WithRecord}
 use Rattle.logging.proofs.append.Statement.{statement as Append}
 use Rattle.logging.proofs.empty.Statement.{statement as EmptyBatch}
