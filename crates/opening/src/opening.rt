@@ -57,7 +57,7 @@ pub fn open_with(book: &[u8], table: &mut [u8], records: usize) -> Opened
     if !table::feasible_start(line) {
         return refused(OVERFULL);
     }
-    table::fill(line, table);
+    filling::fill(line, table);
     let travelled = [0u8; 6];
     let start = table::code(travelled, line.trains);
     if !table::bit(table, start) {
