@@ -16,8 +16,9 @@ use Rattle.line.specs.Book.{countAt, added, trainsAt, total, byteAt, postsOf, e
 use Rattle.line.specs.Book.{routeIn, lineIn, postsChecks, tracksChecks, sidingsChecks, trainsChecks, routesChecks}
 use Rattle.line.specs.Book.{bookChecks, acceptedBook, refusedBy, readBook}
 use Rattle.line.proofs.WellFormed.{high, line-is}
-use Rattle.book.specs.Stages.{Stage, Passed, Stopped, stageOf, numberOf, postsStage, tracksStage, sidingsStage}
-use Rattle.book.specs.Stages.{trainsStage, routesStage}
+use Rattle.stages.specs.declared.reading.Stage.{Stage}
+use Rattle.stages.specs.declared.reading.Stage.the-variants.{Passed, Stopped}
+use Rattle.stages.specs.Stages.{stageOf, numberOf, postsStage, tracksStage, sidingsStage, trainsStage, routesStage}
 
 -- ---- a stage, by its answer
 

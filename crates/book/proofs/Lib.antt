@@ -1,4 +1,2 @@
--- The laws of the stages: what each answers, and that they are the checks of a book in order.
-pub mod FormTest
-pub mod Stages
+-- The stages are the checks of a book in order.
 pub mod InOrder

@@ -3,24 +3,29 @@
 // has one more byte after the track counts: the bit of value 2^i says that post i has a siding.
 // Edition 1 books have no sidings."
 ghost use mathlib.Core.Path.{_≡_};
-ghost use Prim.Native.Nat.{_≤_, _<_};
+ghost use Prim.Native.Nat.{_≤_};
 ghost use lib.ListN.{length};
 ghost use Rattle.common.specs.Tabulate.{padded};
-ghost use Rattle.line.specs.Line.{noRoute, inRange};
-ghost use Rattle.line.specs.Book.{countAt, added, sidingsAt, trainsAt, total, byteAt, postsOf, sidingsOf, trainsIn};
-ghost use Rattle.line.specs.Book.{routeIn, emptyLine, refusedBy, readBook, outcomeNumber};
-ghost use Rattle.book.specs.Stages.{numberOf, postsStage, tracksStage, sidingsStage, trainsStage, routesStage};
-use crate::form::routes_on_line;
-use crate::form::tracks_in_range;
+ghost use Rattle.line.specs.Line.{noRoute};
+ghost use Rattle.line.specs.Book.{countAt, sidingsAt, total, byteAt, routeIn, emptyLine, refusedBy, readBook};
+ghost use Rattle.line.specs.Book.{outcomeNumber};
+ghost use Rattle.stages.specs.Stages.{numberOf, tracksStage, routesStage};
+use form::routes_on_line;
+use form::tracks_in_range;
 use line::Line;
 use line::NO_ROUTE;
 use line::Outcome;
 use line::PostNo;
 use line::Reading;
 use line::Route;
-use line::names_posts;
 use line::refusal;
-use line::word::word;
+use stages::COUNTS_AT;
+use stages::Stage;
+use stages::VERSION_AT;
+use stages::read_posts;
+use stages::read_sidings;
+use stages::read_trains;
+use stages::trains_at;
 
 // The number that a book is refused by; 0 of one that is read.
 pub fn number_of(outcome: Outcome) -> u8
@@ -31,25 +36,6 @@ pub fn number_of(outcome: Outcome) -> u8
         Outcome::Refused(n) => n,
     }
 }
-
-// What a stage of the reading answers: how many posts, track counts, trains or routes it read or the
-// siding byte, or else the number of the check that it stopped at.
-enum Stage {
-    Passed(u8),
-    Stopped(u8),
-}
-
-// The versions of a book. The first has no sidings.
-const FIRST_EDITION: u8 = 1;
-
-const LAST_EDITION: u8 = 2;
-
-// Where the version, the number of posts and the track counts stand.
-const VERSION_AT: usize = 2;
-
-const POSTS_AT: usize = 3;
-
-const COUNTS_AT: usize = 4;
 
 // Reads a book. "A book that is not read in full is refused before any train is placed."
 pub fn read(book: &[u8]) -> Reading
@@ -124,53 +110,6 @@ fn empty_line() -> Line
     }
 }
 
-fn in_range(low: u8, high: u8, n: u8) -> bool
-    ensures { λ r. ⌜ r ≡ inRange low high n ⌝ }
-{
-    low <= n && n <= high
-}
-
-// Checks 14, 4, 15 and 14, and reads the number of posts.
-fn read_posts(book: &[u8]) -> Stage
-    ensures { λ r. ⌜ r ≡ postsStage (now (book .entry)) ⌝ }
-{
-    if book.len() < COUNTS_AT {
-        return Stage::Stopped(refusal::TORN_BOOK);
-    }
-    if word(book[0], book[1]) as usize + 2 != book.len() {
-        return Stage::Stopped(refusal::TORN_BOOK);
-    }
-    let edition = book[VERSION_AT];
-    if !in_range(FIRST_EDITION, LAST_EDITION, edition) {
-        return Stage::Stopped(refusal::OTHER_EDITION);
-    }
-    let posts = book[POSTS_AT];
-    if !in_range(2, 8, posts) {
-        return Stage::Stopped(refusal::POSTS);
-    }
-    if book.len() <= trains_at(posts, edition) {
-        return Stage::Stopped(refusal::TORN_BOOK);
-    }
-    Stage::Passed(posts)
-}
-
-// Where the number of trains stands.
-fn trains_at(posts: u8, edition: u8) -> usize
-    ensures { λ r. ⌜ r ≡ trainsAt posts (added edition) ⌝ }
-{
-    COUNTS_AT + posts as usize + added_by(edition)
-}
-
-// How many bytes an edition adds after the track counts.
-fn added_by(edition: u8) -> usize
-    ensures { λ r. ⌜ r ≡ added edition ⌝ }
-{
-    if edition == FIRST_EDITION {
-        return 0;
-    }
-    1
-}
-
 // The track counts of the posts; 0 at the other places.
 fn read_tracks(book: &[u8], posts: u8) -> [u8; 8]
     requires { ⌜ (posts ≤ 8) × (sidingsAt posts ≤ length (now book)) ⌝ }
@@ -194,44 +133,6 @@ fn check_tracks(line: Line) -> Stage
         return Stage::Stopped(refusal::TRACKS);
     }
     Stage::Passed(line.posts)
-}
-
-// Checks 23, and reads the siding byte.
-fn read_sidings(book: &[u8], posts: u8) -> Stage
-    requires { ⌜ (posts ≡ postsOf (now book)) × (posts ≤ 8) × (sidingsAt posts < length (now book)) ⌝ }
-    ensures { λ r. ⌜ r ≡ sidingsStage (now (book .entry)) ⌝ }
-{
-    let sidings = siding_byte(book, posts);
-    if !names_posts(posts, sidings) {
-        return Stage::Stopped(refusal::SIDINGS);
-    }
-    Stage::Passed(sidings)
-}
-
-// The siding byte; 0 of the first edition, which has none.
-fn siding_byte(book: &[u8], posts: u8) -> u8
-    requires { ⌜ (posts ≡ postsOf (now book)) × (sidingsAt posts < length (now book)) ⌝ }
-    ensures { λ r. ⌜ r ≡ sidingsOf (now (book .entry)) ⌝ }
-{
-    if book[VERSION_AT] == FIRST_EDITION {
-        return 0;
-    }
-    book[COUNTS_AT + posts as usize]
-}
-
-// Checks 17 and 14, and reads the number of trains, which stands at `at`.
-fn read_trains(book: &[u8], at: usize) -> Stage
-    requires { ⌜ (at ≡ trainsIn (now book)) × (at < length (now book)) ⌝ }
-    ensures { λ r. ⌜ r ≡ trainsStage (now (book .entry)) ⌝ }
-{
-    let trains = book[at];
-    if !in_range(1, 6, trains) {
-        return Stage::Stopped(refusal::TRAINS);
-    }
-    if book.len() != at + 1 + 2 * (trains as usize) {
-        return Stage::Stopped(refusal::TORN_BOOK);
-    }
-    Stage::Passed(trains)
 }
 
 // The routes of the trains, whose number stands at `at`; 0 at the other places.

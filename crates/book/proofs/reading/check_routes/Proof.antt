@@ -2,7 +2,7 @@
 use mathlib.Core.Path.{sym, _∙_}
 use borrow.Author.Needs.{needs}
 use borrow.Author.Tests.{not-true, not-false}
-use Rattle.book.proofs.Stages.{routes-off, routes-passed}
+use Rattle.stages.proofs.Stages.{routes-off, routes-passed}
 use Rattle.book.proofs.reading.check_routes.Statement.{statement}
 use Rattle.book.proofs.reading.check_routes.Tie as tie
 

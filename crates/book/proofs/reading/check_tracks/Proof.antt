@@ -2,7 +2,7 @@
 use mathlib.Core.Path.{sym, _∙_}
 use borrow.Author.Needs.{needs}
 use borrow.Author.Tests.{not-true, not-false}
-use Rattle.book.proofs.Stages.{tracks-range, tracks-passed}
+use Rattle.stages.proofs.Stages.{tracks-range, tracks-passed}
 use Rattle.book.proofs.reading.check_tracks.Statement.{statement}
 use Rattle.book.proofs.reading.check_tracks.Tie as tie
 

@@ -7,9 +7,9 @@ use borrow.Author.Tests.{not-true, not-false}
 use Rattle.line.specs.declared.line.Line.{Line}
 use Rattle.line.specs.Line.{postsInRange, tracksInRange, sidingsOnLine}
 use Rattle.line.proofs.WellFormed.{ranged, below-range, above-range}
-use Rattle.book.proofs.FormTest.{posts-fail, tracks-fail, sidings-fail, trains-fail, routes-decide}
-use Rattle.book.proofs.form.well_formed.Statement.{statement}
-use Rattle.book.proofs.form.well_formed.Tie as tie
+use Rattle.form.proofs.FormTest.{posts-fail, tracks-fail, sidings-fail, trains-fail, routes-decide}
+use Rattle.form.proofs.form.well_formed.Statement.{statement}
+use Rattle.form.proofs.form.well_formed.Tie as tie
 
 returns : tie.Need-returns
 returns c = posts-fail _ (below-range 2 8 _ (c .if1 .taken))

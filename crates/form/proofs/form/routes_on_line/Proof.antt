@@ -7,9 +7,9 @@ use borrow.Author.Tests.{lt-ltb}
 use Rattle.common.proofs.Tests.{and-both}
 use Rattle.common.proofs.Below.{Passing, passing-none, passing-more, passing-fails, passing-all}
 use Rattle.line.specs.Line.{routeOf}
-use Rattle.book.proofs.FormTest.{off-start, off-end}
-use Rattle.book.proofs.form.routes_on_line.Statement.{statement}
-use Rattle.book.proofs.form.routes_on_line.Tie as tie
+use Rattle.form.proofs.FormTest.{off-start, off-end}
+use Rattle.form.proofs.form.routes_on_line.Statement.{statement}
+use Rattle.form.proofs.form.routes_on_line.Tie as tie
 
 abbrev Inv-loop : tie.InvT-loop
 Inv-loop line t₀ t = Passing (line .trains) (λ u. ltb (routeOf line u .start .0) (line .posts)

@@ -5,8 +5,8 @@ use Rattle.common.specs.Check.{Check, refusal, unlessRefused}
 use Rattle.line.specs.declared.line.Line.{Line}
 use Rattle.line.specs.Book.{postsOf, sidingsOf, trainsOf, lineIn, postsChecks, tracksChecks, sidingsChecks}
 use Rattle.line.specs.Book.{trainsChecks, routesChecks}
-pub use Rattle.book.specs.declared.reading.Stage.{Stage}
-pub use Rattle.book.specs.declared.reading.Stage.the-variants.{Passed, Stopped}
+pub use Rattle.stages.specs.declared.reading.Stage.{Stage}
+pub use Rattle.stages.specs.declared.reading.Stage.the-variants.{Passed, Stopped}
 
 -- v where the checks of a stage pass, else the number of the first that fails
 abbrev pub stageOf : List Check → ℕ → Stage

@@ -1,8 +1,8 @@
--- `book::reading::added_by` meets its contract: its one test is that of the definition.
+-- `reading::added_by` meets its contract: its one test is that of the definition.
 use mathlib.Core.Path.{sym}
 use Rattle.line.proofs.Bytes.{added-first, added-later}
-use Rattle.book.proofs.reading.added_by.Statement.{statement}
-use Rattle.book.proofs.reading.added_by.Tie as tie
+use Rattle.stages.proofs.reading.added_by.Statement.{statement}
+use Rattle.stages.proofs.reading.added_by.Tie as tie
 
 returns : tie.Need-returns
 returns c = sym (added-first _ (c .if1 .taken))

@@ -1,10 +1,10 @@
--- `book::reading::read_sidings` meets its contract: its one test decides.
+-- `reading::read_sidings` meets its contract: its one test decides.
 use mathlib.Core.Path.{sym, _∙_}
 use borrow.Author.Needs.{needs}
 use borrow.Author.Tests.{not-true, not-false}
-use Rattle.book.proofs.Stages.{sidings-off, sidings-passed}
-use Rattle.book.proofs.reading.read_sidings.Statement.{statement}
-use Rattle.book.proofs.reading.read_sidings.Tie as tie
+use Rattle.stages.proofs.Stages.{sidings-off, sidings-passed}
+use Rattle.stages.proofs.reading.read_sidings.Statement.{statement}
+use Rattle.stages.proofs.reading.read_sidings.Tie as tie
 
 returns : tie.Need-returns
 returns c =

@@ -14,8 +14,8 @@ use Rattle.line.specs.Refusal as number
 use Rattle.line.specs.declared.line.Line.{Line}
 use Rattle.line.specs.Line.{inRange, namesPosts, tracksInRange, routesOnLine}
 use Rattle.line.specs.Book.{total, byteAt, namedLength, postsOf, editionOf, sidingsOf, trainsIn}
-use Rattle.book.specs.Stages.{Passed, Stopped, stageOf, postsStage, tracksStage, sidingsStage, trainsStage}
-use Rattle.book.specs.Stages.{routesStage}
+use Rattle.stages.specs.Stages.{Passed, Stopped, stageOf, postsStage, tracksStage, sidingsStage, trainsStage}
+use Rattle.stages.specs.Stages.{routesStage}
 
 passes : {cs : List Check} (v : ℕ) → Refuses cs 0 → Passed v ≡ stageOf cs v
 unfolding unlessRefused

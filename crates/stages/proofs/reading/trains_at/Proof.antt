@@ -1,9 +1,9 @@
--- `book::reading::trains_at` meets its contract: what an edition adds is at most a byte, so the sum fits.
+-- `reading::trains_at` meets its contract: what an edition adds is at most a byte, so the sum fits.
 use native.Mathlib.Omega.{arith}
 use borrow.Author.Needs.{needs}
 use Rattle.line.proofs.Bytes.{added-few}
-use Rattle.book.proofs.reading.trains_at.Statement.{statement}
-use Rattle.book.proofs.reading.trains_at.Tie as tie
+use Rattle.stages.proofs.reading.trains_at.Statement.{statement}
+use Rattle.stages.proofs.reading.trains_at.Tie as tie
 
 add-result-2 : tie.Need-add-result-2
 add-result-2 c = omega (arith, c .added-by .ensures, added-few (c .before .args .edition))

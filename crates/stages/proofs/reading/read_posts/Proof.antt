@@ -1,4 +1,4 @@
--- `book::reading::read_posts` meets its contract: each `return` is one case of the stage's checks.
+-- `reading::read_posts` meets its contract: each `return` is one case of the stage's checks.
 use mathlib.Core.Path.{_≡_, sym, _∙_}
 use mathlib.Core.Bool.{true}
 use mathlib.Core.List.{List}
@@ -10,9 +10,9 @@ use borrow.Author.Needs.{needs}
 use borrow.Author.Tests.{not-true, not-false}
 use Rattle.line.specs.Line.{inRange}
 use Rattle.line.specs.Book.{namedLength, postsOf, editionOf}
-use Rattle.book.proofs.Stages.{posts-short, posts-torn, posts-edition, posts-range, posts-room, posts-passed}
-use Rattle.book.proofs.reading.read_posts.Statement.{statement}
-use Rattle.book.proofs.reading.read_posts.Tie as tie
+use Rattle.stages.proofs.Stages.{posts-short, posts-torn, posts-edition, posts-range, posts-room, posts-passed}
+use Rattle.stages.proofs.reading.read_posts.Statement.{statement}
+use Rattle.stages.proofs.reading.read_posts.Tie as tie
 
 -- the book, and what is known of it once its length is right
 abbrev bookAt : tie.Else2 → List ℕ

@@ -1,7 +1,7 @@
--- `book::reading::in_range` meets its contract: its two tests are those of the definition.
+-- `reading::in_range` meets its contract: its two tests are those of the definition.
 use borrow.Author.Tests.{le-leb, lt-leb}
-use Rattle.book.proofs.reading.in_range.Statement.{statement}
-use Rattle.book.proofs.reading.in_range.Tie as tie
+use Rattle.stages.proofs.reading.in_range.Statement.{statement}
+use Rattle.stages.proofs.reading.in_range.Tie as tie
 
 returns : tie.Need-returns
 returns c = rw (le-leb _ _ (c .if1 .taken))

@@ -1,8 +1,8 @@
--- `book::reading::siding_byte` meets its contract: its one test is that of the definition.
+-- `reading::siding_byte` meets its contract: its one test is that of the definition.
 use borrow.Author.Needs.{needs}
 use borrow.Author.Tests.{eq-eqb, ne-eqb}
-use Rattle.book.proofs.reading.siding_byte.Statement.{statement}
-use Rattle.book.proofs.reading.siding_byte.Tie as tie
+use Rattle.stages.proofs.reading.siding_byte.Statement.{statement}
+use Rattle.stages.proofs.reading.siding_byte.Tie as tie
 
 returns : tie.Need-returns
 returns c = rw (eq-eqb _ 1 (c .if1 .taken))

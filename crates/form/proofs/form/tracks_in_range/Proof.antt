@@ -4,8 +4,8 @@ use native.Mathlib.Omega.{arith}
 use Rattle.common.proofs.Below.{Passing, passing-none, passing-more, passing-fails, passing-all}
 use Rattle.line.specs.Line.{inRange, tracksAt}
 use Rattle.line.proofs.WellFormed.{ranged, below-range, above-range}
-use Rattle.book.proofs.form.tracks_in_range.Statement.{statement}
-use Rattle.book.proofs.form.tracks_in_range.Tie as tie
+use Rattle.form.proofs.form.tracks_in_range.Statement.{statement}
+use Rattle.form.proofs.form.tracks_in_range.Tie as tie
 
 abbrev Inv-loop : tie.InvT-loop
 Inv-loop line p₀ p = Passing (line .posts) (λ k. inRange 1 4 (tracksAt line k)) p

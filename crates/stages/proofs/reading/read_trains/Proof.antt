@@ -1,4 +1,4 @@
--- `book::reading::read_trains` meets its contract: each `return` is one case of the stage's checks.
+-- `reading::read_trains` meets its contract: each `return` is one case of the stage's checks.
 use mathlib.Core.Path.{_≡_, sym, _∙_}
 use mathlib.Core.Bool.{true}
 use Prim.Native.Nat.{ℕ, _<_}
@@ -8,9 +8,9 @@ use borrow.Author.Needs.{needs}
 use borrow.Author.Tests.{not-true, not-false}
 use Rattle.line.specs.Line.{inRange}
 use Rattle.line.specs.Book.{postsAt, byteAt}
-use Rattle.book.proofs.Stages.{trains-range, trains-total, trains-passed}
-use Rattle.book.proofs.reading.read_trains.Statement.{statement}
-use Rattle.book.proofs.reading.read_trains.Tie as tie
+use Rattle.stages.proofs.Stages.{trains-range, trains-total, trains-passed}
+use Rattle.stages.proofs.reading.read_trains.Statement.{statement}
+use Rattle.stages.proofs.reading.read_trains.Tie as tie
 
 -- the number of trains, once it is in range
 abbrev number : tie.Else1 → ℕ

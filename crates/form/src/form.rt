@@ -31,7 +31,7 @@ pub fn well_formed(line: Line) -> bool
 }
 
 // Whether every post has 1 to 4 tracks.
-pub(crate) fn tracks_in_range(line: Line) -> bool
+pub fn tracks_in_range(line: Line) -> bool
     requires { ⌜ line .posts ≤ 8 ⌝ }
     ensures { λ r. ⌜ r ≡ tracksInRange line ⌝ }
 {
@@ -50,7 +50,7 @@ pub(crate) fn tracks_in_range(line: Line) -> bool
 }
 
 // Whether every train starts and ends on the line.
-pub(crate) fn routes_on_line(line: Line) -> bool
+pub fn routes_on_line(line: Line) -> bool
     requires { ⌜ line .trains ≤ 6 ⌝ }
     ensures { λ r. ⌜ r ≡ routesOnLine line ⌝ }
 {

@@ -1,0 +1,2 @@
+-- The test of a line's form.
+pub mod FormTest

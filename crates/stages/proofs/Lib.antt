@@ -1,0 +1,2 @@
+-- The laws of the stages: what each answers.
+pub mod Stages
