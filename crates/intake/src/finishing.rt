@@ -1,10 +1,10 @@
 // The end of the input.
 ghost use mathlib.Core.Path.{_≡_};
 ghost use Rattle.console.specs.Console.{deskOf, afterEnd, endedConsole, lastFrame, finished};
-use crate::answering::with_frame;
-use crate::book::with_book;
 use console::Console;
 use console::Phase;
+use pieces::with_book;
+use pieces::with_frame;
 
 // 01: "or what there is if input ends; a shorter rest after whole frames is one torn frame".
 pub fn finish(console: Console, table: &mut [u8]) -> Console

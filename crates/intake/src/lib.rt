@@ -1,11 +1,7 @@
 // The console's code: it takes the bytes of a book and of frames as they come, in parts of any size,
 // and says what is printed once the input has ended.
-mod answering;
-mod book;
 mod finishing;
 mod phases;
-mod piece;
-mod run;
 mod taking;
 
 pub use finishing::finish;

@@ -4,12 +4,12 @@ ghost use Prim.Native.Nat.{_≤_};
 ghost use Rattle.printout.specs.Text.{textLength, textOf};
 ghost use Rattle.console.specs.Console.{freshConsole, awaits};
 ghost use Rattle.console.specs.Transcript.{runPrinted, printed};
-use crate::piece::nothing;
-use crate::run::begun;
 use console::Console;
 use console::Phase;
 use console::Run;
+use pieces::nothing;
 use printout::Text;
+use run::begun;
 
 // The console before any byte.
 pub fn fresh() -> Console

@@ -1,13 +1,13 @@
 // Taking the bytes that come.
 ghost use mathlib.Core.Path.{_≡_};
 ghost use Rattle.console.specs.Console.{deskOf, withNext, bookByte, frameByte, takenByte, takenBytes};
-use crate::answering::with_frame;
-use crate::book::with_book;
-use crate::piece::is_book;
-use crate::piece::with_byte;
 use console::Console;
 use console::Phase;
 use frame::FRAME_LENGTH;
+use pieces::is_book;
+use pieces::with_book;
+use pieces::with_byte;
+use pieces::with_frame;
 
 // The console once some bytes were taken, one after the other.
 pub fn take(console: Console, table: &mut [u8], bytes: &[u8]) -> Console
