@@ -9,20 +9,23 @@ use crate::table::{bit, code, fill, lawful, TABLE_BYTES};
 /// Bytes an out buffer must have: six frames.
 pub const OUT_BYTES: usize = 6 * FRAME_BYTES;
 
-/// What a train is about; an Asked train has the journal number of its FA.
+/// What a train is about; an Asked train has the journal number of its FA, a
+/// Running train its track at the post it runs to.
 #[derive(Debug, Clone, Copy, PartialEq, Eq)]
 pub enum Standing {
     Free,
     Asked(u8),
-    Running,
+    Running(u8),
 }
 
-/// A train's record: start, end and present post, and its standing.
+/// A train's record: start, end and present post, its track there, from 1 (0
+/// for a train put away), and its standing.
 #[derive(Debug, Clone, Copy, PartialEq, Eq)]
 pub struct Train {
     pub start: u8,
     pub end: u8,
     pub at: u8,
+    pub track: u8,
     pub standing: Standing,
 }
 
@@ -52,8 +55,20 @@ impl Train {
         start: 0,
         end: 0,
         at: 0,
+        track: 0,
         standing: Standing::Free,
     };
+
+    /// An up train's end is above its start; parked trains count as up.
+    pub fn is_up(&self) -> bool {
+        self.start <= self.end
+    }
+
+    /// The train stands at its end, whose siding it is put away in if the byte
+    /// names one there. Such a train holds no track.
+    fn is_put_away(&self, sidings: u8) -> bool {
+        self.at == self.end && has_siding(sidings, self.at)
+    }
 
     /// The next post towards the end; none at the end.
     pub fn next(&self) -> Option<u8> {
@@ -66,24 +81,22 @@ impl Train {
         }
     }
 
-    /// The post a Running train runs to.
-    fn running_to(&self) -> Option<u8> {
+    /// The section a Running train holds.
+    fn held_section(&self) -> Option<u8> {
         match self.standing {
-            Standing::Running => self.next(),
+            Standing::Running(_) => self.next().map(|to| section(self.at, to)),
             Standing::Free | Standing::Asked(_) => None,
         }
     }
 
-    /// The section a Running train holds.
-    fn held_section(&self) -> Option<u8> {
-        self.running_to().map(|to| section(self.at, to))
-    }
-
-    /// The train holds a track at the post, which has a siding or not. One
-    /// that stands at its end in a siding holds none.
-    fn holds_post(&self, post: u8, siding: bool) -> bool {
-        let put_away = siding && self.at == self.end;
-        (self.at == post && !put_away) || self.running_to() == Some(post)
+    /// The track that the train has at the post, if it holds that post: at its
+    /// present post unless it is put away, and where it runs to.
+    fn track_at(&self, post: u8, sidings: u8) -> Option<u8> {
+        match self.standing {
+            Standing::Running(ahead) if self.next() == Some(post) => Some(ahead),
+            _ if self.at == post && !self.is_put_away(sidings) => Some(self.track),
+            _ => None,
+        }
     }
 }
 
@@ -103,11 +116,28 @@ impl State {
         &self.train[..usize::from(self.trains).min(6)]
     }
 
+    /// The tracks that the trains which hold the post have there.
+    fn tracks_held(&self, post: u8) -> Vec<u8> {
+        let track = |t: &Train| t.track_at(post, self.sidings);
+        self.present().iter().filter_map(track).collect()
+    }
+
     /// How many trains hold the post.
     pub fn holders_of_post(&self, post: u8) -> usize {
-        let siding = has_siding(self.sidings, post);
-        let holds = |t: &&Train| t.holds_post(post, siding);
-        self.present().iter().filter(holds).count()
+        self.tracks_held(post).len()
+    }
+
+    /// The track that a train would get at the post, if one there is unheld:
+    /// the smallest such for an up train, the largest for a down train.
+    pub fn free_track(&self, post: u8, up: bool) -> Option<u8> {
+        let count = *self.tracks.get(usize::from(post))?;
+        let held = self.tracks_held(post);
+        let mut unheld = (1..=count).filter(|track| !held.contains(track));
+        if up {
+            unheld.next()
+        } else {
+            unheld.next_back()
+        }
     }
 
     /// How many trains hold the section.
@@ -139,11 +169,14 @@ pub fn sound(state: &State) -> bool {
         if !on_line || !between || (t.at == t.end && !still) {
             return false;
         }
+        if t.is_put_away(state.sidings) && t.track != 0 {
+            return false;
+        }
     }
 
     for post in 0..state.posts {
-        let tracks = state.tracks[usize::from(post)];
-        if !(1..=4).contains(&tracks) || state.holders_of_post(post) > usize::from(tracks) {
+        let count = state.tracks[usize::from(post)];
+        if !(1..=4).contains(&count) || !differ_within(&state.tracks_held(post), count) {
             return false;
         }
     }
@@ -153,6 +186,13 @@ pub fn sound(state: &State) -> bool {
         }
     }
     requests_in_order(state)
+}
+
+/// The tracks held at a post differ and are in its count, so that no more
+/// trains hold it than it has tracks.
+fn differ_within(held: &[u8], count: u8) -> bool {
+    let once = |track: &u8| held.iter().filter(|other| *other == track).count() == 1;
+    held.iter().all(|t| (1..=count).contains(t) && once(t))
 }
 
 /// FA numbers are distinct and below the journal's count.
@@ -191,22 +231,28 @@ pub fn open(book: &[u8], table: &mut [u8], journal: &[Record]) -> (State, u8) {
     (place(&line), 0)
 }
 
-/// Every train of the line Free at its start, count 0, all other places 0.
+/// Every train of the line Free at its start, count 0, all other places 0. In
+/// number order the trains take their tracks, put away ones none. For a line
+/// whose start placing is lawful: then a track is left for each.
 fn place(line: &Line) -> State {
     let mut state = State {
         posts: line.posts,
         tracks: line.tracks,
         sidings: line.sidings,
-        trains: line.trains,
         ..State::EMPTY
     };
     for t in 0..usize::from(line.trains) {
-        state.train[t] = Train {
+        let mut train = Train {
             start: line.starts[t],
             end: line.ends[t],
             at: line.starts[t],
-            standing: Standing::Free,
+            ..Train::EMPTY
         };
+        if !train.is_put_away(line.sidings) {
+            train.track = state.free_track(train.at, train.is_up()).unwrap_or(0);
+        }
+        state.train[t] = train;
+        state.trains += 1;
     }
     state
 }
@@ -230,8 +276,8 @@ fn accept(state: &State, frame: &[u8]) -> Result<Message, u8> {
     }
     match (message, train.standing) {
         (Message::Fa(_), Standing::Asked(_)) => return Err(10),
-        (Message::Fa(_), Standing::Running) => return Err(11),
-        (Message::Fa(_), Standing::Free) | (_, Standing::Running) => {}
+        (Message::Fa(_), Standing::Running(_)) => return Err(11),
+        (Message::Fa(_), Standing::Free) | (_, Standing::Running(_)) => {}
         (_, _) => return Err(12),
     }
     if JOURNAL_RECORDS - usize::from(state.journal) < RECORDS_A_FRAME {
@@ -255,26 +301,28 @@ fn move_of(state: &State, t: usize) -> Option<Move> {
 fn code_ahead(state: &State, mover: usize) -> u64 {
     let mut placing = [0; 6];
     for (t, train) in state.present().iter().enumerate() {
-        let ahead = t == mover || train.standing == Standing::Running;
+        let ahead = t == mover || matches!(train.standing, Standing::Running(_));
         let travelled = train.start.abs_diff(train.at);
         placing[t] = travelled + u8::from(ahead);
     }
     code(&placing)
 }
 
-/// The train is Asked and can be granted under the table handed in.
-fn can_be_granted(state: &State, table: &[u8], t: usize) -> bool {
+/// The track at its next post with which the train can be granted under the
+/// table handed in; none where it is not Asked or cannot be granted.
+fn grantable_on(state: &State, table: &[u8], t: usize) -> Option<u8> {
     let train = &state.train[t];
     let (Standing::Asked(_), Some(to)) = (train.standing, train.next()) else {
-        return false;
+        return None;
     };
-    state.holders_of_section(section(train.at, to)) == 0
-        && state.holders_of_post(to) < usize::from(state.tracks[usize::from(to)])
-        && bit(table, code_ahead(state, t))
+    let track = state.free_track(to, train.is_up())?;
+    let section_free = state.holders_of_section(section(train.at, to)) == 0;
+    (section_free && bit(table, code_ahead(state, t))).then_some(track)
 }
 
-/// The Asked train with the lowest FA number among those that can be granted.
-fn oldest_grantable(state: &State, table: &[u8]) -> Option<usize> {
+/// The Asked train with the lowest FA number among those that can be granted,
+/// and the track that it gets.
+fn oldest_grantable(state: &State, table: &[u8]) -> Option<(usize, u8)> {
     let mut asked: Vec<(u8, usize)> = Vec::new();
     for (t, train) in state.present().iter().enumerate() {
         if let Standing::Asked(number) = train.standing {
@@ -284,33 +332,37 @@ fn oldest_grantable(state: &State, table: &[u8]) -> Option<usize> {
     asked.sort();
     asked
         .into_iter()
-        .map(|(_, t)| t)
-        .find(|t| can_be_granted(state, table, *t))
+        .find_map(|(_, t)| Some((t, grantable_on(state, table, t)?)))
 }
 
-/// The effect of an accepted frame itself.
+/// The effect of an accepted frame itself. At the post it ran to a train has
+/// the track that it ran to, or none where it is put away.
 fn take(state: &mut State, message: Message) {
     let m = message.movement();
     let train = &mut state.train[usize::from(m.train)];
-    if let Message::Fa(_) = message {
-        train.standing = Standing::Asked(state.journal);
-    } else {
-        train.at = m.to;
-        train.standing = Standing::Free;
+    match (message, train.standing) {
+        (Message::Am(_), Standing::Running(ahead)) => {
+            train.at = m.to;
+            train.standing = Standing::Free;
+            let put_away = train.is_put_away(state.sidings);
+            train.track = if put_away { 0 } else { ahead };
+        }
+        _ => train.standing = Standing::Asked(state.journal),
     }
 }
 
-/// Granting, again from the oldest until none can be granted: an FE for each.
-/// Whoever asked with this message and was not granted gets an AFE, last.
-fn grant(state: &mut State, table: &[u8], message: Message) -> Vec<Message> {
-    let mut answers: Vec<Message> = Vec::new();
-    while let Some(t) = oldest_grantable(state, table) {
-        answers.extend(move_of(state, t).map(Message::Fe));
-        state.train[t].standing = Standing::Running;
+/// Granting, again from the oldest until none can be granted: an FE for each,
+/// with its track. Whoever asked with this message and was not granted gets an
+/// AFE, last; it has no track.
+fn grant(state: &mut State, table: &[u8], message: Message) -> Vec<(Message, u8)> {
+    let mut answers = Vec::new();
+    while let Some((t, track)) = oldest_grantable(state, table) {
+        answers.extend(move_of(state, t).map(|m| (Message::Fe(m), track)));
+        state.train[t].standing = Standing::Running(track);
     }
     if let Message::Fa(m) = message {
-        if state.train[usize::from(m.train)].standing != Standing::Running {
-            answers.push(Message::Afe(m));
+        if let Standing::Asked(_) = state.train[usize::from(m.train)].standing {
+            answers.push((Message::Afe(m), 0));
         }
     }
     answers
@@ -340,9 +392,9 @@ pub fn answer(
     let mut after = *state;
     take(&mut after, message);
     let answers = grant(&mut after, table, message);
-    after.journal = log(journal, after.journal, Record::of(message));
-    for (sent, place) in answers.iter().zip(out.chunks_exact_mut(FRAME_BYTES)) {
-        after.journal = log(journal, after.journal, Record::of(*sent));
+    after.journal = log(journal, after.journal, Record::of(message, 0));
+    for ((sent, track), place) in answers.iter().zip(out.chunks_exact_mut(FRAME_BYTES)) {
+        after.journal = log(journal, after.journal, Record::of(*sent, *track));
         place.copy_from_slice(&write_frame(*sent));
     }
     (after, Verdict::Sent(answers.len()))

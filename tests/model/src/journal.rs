@@ -16,6 +16,8 @@ pub struct Record {
     pub train: u8,
     pub from: u8,
     pub to: u8,
+    /// Of an FE the track at the post run to, from 1; else 0.
+    pub track: u8,
 }
 
 impl Record {
@@ -25,16 +27,18 @@ impl Record {
         train: 0,
         from: 0,
         to: 0,
+        track: 0,
     };
 
-    /// The record of a message.
-    pub fn of(message: Message) -> Record {
+    /// The record of a message, with the track that it has there.
+    pub fn of(message: Message, track: u8) -> Record {
         let m = message.movement();
         Record {
             kind: message.kind(),
             train: m.train,
             from: m.from,
             to: m.to,
+            track,
         }
     }
 

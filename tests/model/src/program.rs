@@ -73,8 +73,8 @@ pub fn run(reader: &mut dyn Read) -> String {
 fn lines(records: &[Record]) -> String {
     let mut text = String::new();
     for (number, r) in records.iter().enumerate() {
-        let word = r.word();
-        text += &format!("{number} {word} {} {} {}\n", r.train, r.from, r.to);
+        let (word, train) = (r.word(), r.train);
+        text += &format!("{number} {word} {train} {} {} {}\n", r.from, r.to, r.track);
     }
     text
 }

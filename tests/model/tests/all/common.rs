@@ -27,14 +27,33 @@ pub fn frame(kind: u8, train: u8, from: u8, to: u8) -> [u8; FRAME_BYTES] {
     [0, 5, 1, kind, train, from, to]
 }
 
+/// The record of an FA, AFE or AM: it has no track.
 pub fn record(kind: u8, train: u8, from: u8, to: u8) -> Record {
     Record {
         kind,
         train,
         from,
         to,
+        track: 0,
     }
 }
+
+/// The record of an FE, with the track at the post run to.
+pub fn authority(train: u8, from: u8, to: u8, track: u8) -> Record {
+    Record {
+        track,
+        ..record(FE, train, from, to)
+    }
+}
+
+/// What a lent journal has in its records before any is written.
+pub const OLD: Record = Record {
+    kind: 9,
+    train: 9,
+    from: 9,
+    to: 9,
+    track: 9,
+};
 
 /// The book of a line given by its tracks and its trains' starts and ends: of
 /// edition 2 where it has a byte of sidings, else of edition 1.
@@ -67,7 +86,7 @@ impl Box {
     /// Opens a book that must be accepted.
     pub fn open(book: &[u8]) -> Box {
         let mut table = vec![0xA5; TABLE_BYTES];
-        let journal = vec![record(9, 9, 9, 9); JOURNAL_RECORDS];
+        let journal = vec![OLD; JOURNAL_RECORDS];
         let (state, refusal) = open(book, &mut table, &journal);
         assert_eq!(refusal, 0);
         Box {

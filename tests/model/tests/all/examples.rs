@@ -10,6 +10,7 @@ fn a_x_opens() {
         start,
         end,
         at: start,
+        track: 1,
         standing: Standing::Free,
     };
     let mut train = [Train::EMPTY; 6];
@@ -24,7 +25,7 @@ fn a_x_opens() {
         journal: 0,
     };
     assert_eq!(b.state, expected);
-    assert!(b.journal.iter().all(|r| *r == record(9, 9, 9, 9)));
+    assert!(b.journal.iter().all(|r| *r == OLD));
 }
 
 #[test]
@@ -85,10 +86,10 @@ fn h_declined_for_the_way_through() {
 fn i_granted() {
     let mut b = Box::open(&Y);
     assert_eq!(b.put(&frame(FA, 0, 0, 1)), Ok(vec![[FE, 0, 0, 1]]));
-    assert_eq!(b.state.train[0].standing, Standing::Running);
+    assert_eq!(b.state.train[0].standing, Standing::Running(1));
     assert_eq!(b.journal[0], record(FA, 0, 0, 1));
-    assert_eq!(b.journal[1], record(FE, 0, 0, 1));
-    assert_eq!(b.journal[2], record(9, 9, 9, 9));
+    assert_eq!(b.journal[1], authority(0, 0, 1, 1));
+    assert_eq!(b.journal[2], OLD);
 }
 
 #[test]
@@ -129,19 +130,19 @@ fn run_input() -> Vec<u8> {
     input
 }
 
-const PRINTED: &str = "0 FA 0 0 1
-1 FE 0 0 1
-2 FA 1 2 1
-3 FE 1 2 1
-4 AM 0 0 1
-5 FA 0 1 2
-6 AFE 0 1 2
-7 AM 1 2 1
-8 FE 0 1 2
-9 FA 1 1 0
-10 FE 1 1 0
-11 AM 0 1 2
-12 AM 1 1 0
+const PRINTED: &str = "0 FA 0 0 1 0
+1 FE 0 0 1 1
+2 FA 1 2 1 0
+3 FE 1 2 1 2
+4 AM 0 0 1 0
+5 FA 0 1 2 0
+6 AFE 0 1 2 0
+7 AM 1 2 1 0
+8 FE 0 1 2 1
+9 FA 1 1 0 0
+10 FE 1 1 0 1
+11 AM 0 1 2 0
+12 AM 1 1 0 0
 end 13 0
 ";
 

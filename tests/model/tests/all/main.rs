@@ -5,5 +5,7 @@ mod examples;
 mod runs;
 mod sidings;
 mod table;
+mod tally;
 mod total;
+mod tracks;
 mod vectors;

@@ -2,228 +2,18 @@
 //! refusals only; each refusal and each answer against the tally as well.
 
 use crate::common::*;
+use crate::tally::{Has, Tally};
 use model::*;
 
-#[derive(Debug, Clone, Copy, PartialEq)]
-enum Has {
-    Nothing,
-    Asked,
-    Authority(u8, u8),
-}
-
-/// The paper's tally; `order` is the trains asked, oldest first.
-struct Tally {
-    tracks: Vec<u8>,
-    sidings: u8,
-    starts: Vec<u8>,
-    ends: Vec<u8>,
-    post: Vec<u8>,
-    has: Vec<Has>,
-    order: Vec<u8>,
-}
-
-impl Tally {
-    fn new(tracks: &[u8], sidings: u8, trains: &[(u8, u8)]) -> Tally {
-        Tally {
-            tracks: tracks.to_vec(),
-            sidings,
-            starts: trains.iter().map(|t| t.0).collect(),
-            ends: trains.iter().map(|t| t.1).collect(),
-            post: trains.iter().map(|t| t.0).collect(),
-            has: vec![Has::Nothing; trains.len()],
-            order: vec![],
-        }
-    }
-
-    fn trains(&self) -> usize {
-        self.post.len()
-    }
-
-    fn short_of_end(&self, t: usize) -> bool {
-        self.post[t] != self.ends[t]
-    }
-
-    /// The next post, or the present one at the end.
-    fn next(&self, t: usize) -> u8 {
-        match self.post[t].cmp(&self.ends[t]) {
-            std::cmp::Ordering::Less => self.post[t] + 1,
-            std::cmp::Ordering::Equal => self.post[t],
-            std::cmp::Ordering::Greater => self.post[t] - 1,
-        }
-    }
-
-    /// At its end, where that has a siding.
-    fn put_away(&self, t: usize) -> bool {
-        !self.short_of_end(t) && self.sidings >> self.post[t] & 1 == 1
-    }
-
-    /// Posts held by a train, from the move it has an authority for.
-    fn posts_held(&self, t: usize) -> Vec<u8> {
-        match self.has[t] {
-            Has::Authority(from, to) => vec![from, to],
-            _ if self.put_away(t) => vec![],
-            _ => vec![self.post[t]],
-        }
-    }
-
-    /// Some post has more trains standing at it than tracks: no more than the tracks hold one.
-    fn crowded(&self) -> bool {
-        let standing = |p: u8| self.post.iter().filter(|at| **at == p).count();
-        (0..)
-            .zip(&self.tracks)
-            .any(|(p, tracks)| standing(p) > usize::from(*tracks))
-    }
-
-    fn holders(&self, post: u8) -> usize {
-        (0..self.trains())
-            .filter(|t| self.posts_held(*t).contains(&post))
-            .count()
-    }
-
-    /// Trains with an authority over the section between two posts.
-    fn over(&self, p: u8, q: u8) -> usize {
-        (0..self.trains())
-            .filter(|t| {
-                self.has[*t] == Has::Authority(p, q) || self.has[*t] == Has::Authority(q, p)
-            })
-            .count()
-    }
-
-    /// A train that asked can be granted, by the tally and the table's bits.
-    fn grantable(&self, t: usize, table: &[u8]) -> bool {
-        let mut code = 0u64;
-        for u in 0..self.trains() {
-            let ahead = u == t || matches!(self.has[u], Has::Authority(_, _));
-            let at = if ahead { self.next(u) } else { self.post[u] };
-            code += u64::from(at.abs_diff(self.starts[u])) * 8u64.pow(u as u32);
-        }
-        let next = self.next(t);
-        self.over(self.post[t], next) == 0
-            && self.holders(next) < usize::from(self.tracks[usize::from(next)])
-            && table[(code / 8) as usize] >> (code % 8) & 1 == 1
-    }
-
-    /// The refusal due for a frame, by the list of checks; 0 if none.
-    fn refusal(&self, frame: &[u8], out: usize) -> u8 {
-        if out < 42 {
-            return 2;
-        }
-        if frame.len() != 7 || frame[0] != 0 || frame[1] != 5 {
-            return 3;
-        }
-        if frame[2] != 1 {
-            return 4;
-        }
-        let t = usize::from(frame[4]);
-        match frame[3] {
-            2 | 3 => return 6,
-            1 | 4 => {}
-            _ => return 5,
-        }
-        if t >= self.trains() {
-            return 7;
-        }
-        if !self.short_of_end(t) {
-            return 8;
-        }
-        if frame[5] != self.post[t] || frame[6] != self.next(t) {
-            return 9;
-        }
-        match (frame[3], self.has[t]) {
-            (1, Has::Asked) => 10,
-            (1, Has::Authority(_, _)) => 11,
-            (4, Has::Nothing | Has::Asked) => 12,
-            _ => 0,
-        }
-    }
-
-    /// The effect of an accepted frame itself.
-    fn take(&mut self, frame: &[u8]) {
-        let t = usize::from(frame[4]);
-        if frame[3] == 1 {
-            self.has[t] = Has::Asked;
-            self.order.push(frame[4]);
-        } else if self.has[t] == Has::Authority(frame[5], frame[6]) {
-            self.post[t] = frame[6];
-            self.has[t] = Has::Nothing;
-        }
-    }
-
-    /// The effect of an answer.
-    fn hear(&mut self, answer: &[u8]) {
-        if answer[3] == 2 {
-            self.has[usize::from(answer[4])] = Has::Authority(answer[5], answer[6]);
-            self.order.retain(|t| *t != answer[4]);
-        }
-    }
-
-    /// The answers due after `take`, with the tally brought to them.
-    fn answers_due(&mut self, frame: &[u8], table: &[u8]) -> Vec<u8> {
-        let mut due = vec![];
-        'again: loop {
-            for t in self.order.clone() {
-                let u = usize::from(t);
-                if self.grantable(u, table) {
-                    let fe = [0, 5, 1, 2, t, self.post[u], self.next(u)];
-                    self.hear(&fe);
-                    due.extend(fe);
-                    continue 'again;
-                }
-            }
-            break;
-        }
-        if frame[3] == 1 && self.has[usize::from(frame[4])] == Has::Asked {
-            due.extend([0, 5, 1, 3, frame[4], frame[5], frame[6]]);
-        }
-        due
-    }
-
-    /// Demand 3's clauses on holding.
-    fn check_holding(&self) {
-        for p in 0..self.tracks.len() as u8 {
-            assert!(self.holders(p) <= usize::from(self.tracks[usize::from(p)]));
-            assert!(self.over(p, p + 1) <= 1);
-        }
-        // An authority is for the one move from the post to the next.
-        for t in 0..self.trains() {
-            if let Has::Authority(from, to) = self.has[t] {
-                assert_eq!((from, to), (self.post[t], self.next(t)));
-                assert!(self.short_of_end(t));
-            }
-        }
-    }
-
-    /// A train's unit knows what the tally knows of it.
-    fn agrees_with(&self, t: usize, unit: &Unit) -> bool {
-        let same = match self.has[t] {
-            Has::Nothing => unit.state == UnitState::Standing,
-            Has::Asked => unit.state == UnitState::Declined,
-            Has::Authority(_, _) => matches!(
-                unit.state,
-                UnitState::Granted | UnitState::UnderWay | UnitState::Arrived
-            ),
-        };
-        same && unit.at == self.post[t] && unit::sound(unit)
-    }
-
-    /// Demand 3's standstill clause.
-    fn check_standstill(&self) {
-        let short: Vec<usize> = (0..self.trains())
-            .filter(|t| self.short_of_end(*t))
-            .collect();
-        assert!(short.is_empty() || short.iter().any(|t| self.has[*t] != Has::Asked));
-    }
-}
-
 /// A run from an opened book, with everything that is checked after a frame.
-struct Run {
-    state: State,
-    table: Vec<u8>,
+pub struct Run {
+    pub state: State,
+    pub table: Vec<u8>,
     journal: Vec<Record>,
-    tally: Tally,
-    /// Every FE that went out, in order.
-    authorities: Vec<[u8; 3]>,
-    right_table: bool,
+    pub tally: Tally,
+    /// The record of every FE that went out, in order.
+    pub authorities: Vec<Record>,
+    pub right_table: bool,
     refused: [u64; 24],
     accepted: u64,
     most_sent: usize,
@@ -231,7 +21,7 @@ struct Run {
 
 impl Run {
     /// A random book that opens.
-    fn open(rng: &mut Rng) -> Run {
+    pub fn open(rng: &mut Rng) -> Run {
         loop {
             let tracks = rng.within(1, 4);
             let (tracks, trains) = rng.line(8, 6, tracks);
@@ -244,7 +34,10 @@ impl Run {
             table.resize(TABLE_BYTES + rng.below(3) as usize, 0x5A);
             let extra = rng.below(3) as usize;
             let journal: Vec<Record> = (0..JOURNAL_RECORDS + extra)
-                .map(|_| record(rng.byte(), rng.byte(), rng.byte(), rng.byte()))
+                .map(|_| Record {
+                    track: rng.byte(),
+                    ..record(rng.byte(), rng.byte(), rng.byte(), rng.byte())
+                })
                 .collect();
             let before = journal.clone();
             let book = book_of(&tracks, sidings, &trains);
@@ -270,7 +63,7 @@ impl Run {
     }
 
     /// Puts a frame with an out buffer and checks all that is due. Gives the answers.
-    fn put(&mut self, frame: &[u8], out: &mut [u8]) -> Vec<u8> {
+    pub fn put(&mut self, frame: &[u8], out: &mut [u8]) -> Vec<u8> {
         let journal = self.journal.clone();
         let buffer = out.to_vec();
         let (after, verdict) = answer(&self.state, &self.table, &mut self.journal, frame, out);
@@ -292,66 +85,89 @@ impl Run {
         answers.to_vec()
     }
 
-    /// The answers to an accepted frame are those due, and are logged with it; nothing else in
-    /// the journal changed.
-    fn accept(&mut self, frame: &[u8], after: State, answers: &[u8], mut journal: Vec<Record>) {
-        self.tally.take(frame);
-        assert_eq!(answers, self.tally.answers_due(frame, &self.table));
+    /// The answers to an accepted frame are those due, and are logged with it, each FE with the
+    /// track due; nothing else in the journal changed.
+    fn accept(&mut self, taken: &[u8], after: State, answers: &[u8], mut journal: Vec<Record>) {
         let count = usize::from(self.state.journal);
-        let sent = answers.chunks(FRAME_BYTES);
-        assert_eq!(usize::from(after.journal), count + 1 + sent.len());
-        self.most_sent = self.most_sent.max(sent.len());
-        for (n, f) in [frame].into_iter().chain(sent).enumerate() {
-            journal[count + n] = record(f[3], f[4], f[5], f[6]);
-            if f[3] == FE {
-                self.authorities.push([f[4], f[5], f[6]]);
-            }
-        }
+        let logged = &self.journal[count + 1..usize::from(after.journal)];
+        self.tally.take(taken);
+        let due = self.tally.answers_due(taken, &self.table, logged);
+        let frames = due.iter().map(|r| frame(r.kind, r.train, r.from, r.to));
+        assert_eq!(answers, frames.collect::<Vec<_>>().as_flattened());
+
+        journal[count] = record(taken[3], taken[4], taken[5], taken[6]);
+        journal[count + 1..][..due.len()].copy_from_slice(&due);
         assert_eq!(self.journal, journal);
+        assert_eq!(usize::from(after.journal), count + 1 + due.len());
+        self.most_sent = self.most_sent.max(due.len());
+        self.authorities.extend(due.iter().filter(|r| r.kind == FE));
         self.state = after;
         self.accepted += 1;
     }
 
-    /// Demand 3, and the FE counts, after any list of frames.
+    /// Demand 3, card 2's clause and the FE counts, after any list of frames.
     fn check(&self) {
         self.tally.check_holding();
+        self.tally.check_tracks();
         if self.right_table {
             self.tally.check_standstill();
         }
         assert!(sound(&self.state));
-        let log = &self.journal[..usize::from(self.state.journal)];
+        self.check_free_tracks();
 
         // Every authority written has its logged request.
-        for [train, from, to] in &self.authorities {
-            let fe = record(FE, *train, *from, *to);
-            let fa = record(FA, *train, *from, *to);
-            let logged = |n: usize| log[n] == fe && log[..n].contains(&fa);
+        let log = self.log();
+        for fe in &self.authorities {
+            let fa = record(FA, fe.train, fe.from, fe.to);
+            let logged = |n: usize| log[n] == *fe && log[..n].contains(&fa);
             assert!((0..log.len()).any(logged));
         }
-
         for t in 0..self.tally.trains() {
-            let fes = log
-                .iter()
-                .filter(|r| r.kind == FE && usize::from(r.train) == t)
-                .count();
-            let train = &self.state.train[t];
-            let running = train.standing == Standing::Running;
-            let travelled = train.at.abs_diff(train.start);
-            assert_eq!(fes, usize::from(travelled) + usize::from(running));
-            // State and tally tell the same.
-            assert_eq!(train.at, self.tally.post[t]);
-            assert_eq!(running, matches!(self.tally.has[t], Has::Authority(_, _)));
-            let asked = matches!(train.standing, Standing::Asked(_));
-            assert_eq!(asked, self.tally.has[t] == Has::Asked);
-            if let Standing::Asked(number) = train.standing {
-                let fa = record(FA, t as u8, train.at, self.tally.next(t));
-                assert_eq!(log[usize::from(number)], fa);
+            self.check_train(t);
+        }
+    }
+
+    /// The records below the count.
+    fn log(&self) -> &[Record] {
+        &self.journal[..usize::from(self.state.journal)]
+    }
+
+    /// Some track of a post is unheld exactly where fewer trains hold the post than it has tracks.
+    fn check_free_tracks(&self) {
+        for (post, count) in (0..).zip(&self.tally.tracks) {
+            let fewer = self.tally.holders(post) < usize::from(*count);
+            for up in [false, true] {
+                assert_eq!(self.state.free_track(post, up).is_some(), fewer);
             }
         }
     }
 
+    /// State and tally tell the same of a train, and its FEs number its posts travelled, plus one
+    /// while it is Running.
+    fn check_train(&self, t: usize) {
+        let train = &self.state.train[t];
+        assert_eq!(train.at, self.tally.post[t]);
+        assert_eq!(train.track, self.tally.here[t]);
+        let running = match (train.standing, self.tally.has[t]) {
+            (Standing::Free, Has::Nothing) => 0,
+            (Standing::Asked(number), Has::Asked) => {
+                let fa = record(FA, t as u8, train.at, self.tally.next(t));
+                assert_eq!(self.log()[usize::from(number)], fa);
+                0
+            }
+            (Standing::Running(ahead), Has::Authority(_, _)) => {
+                assert_eq!(ahead, self.tally.ahead[t]);
+                1
+            }
+            (standing, has) => panic!("{standing:?} {has:?}"),
+        };
+        let is_its = |r: &&Record| r.kind == FE && usize::from(r.train) == t;
+        let fes = self.log().iter().filter(is_its).count();
+        assert_eq!(fes, usize::from(train.at.abs_diff(train.start)) + running);
+    }
+
     /// A frame as crews might send it, sensible or not.
-    fn random_frame(&self, rng: &mut Rng) -> Vec<u8> {
+    pub fn random_frame(&self, rng: &mut Rng) -> Vec<u8> {
         let t = rng.below(self.tally.trains() as u64) as usize;
         let sensible = match self.tally.has[t] {
             Has::Authority(_, _) => 4,
@@ -383,7 +199,7 @@ impl Run {
         f
     }
 
-    fn random_out(rng: &mut Rng) -> Vec<u8> {
+    pub fn random_out(rng: &mut Rng) -> Vec<u8> {
         let length = if rng.chance(3) {
             rng.below(OUT_BYTES as u64)
         } else {

@@ -190,14 +190,15 @@ const CHANGES: [(bool, Change); 10] = [
         s.train[1] = on_its_way(s.train[1]);
     }),
     // One put away cannot run.
-    (false, |s| s.train[0].standing = Standing::Running),
+    (false, |s| s.train[0].standing = Standing::Running(1)),
 ];
 
-/// At post 1 and bound for post 0.
+/// At post 1, on its track, and bound for post 0.
 fn on_its_way(train: Train) -> Train {
     Train {
         start: 1,
         end: 0,
+        track: 1,
         ..train
     }
 }
@@ -206,8 +207,9 @@ fn on_its_way(train: Train) -> Train {
 fn sound_states_with_sidings() {
     for (number, (expected, change)) in CHANGES.iter().enumerate() {
         let mut s = Box::open(&TWO_IN).state;
-        s.train[0].at = 1;
-        s.train[1].at = 1;
+        for train in &mut s.train[..2] {
+            (train.at, train.track) = (1, 0);
+        }
         change(&mut s);
         assert_eq!(sound(&s), *expected, "change {number}: {s:?}");
     }
@@ -249,13 +251,13 @@ fn sidings_in_the_program() {
         &frame(AM, 0, 0, 1),
         &frame(AM, 1, 0, 1),
     ];
-    let printed = "0 FA 0 0 1
-1 FE 0 0 1
-2 FA 1 0 1
-3 AFE 1 0 1
-4 AM 0 0 1
-5 FE 1 0 1
-6 AM 1 0 1
+    let printed = "0 FA 0 0 1 0
+1 FE 0 0 1 1
+2 FA 1 0 1 0
+3 AFE 1 0 1 0
+4 AM 0 0 1 0
+5 FE 1 0 1 1
+6 AM 1 0 1 0
 end 7 0
 ";
     assert_eq!(program::run(&mut &input.concat()[..]), printed);

@@ -2,6 +2,7 @@
 
 use crate::common::*;
 use model::*;
+use std::collections::HashSet;
 
 /// A number that is often small, else anything.
 fn number(rng: &mut Rng) -> u8 {
@@ -16,7 +17,7 @@ fn standing(rng: &mut Rng) -> Standing {
     match rng.below(3) {
         0 => Standing::Free,
         1 => Standing::Asked(rng.byte()),
-        _ => Standing::Running,
+        _ => Standing::Running(number(rng)),
     }
 }
 
@@ -33,6 +34,7 @@ fn garbage(rng: &mut Rng) -> State {
             start: number(rng),
             end: number(rng),
             at: number(rng),
+            track: number(rng),
             standing: standing(rng),
         };
     }
@@ -58,7 +60,34 @@ fn near(rng: &mut Rng) -> State {
             t.standing = Standing::Free;
         }
     }
+    if rng.chance(90) {
+        give_tracks(&mut s, rng);
+    }
     s
+}
+
+/// Gives each train some track that no train before it has at the post, if there is one, and one
+/// put away none.
+fn give_tracks(s: &mut State, rng: &mut Rng) {
+    let mut held = vec![];
+    let tracks = s.tracks;
+    let mut some = |post: u8| {
+        let count = tracks[usize::from(post)];
+        let first = rng.within(0, count - 1);
+        let mut turned = (0..count).map(|n| (first + n) % count + 1);
+        let track = turned.find(|n| !held.contains(&(post, *n))).unwrap_or(1);
+        held.push((post, track));
+        track
+    };
+    for t in s.train.iter_mut() {
+        t.track = match in_siding(t, s.sidings) {
+            true => 0,
+            false => some(t.at),
+        };
+        if let (Standing::Running(_), Some(to)) = (t.standing, t.next()) {
+            t.standing = Standing::Running(some(to));
+        }
+    }
 }
 
 /// Start and end on the line, the present post between them.
@@ -68,9 +97,19 @@ fn on_its_way(t: &Train, posts: u8) -> bool {
     t.start < posts && t.end < posts && (up || down)
 }
 
-/// Soundness once more, by the paper's words and in another way: each post
-/// with the six-bit set of its holders, each section likewise.
+/// Put away in a siding at its end; its post is one of eight.
+fn in_siding(t: &Train, sidings: u8) -> bool {
+    t.at == t.end && sidings / 2u8.pow(t.at.into()) % 2 == 1
+}
+
+/// Soundness once more, by the paper's words and in another way.
 fn sound_again(s: &State) -> bool {
+    held_soundly(s) && on_right_tracks(s)
+}
+
+/// All but the tracks' numbers: each post with the six-bit set of its holders,
+/// each section likewise.
+fn held_soundly(s: &State) -> bool {
     if s.posts < 2 || s.posts > 8 || s.trains < 1 || s.trains > 6 || s.journal > 176 {
         return false;
     }
@@ -85,13 +124,12 @@ fn sound_again(s: &State) -> bool {
             return false;
         }
         let (end, at, standing) = (train.end, train.at, train.standing);
-        let in_siding = at == end && s.sidings / 2u8.pow(at.into()) % 2 == 1;
-        posts[usize::from(at)] |= u8::from(!in_siding) << t;
+        posts[usize::from(at)] |= u8::from(!in_siding(train, s.sidings)) << t;
         match standing {
             Standing::Free => {}
             _ if at == end => return false,
             Standing::Asked(n) => numbers.push(n),
-            Standing::Running => {
+            Standing::Running(_) => {
                 let next = if end > at { at + 1 } else { at - 1 };
                 posts[usize::from(next)] |= 1 << t;
                 sections[usize::from(next.min(at))] |= 1 << t;
@@ -104,6 +142,28 @@ fn sound_again(s: &State) -> bool {
     (0..usize::from(s.posts)).all(|p| !full(p) && !odd(p))
         && sections.iter().all(|set| set.count_ones() <= 1)
         && numbers.iter().all(|n| *n < s.journal && distinct(n))
+}
+
+/// Of a state that is sound but for the tracks' numbers: each track that is held, with its post, is
+/// one of that post and is held once; one put away has none.
+fn on_right_tracks(s: &State) -> bool {
+    let mut held = HashSet::new();
+    let mut take = |post: u8, track: u8| {
+        let there = track >= 1 && track <= s.tracks[usize::from(post)];
+        there && held.insert((post, track))
+    };
+    s.train[..usize::from(s.trains)].iter().all(|t| {
+        let here = match in_siding(t, s.sidings) {
+            true => t.track == 0,
+            false => take(t.at, t.track),
+        };
+        let ahead = match t.standing {
+            Standing::Running(track) if t.end > t.at => take(t.at + 1, track),
+            Standing::Running(track) => take(t.at - 1, track),
+            _ => true,
+        };
+        here && ahead
+    })
 }
 
 /// A frame for one of the trains, or anything.
@@ -124,7 +184,7 @@ fn some_frame(s: &State, rng: &mut Rng) -> Vec<u8> {
 /// Puts some frame to the state, with stores that may be short, and checks what came of it.
 fn put_some_frame(s: &State, table: &[u8], rng: &mut Rng) -> Verdict {
     let records = JOURNAL_RECORDS - usize::from(!rng.chance(95));
-    let mut journal = vec![record(8, 8, 8, 8); records];
+    let mut journal = vec![OLD; records];
     let most = OUT_BYTES as u64;
     let room = if rng.chance(95) {
         most
@@ -139,7 +199,7 @@ fn put_some_frame(s: &State, table: &[u8], rng: &mut Rng) -> Verdict {
             assert_eq!(after, *s);
             assert_eq!(n == 1, !sound(s));
             assert!(out.iter().all(|b| *b == 0xCC));
-            assert!(journal.iter().all(|r| *r == record(8, 8, 8, 8)));
+            assert!(journal.iter().all(|r| *r == OLD));
         }
         Verdict::Sent(n) => {
             assert!(sound(s) && sound(&after), "{s:?} {after:?}");
@@ -153,7 +213,7 @@ fn put_some_frame(s: &State, table: &[u8], rng: &mut Rng) -> Verdict {
 fn states_of_all_sorts() {
     let mut rng = Rng(0x5EED);
     let table: Vec<u8> = rng.bytes(TABLE_BYTES);
-    let (mut good, mut strange, mut answered, mut crowded) = (0, 0, 0, 0);
+    let (mut good, mut strange, mut answered, mut crowded, mut off_track) = (0, 0, 0, 0, 0);
     for round in 0..60_000 {
         let s = match round % 4 {
             0 => garbage(&mut rng),
@@ -165,11 +225,12 @@ fn states_of_all_sorts() {
             Verdict::Sent(_) => answered += 1,
         }
         good += u32::from(sound(&s));
-        crowded += u32::from(sound(&s) && !sound(&State { sidings: 0, ..s }));
+        crowded += u32::from(sound(&s) && !held_soundly(&State { sidings: 0, ..s }));
+        off_track += u32::from(held_soundly(&s) && !sound(&s));
     }
     assert!(
-        good > 3000 && strange > 10_000 && answered > 500 && crowded > 500,
-        "{good} {strange} {answered} {crowded}"
+        good > 3000 && strange > 10_000 && answered > 500 && crowded > 500 && off_track > 500,
+        "{good} {strange} {answered} {crowded} {off_track}"
     );
 }
 

@@ -12,17 +12,20 @@ fn bits(codes: &[u64]) -> Vec<u8> {
     table
 }
 
-/// A state of the line with each train at its start.
+/// A state of the line with each train at its start, there on the first track that none before
+/// it has.
 fn state(tracks: &[u8], trains: &[(u8, u8, Standing)], journal: u8) -> State {
     let mut s = State::EMPTY;
     s.posts = tracks.len() as u8;
     s.tracks[..tracks.len()].copy_from_slice(tracks);
     s.trains = trains.len() as u8;
     for (t, (start, end, standing)) in trains.iter().enumerate() {
+        let before = trains[..t].iter().filter(|other| other.0 == *start);
         s.train[t] = Train {
             start: *start,
             end: *end,
             at: *start,
+            track: before.count() as u8 + 1,
             standing: *standing,
         };
     }
@@ -93,7 +96,7 @@ fn a_book_read_alone() {
 #[test]
 fn opening_and_its_stores() {
     // 2 comes before the book is looked at.
-    let journal = [record(7, 7, 7, 7); 177];
+    let journal = [OLD; 177];
     let mut short = vec![3; TABLE_BYTES - 1];
     assert_eq!(open(&[], &mut short, &journal), (State::EMPTY, 2));
     assert!(short.iter().all(|b| *b == 3));
@@ -278,11 +281,11 @@ fn a_grant_lets_an_older_train_go() {
         record(FA, 0, 0, 1),
         record(AFE, 0, 0, 1),
         record(FA, 1, 3, 2),
-        record(FE, 1, 3, 2),
-        record(FE, 0, 0, 1),
+        authority(1, 3, 2, 2),
+        authority(0, 0, 1, 1),
     ];
     assert_eq!(b.journal[..5], logged);
-    assert_eq!(b.journal[5], record(9, 9, 9, 9));
+    assert_eq!(b.journal[5], OLD);
     assert_eq!(b.state.journal, 5);
 }
 
@@ -341,7 +344,7 @@ fn declined_comes_last() {
         b.put(&frame(FA, 1, 0, 1)),
         Ok(vec![[FE, 0, 3, 2], [AFE, 1, 0, 1]])
     );
-    assert_eq!(b.journal[3], record(FE, 0, 3, 2));
+    assert_eq!(b.journal[3], authority(0, 3, 2, 1));
     assert_eq!(b.journal[4], record(AFE, 1, 0, 1));
     // An AM never gives an AFE.
     assert_eq!(b.put(&frame(AM, 0, 3, 2)), Ok(vec![]));
@@ -383,7 +386,7 @@ fn the_track_left_behind() {
 #[test]
 fn the_bit_asked_for() {
     let trains = [
-        (0, 2, Standing::Running),
+        (0, 2, Standing::Running(1)),
         (3, 7, Standing::Free),
         (7, 4, Standing::Free),
         (2, 3, Standing::Asked(0)),
@@ -417,7 +420,7 @@ fn six_frames_out() {
     assert_eq!(b.state.journal, 176);
     assert_eq!(b.journal[168], Record::BLANK);
     assert_eq!(b.journal[169], record(FA, 5, 5, 6));
-    assert_eq!(b.journal[175], record(FE, 5, 5, 6));
+    assert_eq!(b.journal[175], authority(5, 5, 6, 1));
     assert!(sound(&b.state));
 
     trains[5] = (1, 0, Standing::Free);
@@ -429,7 +432,7 @@ fn six_frames_out() {
     assert_eq!(b.state.journal, 176);
 
     // An AM with five waiting.
-    trains[5] = (6, 7, Standing::Running);
+    trains[5] = (6, 7, Standing::Running(1));
     let mut b = boxed(state(&[4; 8], &trains, 169), vec![255; TABLE_BYTES]);
     assert_eq!(b.put(&frame(AM, 5, 6, 7)).unwrap().len(), 5);
     assert_eq!(b.state.journal, 175);
@@ -439,10 +442,10 @@ fn six_frames_out() {
 #[test]
 fn full_from_170_records_on() {
     for count in 0..=255u8 {
-        let trains = [(0, 1, Standing::Free), (2, 1, Standing::Running)];
+        let trains = [(0, 1, Standing::Free), (2, 1, Standing::Running(4))];
         for length in [176, 300] {
             let mut b = boxed(state(&[4; 3], &trains, count), vec![255; TABLE_BYTES]);
-            b.journal = vec![record(9, 9, 9, 9); length];
+            b.journal = vec![OLD; length];
             let full = match count {
                 0..=169 => 0,
                 170..=176 => 13,
@@ -457,7 +460,7 @@ fn full_from_170_records_on() {
             let other = |n| if full == 1 { Err(1) } else { Err(n) };
             assert_eq!(b.put(&frame(AM, 0, 0, 1)), other(12));
             assert_eq!(b.put(&frame(FA, 1, 2, 1)), other(11));
-            assert!(b.journal.iter().all(|r| *r == record(9, 9, 9, 9)));
+            assert!(b.journal.iter().all(|r| *r == OLD));
         }
     }
 }
@@ -504,8 +507,8 @@ const CHANGES: [(bool, Change); 32] = [
     (false, |s| s.trains = 7),
     (false, |s| s.tracks[1] = 0),
     (false, |s| s.tracks[1] = 5),
-    (true, |s| s.tracks[3] = 5),                         // not read
-    (true, |s| s.train[2].standing = Standing::Running), // not read
+    (true, |s| s.tracks[3] = 5),                            // not read
+    (true, |s| s.train[2].standing = Standing::Running(9)), // not read
     (false, |s| s.train[0].start = 3),
     (false, |s| s.train[0].end = 3),
     (false, |s| s.train[0].at = 3),
@@ -535,31 +538,31 @@ const CHANGES: [(bool, Change); 32] = [
         s.journal = 176;
     }),
     // Running: tracks at both posts, one holder of a section.
-    (true, |s| s.train[0].standing = Standing::Running),
+    (true, |s| s.train[0].standing = Standing::Running(1)),
     (true, |s| {
-        s.train[0].standing = Standing::Running;
-        s.train[1].standing = Standing::Running;
+        s.train[0].standing = Standing::Running(1);
+        s.train[1].standing = Standing::Running(2);
     }),
     (false, |s| {
         s.tracks[1] = 1;
-        s.train[0].standing = Standing::Running;
-        s.train[1].standing = Standing::Running;
+        s.train[0].standing = Standing::Running(1);
+        s.train[1].standing = Standing::Running(2);
     }),
     (false, |s| {
         s.tracks = [4; 8];
         s.train[0].at = 1;
-        s.train[0].standing = Standing::Running;
-        s.train[1].standing = Standing::Running;
+        s.train[0].standing = Standing::Running(2);
+        s.train[1].standing = Standing::Running(3);
     }),
     // Only trains short of their end are Asked or Running.
     (false, |s| {
         s.tracks[2] = 2;
-        s.train[0].at = 2;
-        s.train[0].standing = Standing::Running;
+        (s.train[0].at, s.train[0].track) = (2, 2);
+        s.train[0].standing = Standing::Running(1);
     }),
     (false, |s| {
         s.tracks[2] = 2;
-        s.train[0].at = 2;
+        (s.train[0].at, s.train[0].track) = (2, 2);
         s.train[0].standing = Standing::Asked(0);
         s.journal = 1;
     }),
@@ -585,6 +588,7 @@ fn unread_places() {
         start: 1,
         end: 250,
         at: 1,
+        track: 1,
         standing: Standing::Asked(0),
     };
     odd.state.train[2..].fill(ghost);
@@ -765,7 +769,7 @@ fn unit_soundness() {
 
 #[test]
 fn journal_functions() {
-    let r = record(1, 2, 3, 4);
+    let r = authority(2, 3, 4, 5);
     let mut journal = vec![Record::BLANK; 200];
     assert_eq!(journal::log(&mut journal, 5, r), 6);
     assert_eq!(journal[5], r);
@@ -807,14 +811,16 @@ fn program_books() {
     assert_eq!(printed(&long[..27]), "book 14\n");
     long[1] = 24;
     assert_eq!(printed(&long), "book 4\n");
-    // The longest book of each edition is read whole, and a frame after it.
+    // The longest book of each edition is read whole, and a frame after it. At post 1 a parked
+    // train has track 1, unless it is put away.
     let trains = [(0, 7), (7, 0), (3, 4), (4, 3), (1, 1), (6, 6)];
-    for (sidings, bytes) in [(None, 25), (Some(0), 26), (Some(255), 26)] {
+    for (sidings, bytes, track) in [(None, 25, 2), (Some(0), 26, 2), (Some(255), 26, 1)] {
         let longest = book_of(&[4; 8], sidings, &trains);
         assert_eq!(longest.len(), bytes);
         assert_eq!(printed(&longest), "end 0 0\n");
         let one = [&longest[..], &frame(FA, 0, 0, 1)].concat();
-        assert_eq!(printed(&one), "0 FA 0 0 1\n1 FE 0 0 1\nend 2 0\n");
+        let granted = format!("0 FA 0 0 1 0\n1 FE 0 0 1 {track}\nend 2 0\n");
+        assert_eq!(printed(&one), granted);
     }
     // A named length below the true one: the book ends where it says.
     let mut short = book(&[1, 1], &[(0, 1), (1, 0)]);
@@ -833,7 +839,7 @@ fn program_frames() {
     assert_eq!(after_x(&[0; 7]), "end 0 1\n");
     assert_eq!(after_x(&[0; 8]), "end 0 2\n");
     assert_eq!(after_x(&[0; 21]), "end 0 3\n");
-    let granted = "0 FA 0 0 1\n1 FE 0 0 1\n";
+    let granted = "0 FA 0 0 1 0\n1 FE 0 0 1 1\n";
     let ask = frame(FA, 0, 0, 1);
     let input = [&ask[..], &ask[..5]].concat();
     assert_eq!(after_x(&input), format!("{granted}end 2 1\n"));
@@ -871,7 +877,7 @@ impl std::io::Read for Fitful<'_> {
 fn program_reading() {
     let ask = frame(FA, 0, 0, 1);
     let bytes = [&X[..], &ask, &ask].concat();
-    let granted = "0 FA 0 0 1\n1 FE 0 0 1\n";
+    let granted = "0 FA 0 0 1 0\n1 FE 0 0 1 1\n";
     for fail_at in 0..30 {
         let mut reader = Fitful {
             bytes: &bytes,

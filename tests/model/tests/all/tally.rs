@@ -1,0 +1,262 @@
+//! The paper's tally: who asked and who holds, told by book, frames, answers and refusals only. For
+//! the clause on tracks alone it has tracks too, at opening by the rule, then from each FE's record.
+
+use crate::common::*;
+use model::*;
+use std::collections::HashSet;
+
+#[derive(Debug, Clone, Copy, PartialEq)]
+pub enum Has {
+    Nothing,
+    Asked,
+    Authority(u8, u8),
+}
+
+/// The tally; `order` is the trains asked, oldest first. `here` is each train's track at its post, 0
+/// for one put away, and `ahead` the one where it has an authority to go.
+pub struct Tally {
+    pub tracks: Vec<u8>,
+    pub sidings: u8,
+    pub starts: Vec<u8>,
+    pub ends: Vec<u8>,
+    pub post: Vec<u8>,
+    pub has: Vec<Has>,
+    pub order: Vec<u8>,
+    pub here: Vec<u8>,
+    pub ahead: Vec<u8>,
+}
+
+impl Tally {
+    /// Each train at its start with nothing. In number order those not put away take a track.
+    pub fn new(tracks: &[u8], sidings: u8, trains: &[(u8, u8)]) -> Tally {
+        let mut tally = Tally {
+            tracks: tracks.to_vec(),
+            sidings,
+            starts: trains.iter().map(|t| t.0).collect(),
+            ends: trains.iter().map(|t| t.1).collect(),
+            post: trains.iter().map(|t| t.0).collect(),
+            has: vec![Has::Nothing; trains.len()],
+            order: vec![],
+            here: vec![0; trains.len()],
+            ahead: vec![0; trains.len()],
+        };
+        for (t, (start, _)) in trains.iter().enumerate() {
+            if !tally.put_away(t) {
+                tally.here[t] = tally.track_due(t, *start);
+            }
+        }
+        tally
+    }
+
+    pub fn trains(&self) -> usize {
+        self.post.len()
+    }
+
+    pub fn short_of_end(&self, t: usize) -> bool {
+        self.post[t] != self.ends[t]
+    }
+
+    /// The next post, or the present one at the end.
+    pub fn next(&self, t: usize) -> u8 {
+        match self.post[t].cmp(&self.ends[t]) {
+            std::cmp::Ordering::Less => self.post[t] + 1,
+            std::cmp::Ordering::Equal => self.post[t],
+            std::cmp::Ordering::Greater => self.post[t] - 1,
+        }
+    }
+
+    /// At its end, where that has a siding.
+    pub fn put_away(&self, t: usize) -> bool {
+        !self.short_of_end(t) && self.sidings >> self.post[t] & 1 == 1
+    }
+
+    /// Posts held by a train, from the move it has an authority for.
+    pub fn posts_held(&self, t: usize) -> Vec<u8> {
+        match self.has[t] {
+            Has::Authority(from, to) => vec![from, to],
+            _ if self.put_away(t) => vec![],
+            _ => vec![self.post[t]],
+        }
+    }
+
+    /// Posts held by a train, each with its track there.
+    pub fn tracks_held(&self, t: usize) -> Vec<(u8, u8)> {
+        let tracks = [self.here[t], self.ahead[t]];
+        self.posts_held(t).into_iter().zip(tracks).collect()
+    }
+
+    /// The track of the post that is due to the train: of those that no train has, the largest for
+    /// one whose end is below its start, else the smallest.
+    pub fn track_due(&self, t: usize, post: u8) -> u8 {
+        let trains = 0..self.trains();
+        let held: Vec<(u8, u8)> = trains.flat_map(|u| self.tracks_held(u)).collect();
+        let count = self.tracks[usize::from(post)];
+        let mut unheld = (1..=count).filter(|track| !held.contains(&(post, *track)));
+        let due = if self.ends[t] < self.starts[t] {
+            unheld.next_back()
+        } else {
+            unheld.next()
+        };
+        due.expect("a track of the post is unheld")
+    }
+
+    /// Some post has more trains standing at it than tracks: no more than the tracks hold one.
+    pub fn crowded(&self) -> bool {
+        let standing = |p: u8| self.post.iter().filter(|at| **at == p).count();
+        (0..)
+            .zip(&self.tracks)
+            .any(|(p, tracks)| standing(p) > usize::from(*tracks))
+    }
+
+    pub fn holders(&self, post: u8) -> usize {
+        (0..self.trains())
+            .filter(|t| self.posts_held(*t).contains(&post))
+            .count()
+    }
+
+    /// Trains with an authority over the section between two posts.
+    pub fn over(&self, p: u8, q: u8) -> usize {
+        (0..self.trains())
+            .filter(|t| {
+                self.has[*t] == Has::Authority(p, q) || self.has[*t] == Has::Authority(q, p)
+            })
+            .count()
+    }
+
+    /// A train that asked can be granted, by the tally and the table's bits.
+    pub fn grantable(&self, t: usize, table: &[u8]) -> bool {
+        let mut code = 0u64;
+        for u in 0..self.trains() {
+            let ahead = u == t || matches!(self.has[u], Has::Authority(_, _));
+            let at = if ahead { self.next(u) } else { self.post[u] };
+            code += u64::from(at.abs_diff(self.starts[u])) * 8u64.pow(u as u32);
+        }
+        let next = self.next(t);
+        self.over(self.post[t], next) == 0
+            && self.holders(next) < usize::from(self.tracks[usize::from(next)])
+            && table[(code / 8) as usize] >> (code % 8) & 1 == 1
+    }
+
+    /// The refusal due for a frame, by the list of checks; 0 if none.
+    pub fn refusal(&self, frame: &[u8], out: usize) -> u8 {
+        if out < 42 {
+            return 2;
+        }
+        if frame.len() != 7 || frame[0] != 0 || frame[1] != 5 {
+            return 3;
+        }
+        if frame[2] != 1 {
+            return 4;
+        }
+        let t = usize::from(frame[4]);
+        match frame[3] {
+            2 | 3 => return 6,
+            1 | 4 => {}
+            _ => return 5,
+        }
+        if t >= self.trains() {
+            return 7;
+        }
+        if !self.short_of_end(t) {
+            return 8;
+        }
+        if frame[5] != self.post[t] || frame[6] != self.next(t) {
+            return 9;
+        }
+        match (frame[3], self.has[t]) {
+            (1, Has::Asked) => 10,
+            (1, Has::Authority(_, _)) => 11,
+            (4, Has::Nothing | Has::Asked) => 12,
+            _ => 0,
+        }
+    }
+
+    /// The effect of an accepted frame itself.
+    pub fn take(&mut self, frame: &[u8]) {
+        let t = usize::from(frame[4]);
+        if frame[3] == 1 {
+            self.has[t] = Has::Asked;
+            self.order.push(frame[4]);
+        } else if self.has[t] == Has::Authority(frame[5], frame[6]) {
+            self.post[t] = frame[6];
+            self.has[t] = Has::Nothing;
+            self.here[t] = if self.put_away(t) { 0 } else { self.ahead[t] };
+        }
+    }
+
+    /// The effect of an FE that was written, with the track of its record.
+    pub fn hear(&mut self, fe: &Record, track: u8) {
+        let t = usize::from(fe.train);
+        self.has[t] = Has::Authority(fe.from, fe.to);
+        self.ahead[t] = track;
+        self.order.retain(|t| *t != fe.train);
+    }
+
+    /// The records due for the answers after `take`, with the tally brought to them. The tally has
+    /// each FE's track from the record that was logged.
+    pub fn answers_due(&mut self, frame: &[u8], table: &[u8], logged: &[Record]) -> Vec<Record> {
+        let mut due: Vec<Record> = vec![];
+        'again: loop {
+            for t in self.order.clone() {
+                let u = usize::from(t);
+                if self.grantable(u, table) {
+                    let to = self.next(u);
+                    let fe = authority(t, self.post[u], to, self.track_due(u, to));
+                    self.hear(&fe, logged.get(due.len()).map_or(0, |r| r.track));
+                    due.push(fe);
+                    continue 'again;
+                }
+            }
+            break;
+        }
+        if frame[3] == 1 && self.has[usize::from(frame[4])] == Has::Asked {
+            due.push(record(AFE, frame[4], frame[5], frame[6]));
+        }
+        due
+    }
+
+    /// Demand 3's clauses on holding.
+    pub fn check_holding(&self) {
+        for p in 0..self.tracks.len() as u8 {
+            assert!(self.holders(p) <= usize::from(self.tracks[usize::from(p)]));
+            assert!(self.over(p, p + 1) <= 1);
+        }
+        // An authority is for the one move from the post to the next.
+        for t in 0..self.trains() {
+            if let Has::Authority(from, to) = self.has[t] {
+                assert_eq!((from, to), (self.post[t], self.next(t)));
+                assert!(self.short_of_end(t));
+            }
+        }
+    }
+
+    /// Card 2's clause: no track has two trains, and each is one of its post's.
+    pub fn check_tracks(&self) {
+        let mut seen = HashSet::new();
+        for (post, track) in (0..self.trains()).flat_map(|t| self.tracks_held(t)) {
+            assert!((1..=self.tracks[usize::from(post)]).contains(&track));
+            assert!(seen.insert((post, track)), "track {track} of post {post}");
+        }
+    }
+
+    /// A train's unit knows what the tally knows of it.
+    pub fn agrees_with(&self, t: usize, unit: &Unit) -> bool {
+        let same = match self.has[t] {
+            Has::Nothing => unit.state == UnitState::Standing,
+            Has::Asked => unit.state == UnitState::Declined,
+            Has::Authority(_, _) => matches!(
+                unit.state,
+                UnitState::Granted | UnitState::UnderWay | UnitState::Arrived
+            ),
+        };
+        same && unit.at == self.post[t] && unit::sound(unit)
+    }
+
+    /// Demand 3's standstill clause.
+    pub fn check_standstill(&self) {
+        let short: Vec<usize> = (0..self.trains())
+            .filter(|t| self.short_of_end(*t))
+            .collect();
+        assert!(short.is_empty() || short.iter().any(|t| self.has[*t] != Has::Asked));
+    }
+}
