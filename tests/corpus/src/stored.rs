@@ -125,6 +125,7 @@ pub fn all() -> Vec<Input> {
     inputs.extend(ON_X.map(|(name, frames)| on(&X, name, frames)));
     inputs.extend(made_books());
     inputs.extend(sidings());
+    inputs.extend(tracks());
     inputs.extend(frames());
     inputs.extend(tails());
     inputs.extend(runs());
@@ -215,6 +216,31 @@ fn sidings() -> Vec<Input> {
             &[ASK, frame(FA, 1, 2, 1), arrival],
         ),
     ]
+}
+
+/// Runs in which the FEs tell which tracks are held.
+fn tracks() -> Vec<Input> {
+    let go = |moves: &[[u8; 3]]| -> Vec<Frame> {
+        let asked_and_made =
+            |[train, from, to]: [u8; 3]| [FA, AM].map(|kind| frame(kind, train, from, to));
+        moves.iter().copied().flat_map(asked_and_made).collect()
+    };
+    // Four trains fill post 1. The first and the last of them leave, and two others get what they had there.
+    let full = [[1, 2], [1, 0], [1, 1], [1, 0], [0, 2], [2, 0]];
+    let two_in = go(&[[0, 1, 2], [3, 1, 0], [4, 0, 1], [5, 2, 1]]);
+    let both_ways = [[0, 2], [2, 0], [0, 2], [2, 0]];
+    let to_post_1 = [[0, 0, 1], [1, 2, 1], [2, 0, 1], [3, 2, 1]];
+    let from_post_1 = [[3, 1, 0], [0, 1, 2], [1, 1, 0], [2, 1, 2]];
+    let through = go(&[to_post_1, from_post_1].concat());
+    let mostly_up = [[0, 2], [0, 2], [2, 0], [0, 2]];
+    let again = go(&[[0, 0, 1], [1, 0, 1], [2, 2, 1], [0, 1, 2], [3, 0, 1]]);
+    [
+        ("book-tracks-at-opening", &full[..], two_in),
+        ("run-tracks-up-and-down", &both_ways, through),
+        ("run-track-freed-and-taken-again", &mostly_up, again),
+    ]
+    .map(|(name, routes, frames)| on(&book(&[4, 4, 4], routes), name, &frames))
+    .to_vec()
 }
 
 /// Frames after book Y, and many refused ones.

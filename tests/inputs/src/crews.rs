@@ -53,7 +53,7 @@ fn some_frame(state: &State, random: &mut Random) -> [u8; FRAME_BYTES] {
     let t = random.below(state.trains.into());
     let train = state.train[t];
     let kind = match train.standing {
-        Standing::Running => AM,
+        Standing::Running(_) => AM,
         Standing::Free | Standing::Asked(_) => FA,
     };
     let to = train.next().unwrap_or(train.at);

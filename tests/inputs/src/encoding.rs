@@ -11,8 +11,10 @@ pub mod train_at {
     pub const START: usize = 0;
     pub const END: usize = 1;
     pub const POST: usize = 2;
-    pub const STATUS: usize = 3;
-    pub const REQUEST: usize = 4;
+    pub const TRACK: usize = 3;
+    pub const STATUS: usize = 4;
+    /// Asked: the journal number of its FA. Running: its track at the post it runs to. Free: 0.
+    pub const DETAIL: usize = 5;
 }
 
 /// Where the bytes of a unit have its phase.
@@ -59,19 +61,26 @@ pub fn state_bytes(state: &State) -> [u8; STATE_BYTES] {
     bytes[TRAINS_AT] = state.trains;
     let places = bytes[FLEET_AT..].chunks_exact_mut(TRAIN_BYTES);
     for (train, place) in state.train.iter().zip(places) {
-        let (status, number) = match train.standing {
+        let (status, detail) = match train.standing {
             Standing::Free => (FREE, 0),
             Standing::Asked(number) => (ASKED, number),
-            Standing::Running => (RUNNING, 0),
+            Standing::Running(ahead) => (RUNNING, ahead),
         };
-        place.copy_from_slice(&[train.start, train.end, train.at, status, number]);
+        let Train {
+            start,
+            end,
+            at,
+            track,
+            ..
+        } = *train;
+        place.copy_from_slice(&[start, end, at, track, status, detail]);
     }
     bytes[COUNT_AT] = state.journal;
     bytes
 }
 
-/// The state that the bytes encode; none for another length, another status, or a number where
-/// the status is not Asked.
+/// The state that the bytes encode; none for another length, another status, or a detail where
+/// the status is Free.
 pub fn state_of(bytes: &[u8]) -> Option<State> {
     if bytes.len() != STATE_BYTES {
         return None;
@@ -92,19 +101,20 @@ pub fn state_of(bytes: &[u8]) -> Option<State> {
 }
 
 fn train_of(place: &[u8]) -> Option<Train> {
-    let [start, end, at, status, number] = *place else {
+    let [start, end, at, track, status, detail] = *place else {
         return None;
     };
-    let standing = match (status, number) {
+    let standing = match (status, detail) {
         (FREE, 0) => Standing::Free,
         (ASKED, number) => Standing::Asked(number),
-        (RUNNING, 0) => Standing::Running,
+        (RUNNING, ahead) => Standing::Running(ahead),
         _ => return None,
     };
     Some(Train {
         start,
         end,
         at,
+        track,
         standing,
     })
 }
@@ -128,13 +138,14 @@ pub fn records_of(journal: &[u8]) -> Vec<Record> {
         train: r[1],
         from: r[2],
         to: r[3],
+        track: r[4],
     };
     journal.chunks_exact(RECORD_BYTES).map(record).collect()
 }
 
 pub fn put_records(records: &[Record], journal: &mut [u8]) {
     for (r, place) in records.iter().zip(journal.chunks_exact_mut(RECORD_BYTES)) {
-        place.copy_from_slice(&[r.kind, r.train, r.from, r.to]);
+        place.copy_from_slice(&[r.kind, r.train, r.from, r.to, r.track]);
     }
 }
 
@@ -161,8 +172,9 @@ pub fn unit_of(bytes: &[u8]) -> Option<Unit> {
 #[cfg(test)]
 mod tests {
     use super::*;
-    use crate::books::book_2;
+    use crate::books::{book_2, X};
     use crate::crews;
+    use crate::sizes::JOURNAL_BYTES;
 
     /// Three posts, a siding at the last, two trains.
     const BEGINNING: [u8; FLEET_AT] = [3, 1, 2, 1, 0, 0, 0, 0, 0, 4, 2];
@@ -174,13 +186,57 @@ mod tests {
         assert_eq!(line[..FLEET_AT], BEGINNING);
         assert_eq!(line[FLEET_AT..], [0, 2, 2, 1, 0, 0, 0, 0, 0, 0, 0, 0]);
         let mut state = crews::open(&book).unwrap().state;
+        state.train[0].standing = Standing::Running(2);
         state.train[1].standing = Standing::Asked(6);
         state.journal = 7;
         let bytes = state_bytes(&state);
         assert_eq!(bytes[..FLEET_AT], BEGINNING);
-        assert_eq!(bytes[FLEET_AT..][..10], [0, 2, 0, 0, 0, 2, 1, 2, 1, 6]);
+        let two = [0, 2, 0, 1, RUNNING, 2, 2, 1, 2, 1, ASKED, 6];
+        assert_eq!(bytes[FLEET_AT..][..12], two);
+        assert!(bytes[FLEET_AT + 12..COUNT_AT].iter().all(|byte| *byte == 0));
         assert_eq!(bytes[COUNT_AT..], [7]);
-        assert_eq!((line.len(), bytes.len()), (23, 42));
+        assert_eq!((line.len(), bytes.len()), (23, 48));
         assert_eq!(state_of(&bytes), Some(state));
+    }
+
+    #[test]
+    fn a_detail_of_a_free_train_and_a_fourth_status_encode_none() {
+        let bytes = state_bytes(&crews::open(&X).unwrap().state);
+        for (status, detail, encodes) in [
+            (FREE, 0, true),
+            (FREE, 1, false),
+            (ASKED, 255, true),
+            (RUNNING, 0, true),
+            (RUNNING, 255, true),
+            (RUNNING + 1, 0, false),
+        ] {
+            // Of the places that are not read, too.
+            for t in [0, 5] {
+                let mut other = bytes;
+                let train = &mut other[FLEET_AT + TRAIN_BYTES * t..][..TRAIN_BYTES];
+                train[train_at::STATUS] = status;
+                train[train_at::DETAIL] = detail;
+                assert_eq!(state_of(&other).is_some(), encodes, "{status} {detail}");
+            }
+        }
+    }
+
+    #[test]
+    fn records_are_as_the_header_has_them() {
+        let bytes: Vec<u8> = (1..=13).collect();
+        let records = records_of(&bytes);
+        let second = Record {
+            kind: 6,
+            train: 7,
+            from: 8,
+            to: 9,
+            track: 10,
+        };
+        assert_eq!(records[1..], [second]);
+        let mut journal = [0; 13];
+        put_records(&records, &mut journal);
+        assert_eq!(journal[..10], bytes[..10]);
+        assert_eq!(journal[10..], [0; 3]);
+        assert_eq!(JOURNAL_BYTES, 880);
     }
 }

@@ -4,7 +4,7 @@ pub use model::{
     FRAME_BYTES, JOURNAL_RECORDS, LONGEST_BOOK, OUT_BYTES, RECORDS_A_FRAME, TABLE_BYTES,
 };
 
-pub const RECORD_BYTES: usize = 4;
+pub const RECORD_BYTES: usize = 5;
 pub const JOURNAL_BYTES: usize = RECORD_BYTES * JOURNAL_RECORDS;
 
 /// A line and a state begin alike: the posts, the tracks of eight posts, the byte of sidings, the trains. Then come the
@@ -18,8 +18,8 @@ pub const FLEET_AT: usize = TRAINS_AT + 1;
 pub const ROUTE_BYTES: usize = 2;
 pub const LINE_BYTES: usize = FLEET_AT + 6 * ROUTE_BYTES;
 
-/// Of a train a state has five bytes; last comes the journal's count.
-pub const TRAIN_BYTES: usize = 5;
+/// Of a train a state has six bytes; last comes the journal's count.
+pub const TRAIN_BYTES: usize = 6;
 pub const COUNT_AT: usize = FLEET_AT + 6 * TRAIN_BYTES;
 pub const STATE_BYTES: usize = COUNT_AT + 1;
 
