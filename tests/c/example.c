@@ -1,7 +1,7 @@
 /*
  * The run of 01 from C: opens book X, answers eight frames that two drivers' units give, and prints
- * the journal. Then one unit goes once through its flow, and a book with sidings is opened. Exit
- * status 0 where all went as the paper says, else 1.
+ * the journal. Then one unit goes once through its flow, and books with sidings and with several
+ * tracks are opened. Exit status 0 where all went as the paper says, else 1.
  *
  *   rt staticlib quangevit
  *   cc -Wall -Wextra -I crates/quangevit tests/c/example.c target/staticlib/libquangevit.a -o example
@@ -13,14 +13,14 @@
 
 static const uint8_t BOOK_X[] = {0x00, 0x0A, 1, 3, 1, 2, 1, 2, 0, 2, 2, 0};
 
-/* The journal of the run: kind, train, from, to. */
+/* The journal of the run: kind, train, from, to, and of an FE the track at the post run to. */
 #define RECORDS 13
 static const uint8_t RUN[RECORDS][QUANGEVIT_RECORD_BYTES] = {
-    {QUANGEVIT_FA, 0, 0, 1},  {QUANGEVIT_FE, 0, 0, 1}, {QUANGEVIT_FA, 1, 2, 1},
-    {QUANGEVIT_FE, 1, 2, 1},  {QUANGEVIT_AM, 0, 0, 1}, {QUANGEVIT_FA, 0, 1, 2},
-    {QUANGEVIT_AFE, 0, 1, 2}, {QUANGEVIT_AM, 1, 2, 1}, {QUANGEVIT_FE, 0, 1, 2},
-    {QUANGEVIT_FA, 1, 1, 0},  {QUANGEVIT_FE, 1, 1, 0}, {QUANGEVIT_AM, 0, 1, 2},
-    {QUANGEVIT_AM, 1, 1, 0},
+    {QUANGEVIT_FA, 0, 0, 1, 0},  {QUANGEVIT_FE, 0, 0, 1, 1}, {QUANGEVIT_FA, 1, 2, 1, 0},
+    {QUANGEVIT_FE, 1, 2, 1, 2},  {QUANGEVIT_AM, 0, 0, 1, 0}, {QUANGEVIT_FA, 0, 1, 2, 0},
+    {QUANGEVIT_AFE, 0, 1, 2, 0}, {QUANGEVIT_AM, 1, 2, 1, 0}, {QUANGEVIT_FE, 0, 1, 2, 1},
+    {QUANGEVIT_FA, 1, 1, 0, 0},  {QUANGEVIT_FE, 1, 1, 0, 1}, {QUANGEVIT_AM, 0, 1, 2, 0},
+    {QUANGEVIT_AM, 1, 1, 0, 0},
 };
 
 static uint8_t line[QUANGEVIT_LINE_BYTES];
@@ -97,9 +97,9 @@ static void print_journal(void) {
     for (i = 0; i < count; i++) {
         const uint8_t *r = journal + QUANGEVIT_RECORD_BYTES * i;
         uint8_t kind = r[QUANGEVIT_RECORD_KIND_AT];
-        printf("%u %s %u %u %u\n", i, kinds[kind <= QUANGEVIT_AM ? kind : 0],
+        printf("%u %s %u %u %u %u\n", i, kinds[kind <= QUANGEVIT_AM ? kind : 0],
                r[QUANGEVIT_RECORD_TRAIN_AT], r[QUANGEVIT_RECORD_FROM_AT],
-               r[QUANGEVIT_RECORD_TO_AT]);
+               r[QUANGEVIT_RECORD_TO_AT], r[QUANGEVIT_RECORD_TRACK_AT]);
     }
     printf("end %u %u\n", count, refused_frames);
 }
@@ -155,6 +155,17 @@ static void sidings(void) {
            "a siding off the line is read");
 }
 
+/* Four trains at post 1, which has four tracks: up, down, parked, down. */
+static void tracks(void) {
+    static const uint8_t book[] = {0x00, 0x0E, 1, 3, 2, 4, 2, 4, 1, 2, 1, 0, 1, 1, 1, 0};
+    static const uint8_t opened[] = {1, 4, 2, 3};
+    const uint8_t *train = state + QUANGEVIT_STATE_FLEET_AT;
+    unsigned t;
+    expect(open_book(book, sizeof book) == QUANGEVIT_ACCEPTED, "a book of four trains is refused");
+    for (t = 0; t < sizeof opened; t++, train += QUANGEVIT_TRAIN_BYTES)
+        expect(train[QUANGEVIT_TRAIN_TRACK_AT] == opened[t], "a train is on another track");
+}
+
 int main(void) {
     static const uint8_t line_x[QUANGEVIT_LINE_BYTES] = {3, 1, 2, 1, 0, 0, 0, 0,
                                                          0, 0, 2, 0, 2, 2, 0};
@@ -184,5 +195,6 @@ int main(void) {
     expect(refused_frames == 0, "a frame is refused");
     flow();
     sidings();
+    tracks();
     return off;
 }

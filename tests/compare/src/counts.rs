@@ -36,7 +36,7 @@ const PHASES: [&str; 6] = [
 
 /// What comes of sidings alone, in the order of the names.
 #[derive(Debug, Clone, Copy, PartialEq, Eq)]
-pub enum Case {
+pub enum SidingCase {
     StartFits,
     WayFits,
     TrackBefore,
@@ -47,7 +47,7 @@ pub enum Case {
     NoSiding,
 }
 
-const CASES: [&str; 8] = [
+const SIDINGS: [&str; 8] = [
     "opened, overfull without them",
     "opened, no way through without them",
     "no way through, lawful placings all the way",
@@ -56,6 +56,67 @@ const CASES: [&str; 8] = [
     "declined, no track before the siding",
     "a strange state, siding off the line",
     "a strange state, no siding for its trains",
+];
+
+/// What comes of tracks, in the order of the names. A strange state is sound but for the one track.
+#[derive(Debug, Clone, Copy, PartialEq, Eq)]
+pub enum TrackCase {
+    OnNone,
+    OnOneAbove,
+    OnAnothers,
+    OnOnePutAway,
+    ToNone,
+    ToOneAbove,
+    ToAnothers,
+    Unread,
+    OpenedApart,
+    OpenedParked,
+    OpenedPutAway,
+    First,
+    Second,
+    Third,
+    Fourth,
+    UpPastOthers,
+    DownPastOthers,
+    TwoAtOnce,
+    FreedAndTaken,
+    PutAway,
+}
+
+const TRACKS: [&str; 20] = [
+    "a strange state, a train on no track",
+    "a strange state, on a track above the count",
+    "a strange state, on another's track",
+    "a strange state, put away and on a track",
+    "a strange state, running to no track",
+    "a strange state, to a track above the count",
+    "a strange state, running to another's track",
+    "answered, tracks in places not read",
+    "opened, two trains at a post, tracks apart",
+    "opened, a parked train on a track",
+    "opened, a parked train put away, no track",
+    "authority to track 1",
+    "authority to track 2",
+    "authority to track 3",
+    "authority to track 4",
+    "authority, up, lower tracks held",
+    "authority, down, higher tracks held",
+    "two authorities to a post in one answer",
+    "a track freed and taken in one answer",
+    "arrived and put away, no track",
+];
+
+/// Kinds of inputs that a run must have had, beside what must have come of inputs.
+const DUE_INPUTS: [&str; 9] = [
+    "state: valid",
+    "state: a track altered",
+    "table: of the book, bits flipped",
+    "table: all ones",
+    "table: all zero",
+    "table: random bits",
+    "table: few bits",
+    "table: most bits",
+    "table: short",
 ];
 
 /// Refusal numbers 0 (none) to 23.
@@ -69,7 +130,8 @@ pub struct Counts {
     sent: [u64; MOST_SENT + 1],
     statuses: [u64; STATUSES.len()],
     phases: [u64; PHASES.len()],
-    cases: [u64; CASES.len()],
+    sidings: [u64; SIDINGS.len()],
+    tracks: [u64; TRACKS.len()],
 }
 
 impl Counts {
@@ -80,7 +142,8 @@ impl Counts {
             sent: [0; MOST_SENT + 1],
             statuses: [0; STATUSES.len()],
             phases: [0; PHASES.len()],
-            cases: [0; CASES.len()],
+            sidings: [0; SIDINGS.len()],
+            tracks: [0; TRACKS.len()],
         }
     }
 
@@ -111,8 +174,16 @@ impl Counts {
         self.phases[usize::from(phase)] += 1;
     }
 
-    pub fn case(&mut self, case: Case) {
-        self.cases[case as usize] += 1;
+    pub fn sidings(&mut self, cases: impl IntoIterator<Item = SidingCase>) {
+        for case in cases {
+            self.sidings[case as usize] += 1;
+        }
+    }
+
+    pub fn tracks(&mut self, cases: impl IntoIterator<Item = TrackCase>) {
+        for case in cases {
+            self.tracks[case as usize] += 1;
+        }
     }
 
     /// Frames put to the box, accepted and refused.
@@ -141,7 +212,10 @@ impl Counts {
         }
         failings.extend(never("status", &STATUSES, &self.statuses));
         failings.extend(never("phase", &PHASES, &self.phases));
-        failings.extend(never("case of sidings:", &CASES, &self.cases));
+        failings.extend(never("case of sidings:", &SIDINGS, &self.sidings));
+        failings.extend(never("case of tracks:", &TRACKS, &self.tracks));
+        let had = DUE_INPUTS.map(|kind| self.inputs.get(kind).copied().unwrap_or(0));
+        failings.extend(never("input", &DUE_INPUTS, &had));
         failings
     }
 
@@ -165,7 +239,8 @@ impl Counts {
             &PHASES,
             &self.phases,
         );
-        print_names("what came of sidings", &CASES, &self.cases);
+        print_names("what came of sidings", &SIDINGS, &self.sidings);
+        print_names("what came of tracks", &TRACKS, &self.tracks);
         let accepted = self.refusals[Entry::Answer as usize][0];
         println!("frames answered: {}, accepted: {accepted}", self.frames());
     }

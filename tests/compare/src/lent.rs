@@ -53,6 +53,11 @@ impl Lent {
         self.before.copy_from_slice(&self.proved);
     }
 
+    /// The bytes as the last call got them.
+    pub fn kept(&self) -> &[u8] {
+        self.inner(&self.before)
+    }
+
     /// The bytes, which both sides have alike after every call that was compared.
     pub fn bytes(&self) -> &[u8] {
         self.shown_to(Side::Model)

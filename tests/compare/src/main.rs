@@ -15,12 +15,16 @@ mod openings;
 mod pair;
 mod runs;
 mod sidings;
+mod state_tracks;
 mod states;
 mod stores;
 mod tables;
 #[cfg(test)]
 mod tests;
+mod tracks;
 mod units;
+#[cfg(test)]
+mod wrong_tracks;
 
 use boundary::Proved;
 use inputs::random::Random;

@@ -1,8 +1,8 @@
 //! Both sides called with the same input, and everything they answer and write compared.
 
-use crate::counts::{Case, Counts, Entry};
+use crate::counts::{Counts, Entry};
 use crate::lent::{Lent, Side};
-use crate::sidings;
+use crate::{sidings, tracks};
 use boundary::Ends;
 use inputs::encoding::{train_at, trains_in, PHASE_AT};
 use inputs::sizes::FRAME_BYTES;
@@ -69,7 +69,11 @@ impl Pair {
             ("journal", journal),
         ];
         let reply = self.settle(Entry::Open, &[], results, &buffers, &[])?;
-        self.count_cases(sidings::of_opening(book.bytes(), reply.refusal));
+        self.counts
+            .sidings(sidings::of_opening(book.bytes(), reply.refusal));
+        if reply.refusal == 0 {
+            self.counts.tracks(tracks::of_opening(state.bytes()));
+        }
         Ok(reply)
     }
 
@@ -104,11 +108,13 @@ impl Pair {
         let reply = self.settle(Entry::Answer, &[], results, &buffers, &[("table", table)])?;
         if reply.refusal == 0 {
             let sent = &out.bytes()[..FRAME_BYTES * reply.sent];
+            let cases = sidings::of_answer(state.bytes(), table.bytes(), sent);
             self.counts.sent(reply.sent);
-            self.count_statuses(state.bytes());
-            self.count_cases(sidings::of_answer(state.bytes(), table.bytes(), sent));
+            self.counts.sidings(cases);
+            self.count_trains(state, journal);
         } else if reply.refusal == 1 {
-            self.count_cases(sidings::of_strange(state.bytes()));
+            self.counts.sidings(sidings::of_strange(state.bytes()));
+            self.counts.tracks(tracks::of_strange(state.bytes()));
         }
         Ok(reply)
     }
@@ -185,16 +191,13 @@ impl Pair {
         Err(Difference(text))
     }
 
-    fn count_statuses(&mut self, state: &[u8]) {
-        for train in trains_in(state) {
+    /// Of an accepted frame: what the trains are about, and their tracks.
+    fn count_trains(&mut self, state: &Lent, journal: &Lent) {
+        for train in trains_in(state.bytes()) {
             self.counts.status(train[train_at::STATUS]);
         }
-    }
-
-    fn count_cases(&mut self, cases: impl IntoIterator<Item = Case>) {
-        for case in cases {
-            self.counts.case(case);
-        }
+        let cases = tracks::of_answer(state.kept(), state.bytes(), journal.bytes());
+        self.counts.tracks(cases);
     }
 
     fn count_phase(&mut self, reply: Reply, unit: &Lent) {

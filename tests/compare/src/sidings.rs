@@ -1,6 +1,7 @@
 //! What sidings brought about, by the model: how an opening would have gone without them, and why a train waits.
 
-use crate::counts::Case;
+use crate::counts::SidingCase;
+use crate::state_tracks;
 use inputs::encoding::state_of;
 use inputs::frames::{AFE, KIND_AT, TO_AT, TRAIN_AT};
 use inputs::sizes::{FRAME_BYTES, JOURNAL_RECORDS, TABLE_BYTES};
@@ -12,18 +13,18 @@ use std::collections::HashSet;
 const MOST_PLACINGS: usize = 4_000;
 
 /// Of an opening that was answered with this number.
-pub fn of_opening(book: &[u8], refusal: u8) -> Option<Case> {
+pub fn of_opening(book: &[u8], refusal: u8) -> Option<SidingCase> {
     let line = model::read_book(book).ok()?;
     if line.sidings == 0 {
         return None;
     }
     match refusal {
         0 => match without_sidings(book, &line) {
-            19 => Some(Case::StartFits),
-            20 => Some(Case::WayFits),
+            19 => Some(SidingCase::StartFits),
+            20 => Some(SidingCase::WayFits),
             _ => None,
         },
-        20 if lawful_to_the_end(&line) => Some(Case::TrackBefore),
+        20 if lawful_to_the_end(&line) => Some(SidingCase::TrackBefore),
         _ => None,
     }
 }
@@ -73,25 +74,25 @@ fn is_lawful(line: &Line, posts: &[u8; 6]) -> bool {
 }
 
 /// Of an accepted frame: the state after it, the table, and the frames sent.
-pub fn of_answer(state: &[u8], table: &[u8], sent: &[u8]) -> Vec<Case> {
+pub fn of_answer(state: &[u8], table: &[u8], sent: &[u8]) -> Vec<SidingCase> {
     let Some(state) = state_of(state).filter(|state| state.sidings != 0) else {
         return vec![];
     };
     let mut cases = vec![];
     let put_away = put_away(&state);
     if put_away.iter().any(|trains| *trains > 0) {
-        cases.push(Case::PutAway);
+        cases.push(SidingCase::PutAway);
     }
     if put_away
         .iter()
         .zip(&state.tracks)
         .any(|(trains, tracks)| trains > tracks)
     {
-        cases.push(Case::Crowded);
+        cases.push(SidingCase::Crowded);
     }
     let last = sent.chunks_exact(FRAME_BYTES).last();
     if last.is_some_and(|last| last[KIND_AT] == AFE && lacks_a_track(&state, table, last)) {
-        cases.push(Case::Declined);
+        cases.push(SidingCase::Declined);
     }
     cases
 }
@@ -100,9 +101,7 @@ pub fn of_answer(state: &[u8], table: &[u8], sent: &[u8]) -> Vec<Case> {
 fn put_away(state: &State) -> [u8; 8] {
     let mut trains = [0; 8];
     for train in state.present() {
-        if train.at == train.end {
-            trains[usize::from(train.at)] += state.sidings >> train.at & 1;
-        }
+        trains[usize::from(train.at)] += u8::from(train.is_put_away(state.sidings));
     }
     trains
 }
@@ -122,20 +121,21 @@ fn lacks_a_track(state: &State, table: &[u8], afe: &[u8]) -> bool {
 /// The code of the placing in which this train and all Running ones have reached their next posts.
 fn code_ahead(state: &State, mover: usize) -> u64 {
     let digit = |(t, train): (usize, &Train)| {
-        let ahead = t == mover || train.standing == Standing::Running;
+        let ahead = t == mover || matches!(train.standing, Standing::Running(_));
         u64::from(train.start.abs_diff(train.at) + u8::from(ahead)) << (3 * t)
     };
     state.present().iter().enumerate().map(digit).sum()
 }
 
-/// Of a state that was refused by 1: it would be sound with other sidings.
-pub fn of_strange(state: &[u8]) -> Option<Case> {
+/// Of a state that was refused by 1: whatever tracks its trains had, it would be sound with other sidings alone.
+pub fn of_strange(state: &[u8]) -> Option<SidingCase> {
     let state = state_of(state).filter(|state| (2..=8).contains(&state.posts))?;
     let all = 255 >> (8 - state.posts);
     let (case, sidings) = if state.sidings > all {
-        (Case::OffTheLine, state.sidings & all)
+        (SidingCase::OffTheLine, state.sidings & all)
     } else {
-        (Case::NoSiding, all)
+        (SidingCase::NoSiding, all)
     };
-    model::sound(&State { sidings, ..state }).then_some(case)
+    let sound = |state| model::sound(&state_tracks::set_right(state));
+    (!sound(state) && sound(State { sidings, ..state })).then_some(case)
 }

@@ -1,37 +1,59 @@
 //! States handed in: valid by construction, nearly valid, and such that no box ever had.
 
-use inputs::encoding::{state_bytes, state_of, train_at, ASKED, RUNNING};
+use crate::state_tracks;
+use inputs::encoding::{state_bytes, state_of, train_at, FREE, RUNNING};
 use inputs::random::Random;
-use inputs::sizes::{
-    FLEET_AT, JOURNAL_RECORDS, RECORDS_A_FRAME, SIDINGS_AT, STATE_BYTES, TRAIN_BYTES,
-};
+use inputs::sizes::{FLEET_AT, JOURNAL_RECORDS, RECORDS_A_FRAME, STATE_BYTES, TRAIN_BYTES};
 use model::{Standing, State, Train};
 
 /// A state of some kind. `opened` is the first state of a book, for states of its line.
 pub fn any(opened: &[u8], random: &mut Random) -> (&'static str, Vec<u8>) {
     let state = valid(opened, random);
-    let mut bytes = state_bytes(&state).to_vec();
-    match random.below(16) {
-        0 | 1 => {
+    match random.below(18) {
+        0..=3 => altered_bytes(state_bytes(&state).to_vec(), random),
+        4..=8 => {
+            let (kind, state) = altered(state, random);
+            (kind, state_bytes(&state).to_vec())
+        }
+        _ => ("state: valid", state_bytes(&state).to_vec()),
+    }
+}
+
+/// Bytes near those of a state, or any: whether they encode a state or not.
+fn altered_bytes(mut bytes: Vec<u8>, random: &mut Random) -> (&'static str, Vec<u8>) {
+    match random.below(12) {
+        0..=5 => {
             let at = random.below(STATE_BYTES);
             bytes[at] = random.altered(bytes[at]);
             ("state: one field altered", bytes)
         }
-        2 => ("state: encodes none", encoding_none(bytes, random)),
-        3 => match random.below(3) {
-            0 => ("state: random bytes", random.bytes(STATE_BYTES)),
-            1 => ("state: small random bytes", small(random)),
-            _ => ("state: wrong length", wrong_length(bytes, random)),
-        },
-        4 | 5 => {
-            let broken = with_a_rule_broken(state, random);
-            (
-                "state: one rule perhaps broken",
-                state_bytes(&broken).to_vec(),
+        6..=8 => ("state: encodes none", encoding_none(bytes, random)),
+        9 => ("state: random bytes", random.bytes(STATE_BYTES)),
+        10 => ("state: small random bytes", small(random)),
+        _ => ("state: wrong length", wrong_length(bytes, random)),
+    }
+}
+
+/// A state with one thing changed. It may still be valid. Where that is not a track, the tracks are mostly made right
+/// again, so that they are not what makes the state strange.
+fn altered(state: State, random: &mut Random) -> (&'static str, State) {
+    let (kind, state) = match random.below(5) {
+        0 | 1 => {
+            return (
+                "state: a track altered",
+                state_tracks::altered(state, random),
             )
         }
-        6 => ("state: sidings altered", sidings_altered(bytes, random)),
-        _ => ("state: valid", bytes),
+        2 => ("state: sidings altered", sidings_altered(state, random)),
+        _ => (
+            "state: one rule perhaps broken",
+            with_a_rule_broken(state, random),
+        ),
+    };
+    if random.one_in(4) {
+        (kind, state)
+    } else {
+        (kind, state_tracks::set_right(state))
     }
 }
 
@@ -48,6 +70,7 @@ pub fn valid(opened: &[u8], random: &mut Random) -> State {
     });
     let numbers = give_standings(&mut state, random);
     give_count(&mut state, numbers, random);
+    state_tracks::give(&mut state, |unheld| random.pick(unheld));
     if random.one_in(2) {
         fill_unread(&mut state, random);
     }
@@ -132,7 +155,7 @@ fn crowd(random: &mut Random) -> State {
             start: if up { low } else { high },
             end: if up { high } else { low },
             at: if up { section } else { section + 1 },
-            standing: Standing::Free,
+            ..Train::EMPTY
         };
     }
     state.train.rotate_left(random.below(6));
@@ -152,11 +175,11 @@ fn train_at(at: u8, posts: u8, random: &mut Random) -> Train {
         start,
         end,
         at,
-        standing: Standing::Free,
+        ..Train::EMPTY
     }
 }
 
-/// Lets some trains run where section and post allow it and others ask. Answers how many asked.
+/// Lets some trains run where section and post allow it and others ask, without tracks yet. Answers how many asked.
 fn give_standings(state: &mut State, random: &mut Random) -> usize {
     // One state has mostly askers, of whom one frame may let many go; others have any mixture.
     let (run, ask) = if random.one_in(3) {
@@ -175,7 +198,7 @@ fn give_standings(state: &mut State, random: &mut Random) -> usize {
         let may_run = random.below(8) < run;
         let section = train.at.min(to);
         if may_run && room(state, to) > 0 && state.holders_of_section(section) == 0 {
-            state.train[t].standing = Standing::Running;
+            state.train[t].standing = Standing::Running(0);
         } else if random.below(8) < ask {
             state.train[t].standing = Standing::Asked(0);
             asked += 1;
@@ -216,16 +239,17 @@ fn fill_unread(state: &mut State, random: &mut Random) {
             start: random.byte(),
             end: random.byte(),
             at: random.between(0, 9),
+            track: random.byte(),
             standing: match random.below(3) {
                 0 => Standing::Free,
                 1 => Standing::Asked(random.byte()),
-                _ => Standing::Running,
+                _ => Standing::Running(random.byte()),
             },
         };
     }
 }
 
-fn trains_of(state: &mut State) -> &mut [Train] {
+pub fn trains_of(state: &mut State) -> &mut [Train] {
     &mut state.train[..usize::from(state.trains)]
 }
 
@@ -235,13 +259,13 @@ fn room(state: &State, post: u8) -> i32 {
 }
 
 /// Another byte of sidings: with one bit flipped, on the line or off it, or any.
-fn sidings_altered(mut bytes: Vec<u8>, random: &mut Random) -> Vec<u8> {
-    bytes[SIDINGS_AT] = if random.one_in(4) {
-        random.byte()
+fn sidings_altered(mut state: State, random: &mut Random) -> State {
+    if random.one_in(4) {
+        state.sidings = random.byte();
     } else {
-        bytes[SIDINGS_AT] ^ 1 << random.below(8)
-    };
-    bytes
+        state.sidings ^= 1 << random.below(8);
+    }
+    state
 }
 
 /// One train, track count or number changed without a look at the rules. It may still be valid.
@@ -252,7 +276,7 @@ fn with_a_rule_broken(mut state: State, random: &mut Random) -> State {
     let t = random.below(usize::from(state.trains));
     let train = &mut state.train[t];
     match random.below(5) {
-        0 => train.standing = Standing::Running,
+        0 => train.standing = Standing::Running(random.between(0, 5)),
         1 => train.at = random.between(train.start.min(train.end), train.start.max(train.end)),
         2 => train.standing = Standing::Asked(count),
         3 => {
@@ -265,14 +289,14 @@ fn with_a_rule_broken(mut state: State, random: &mut Random) -> State {
     state
 }
 
-/// A status above 2, or a number where the status is not Asked.
+/// A status above 2, or a detail of a Free train.
 fn encoding_none(mut bytes: Vec<u8>, random: &mut Random) -> Vec<u8> {
     let train = &mut bytes[FLEET_AT + TRAIN_BYTES * random.below(6)..][..TRAIN_BYTES];
-    if train[train_at::STATUS] == ASKED || random.one_in(2) {
+    if train[train_at::STATUS] == FREE && random.one_in(2) {
+        train[train_at::DETAIL] = random.between(1, 255);
+    } else {
         let any = random.between(RUNNING + 1, 255);
         train[train_at::STATUS] = random.pick(&[RUNNING + 1, 255, any]);
-    } else {
-        train[train_at::REQUEST] = random.between(1, 255);
     }
     bytes
 }

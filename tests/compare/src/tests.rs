@@ -1,14 +1,17 @@
 //! The comparison can fail: whatever one side answers or writes otherwise is seen.
 
-use crate::counts::{Case, Entry};
+use crate::counts::{Entry, SidingCase, TrackCase};
 use crate::model_ends::Model;
 use crate::pair::Pair;
-use crate::{all, sidings, states, Options};
+use crate::{all, sidings, state_tracks, states, tracks, Options};
 use boundary::Ends;
 use inputs::books::{book, book_2, X};
-use inputs::encoding::{state_bytes, state_of};
+use inputs::crews;
+use inputs::encoding::{put_records, state_bytes, state_of};
+use inputs::frames::{AM, FA, FE};
 use inputs::random::Random;
-use model::State;
+use inputs::sizes::JOURNAL_BYTES;
+use model::{Record, Standing, State};
 use std::cell::Cell;
 
 /// Where the altered bit is: in the result or in the buffer of this place among the written ones.
@@ -145,12 +148,19 @@ fn the_model_agrees_with_itself() {
 #[test]
 fn what_is_never_reached_fails() {
     let mut pair = Pair::new(Box::new(Model), Box::new(Model));
-    assert!(all(&mut pair, &SHORT).is_ok());
+    let no_frame = Options { frames: 0, ..SHORT };
+    assert!(all(&mut pair, &no_frame).is_ok());
     let failings = pair.counts.failings();
-    assert!(
-        failings.contains(&"never 6 frames sent".to_string()),
-        "{failings:?}"
-    );
+    for due in [
+        "answer never answered 13",
+        "never 6 frames sent",
+        "status Running never reached",
+        "case of sidings: a train put away never reached",
+        "case of tracks: authority to track 4 never reached",
+        "input table: all ones never reached",
+    ] {
+        assert!(failings.contains(&due.to_string()), "{failings:?}");
+    }
 }
 
 #[test]
@@ -161,10 +171,11 @@ fn states_valid_by_construction_are_sound_and_come_back_from_their_bytes() {
         let state = states::valid(&[], random);
         assert!(model::sound(&state), "{state:?}");
         assert_eq!(state_of(&state_bytes(&state)), Some(state));
-        by_sidings += u32::from(!model::sound(&State {
+        let without = State {
             sidings: 0,
             ..state
-        }));
+        };
+        by_sidings += u32::from(!model::sound(&state_tracks::set_right(without)));
     }
     assert!(by_sidings > 10_000, "{by_sidings}");
 }
@@ -177,10 +188,10 @@ fn what_sidings_bring_about_is_told() {
         (
             book_2(&[2, 1], 2, &[[0, 1], [0, 1]]),
             0,
-            Some(Case::WayFits),
+            Some(SidingCase::WayFits),
         ),
-        (book_2(&[1, 1], 2, &parked), 0, Some(Case::StartFits)),
-        (book_2(&[1, 1], 2, &swap), 20, Some(Case::TrackBefore)),
+        (book_2(&[1, 1], 2, &parked), 0, Some(SidingCase::StartFits)),
+        (book_2(&[1, 1], 2, &swap), 20, Some(SidingCase::TrackBefore)),
         (book_2(&[1, 1], 0, &swap), 20, None),
         (book(&[1, 1], &swap), 20, None),
         (book_2(&[2, 2], 3, &swap), 0, None),
@@ -188,4 +199,100 @@ fn what_sidings_bring_about_is_told() {
     ] {
         assert_eq!(sidings::of_opening(&book, refusal), case, "{book:?}");
     }
+}
+
+/// X after the opening, with train 0 at post 1 and train 1 under way to it.
+fn x_with_both_at_post_1() -> State {
+    let mut state = crews::open(&X).unwrap().state;
+    state.train[0].at = 1;
+    state.train[1].standing = Standing::Running(2);
+    state
+}
+
+#[test]
+fn the_one_wrong_track_of_a_strange_state_is_told() {
+    type Change = fn(&mut State);
+    let changes: [(Option<TrackCase>, Change); 11] = [
+        (None, |_| ()),
+        (Some(TrackCase::OnNone), |s| s.train[0].track = 0),
+        (Some(TrackCase::OnOneAbove), |s| s.train[0].track = 3),
+        (Some(TrackCase::ToNone), |s| {
+            s.train[1].standing = Standing::Running(0)
+        }),
+        (Some(TrackCase::ToOneAbove), |s| {
+            s.train[1].standing = Standing::Running(3)
+        }),
+        (Some(TrackCase::ToAnothers), |s| {
+            s.train[1].standing = Standing::Running(1)
+        }),
+        (Some(TrackCase::ToAnothers), |s| s.train[0].track = 2),
+        (Some(TrackCase::OnAnothers), |s| {
+            (s.train[1].at, s.train[1].standing) = (1, Standing::Free);
+        }),
+        (Some(TrackCase::OnOnePutAway), |s| {
+            s.sidings = 4;
+            s.train[0].at = 2;
+        }),
+        // Two wrong tracks, and a state that right tracks would not make sound.
+        (None, |s| (s.train[0].track, s.train[1].track) = (0, 0)),
+        (None, |s| (s.train[0].track, s.journal) = (0, 177)),
+    ];
+    for (number, (case, change)) in changes.into_iter().enumerate() {
+        let mut state = x_with_both_at_post_1();
+        change(&mut state);
+        let told = tracks::of_strange(&state_bytes(&state));
+        assert_eq!(told, case, "change {number}: {state:?}");
+        assert_eq!(model::sound(&state), number == 0);
+    }
+}
+
+#[test]
+fn tracks_at_opening_are_told() {
+    let told = |book: &[u8]| tracks::of_opening(&state_bytes(&crews::open(book).unwrap().state));
+    assert_eq!(told(&X), []);
+    let two = book(&[2, 1], &[[0, 0], [0, 1]]);
+    assert_eq!(
+        told(&two),
+        [TrackCase::OpenedParked, TrackCase::OpenedApart]
+    );
+    let away = book_2(&[2, 1], 1, &[[0, 0], [0, 1]]);
+    assert_eq!(told(&away), [TrackCase::OpenedPutAway]);
+}
+
+/// Train 0 leaves track 1 of post 1, the last for it, and train 2 gets that after train 1 got track 2.
+#[test]
+fn tracks_of_an_answer_are_told() {
+    let line = book_2(&[2, 2, 1], 4, &[[1, 2], [2, 0], [0, 2]]);
+    let mut before = crews::open(&line).unwrap().state;
+    before.train[0].standing = Standing::Running(1);
+    before.train[4].track = 7;
+    let mut after = before;
+    (after.train[0].at, after.train[0].track) = (2, 0);
+    after.train[0].standing = Standing::Free;
+    after.journal = 3;
+    let record = |kind, train, from, to, track| Record {
+        kind,
+        train,
+        from,
+        to,
+        track,
+    };
+    let logged = [
+        record(AM, 0, 1, 2, 0),
+        record(FE, 1, 2, 1, 2),
+        record(FE, 2, 0, 1, 1),
+        record(FA, 9, 9, 9, 9),
+    ];
+    let mut journal = [0; JOURNAL_BYTES];
+    put_records(&logged, &mut journal);
+    let told = tracks::of_answer(&state_bytes(&before), &state_bytes(&after), &journal);
+    let expected = [
+        TrackCase::FreedAndTaken,
+        TrackCase::PutAway,
+        TrackCase::Second,
+        TrackCase::First,
+        TrackCase::TwoAtOnce,
+        TrackCase::Unread,
+    ];
+    assert_eq!(told, expected);
 }

@@ -66,7 +66,7 @@ impl Train {
 
     /// The train stands at its end, whose siding it is put away in if the byte
     /// names one there. Such a train holds no track.
-    fn is_put_away(&self, sidings: u8) -> bool {
+    pub fn is_put_away(&self, sidings: u8) -> bool {
         self.at == self.end && has_siding(sidings, self.at)
     }
 
@@ -117,7 +117,7 @@ impl State {
     }
 
     /// The tracks that the trains which hold the post have there.
-    fn tracks_held(&self, post: u8) -> Vec<u8> {
+    pub fn tracks_held(&self, post: u8) -> Vec<u8> {
         let track = |t: &Train| t.track_at(post, self.sidings);
         self.present().iter().filter_map(track).collect()
     }
