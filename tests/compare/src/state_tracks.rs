@@ -35,7 +35,7 @@ pub fn set_right(mut state: State) -> State {
 
 /// The tracks of the post that no train has.
 pub fn unheld(state: &State, post: u8) -> Vec<u8> {
-    let held = state.tracks_held(post);
+    let held: Vec<u8> = state.tracks_held(post).collect();
     let count = state.tracks.get(usize::from(post)).copied().unwrap_or(0);
     (1..=count).filter(|track| !held.contains(track)).collect()
 }
@@ -75,7 +75,7 @@ fn wrong(state: &State, post: u8, random: &mut Random) -> u8 {
     let count = state.tracks[usize::from(post)];
     let any = random.between(0, 5);
     let far = random.byte();
-    let held = state.tracks_held(post);
+    let held: Vec<u8> = state.tracks_held(post).collect();
     match random.below(4) {
         0 => random.pick(&[count + 1, count + 1, 255, far]),
         1 if !held.is_empty() => random.pick(&held),

@@ -34,26 +34,30 @@ fn altered_bytes(mut bytes: Vec<u8>, random: &mut Random) -> (&'static str, Vec<
     }
 }
 
-/// A state with one thing changed. It may still be valid. Where that is not a track, the tracks are mostly made right
-/// again, so that they are not what makes the state strange.
+/// A state with one thing changed. It may still be valid.
 fn altered(state: State, random: &mut Random) -> (&'static str, State) {
-    let (kind, state) = match random.below(5) {
-        0 | 1 => {
-            return (
-                "state: a track altered",
-                state_tracks::altered(state, random),
-            )
-        }
-        2 => ("state: sidings altered", sidings_altered(state, random)),
+    match random.below(5) {
+        0 | 1 => (
+            "state: a track altered",
+            state_tracks::altered(state, random),
+        ),
+        2 => (
+            "state: sidings altered",
+            on_right_tracks(sidings_altered(state, random), random),
+        ),
         _ => (
             "state: one rule perhaps broken",
-            with_a_rule_broken(state, random),
+            on_right_tracks(with_a_rule_broken(state, random), random),
         ),
-    };
+    }
+}
+
+/// Mostly with right tracks again, so that they are not what makes the state strange.
+fn on_right_tracks(state: State, random: &mut Random) -> State {
     if random.one_in(4) {
-        (kind, state)
+        state
     } else {
-        (kind, state_tracks::set_right(state))
+        state_tracks::set_right(state)
     }
 }
 

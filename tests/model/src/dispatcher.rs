@@ -117,22 +117,26 @@ impl State {
     }
 
     /// The tracks that the trains which hold the post have there.
-    pub fn tracks_held(&self, post: u8) -> Vec<u8> {
-        let track = |t: &Train| t.track_at(post, self.sidings);
-        self.present().iter().filter_map(track).collect()
+    pub fn tracks_held(&self, post: u8) -> impl Iterator<Item = u8> + '_ {
+        let track = move |t: &Train| t.track_at(post, self.sidings);
+        self.present().iter().filter_map(track)
     }
 
     /// How many trains hold the post.
     pub fn holders_of_post(&self, post: u8) -> usize {
-        self.tracks_held(post).len()
+        self.tracks_held(post).count()
+    }
+
+    /// How many trains have this track of the post.
+    fn holders_of_track(&self, post: u8, track: u8) -> usize {
+        self.tracks_held(post).filter(|held| *held == track).count()
     }
 
     /// The track that a train would get at the post, if one there is unheld:
     /// the smallest such for an up train, the largest for a down train.
     pub fn free_track(&self, post: u8, up: bool) -> Option<u8> {
         let count = *self.tracks.get(usize::from(post))?;
-        let held = self.tracks_held(post);
-        let mut unheld = (1..=count).filter(|track| !held.contains(track));
+        let mut unheld = (1..=count).filter(|track| self.holders_of_track(post, *track) == 0);
         if up {
             unheld.next()
         } else {
@@ -176,7 +180,9 @@ pub fn sound(state: &State) -> bool {
 
     for post in 0..state.posts {
         let count = state.tracks[usize::from(post)];
-        if !(1..=4).contains(&count) || !differ_within(&state.tracks_held(post), count) {
+        let alone = |held| (1..=count).contains(&held) && state.holders_of_track(post, held) == 1;
+        // No more trains hold the post than it has tracks, since theirs differ and are in its count.
+        if !(1..=4).contains(&count) || !state.tracks_held(post).all(alone) {
             return false;
         }
     }
@@ -186,13 +192,6 @@ pub fn sound(state: &State) -> bool {
         }
     }
     requests_in_order(state)
-}
-
-/// The tracks held at a post differ and are in its count, so that no more
-/// trains hold it than it has tracks.
-fn differ_within(held: &[u8], count: u8) -> bool {
-    let once = |track: &u8| held.iter().filter(|other| *other == track).count() == 1;
-    held.iter().all(|t| (1..=count).contains(t) && once(t))
 }
 
 /// FA numbers are distinct and below the journal's count.
