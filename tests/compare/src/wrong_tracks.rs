@@ -351,3 +351,16 @@ fn every_wrong_box_is_found() {
         println!("{name}: after {} frames", pair.counts.frames());
     }
 }
+
+/// It is the fault that is found: without one, each way of going wrong agrees with the model.
+#[test]
+fn a_box_without_a_fault_is_not_found() {
+    for none in [
+        Fault::Opened(|_| ()),
+        Fault::Answered(|_| ()),
+        Fault::TakenFor(|s| s),
+    ] {
+        let mut pair = Pair::new(Box::new(Wrong(none)), Box::new(Model));
+        assert!(all(&mut pair, &ENOUGH).is_ok());
+    }
+}
