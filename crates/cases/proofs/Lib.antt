@@ -1,3 +1,4 @@
 -- The further examples, evaluated.
 pub mod Further
 pub mod Sidings
+pub mod Tracks

@@ -5,7 +5,7 @@ use Prim.Native.Nat.{ℕ, _+_, _-_}
 use lib.ListN.{replicate}
 use Rattle.common.specs.Tabulate.{valuesFrom, tabulate}
 use Rattle.frame.specs.Frame.{bytesOf}
-use Rattle.journal.specs.Journal.{journalLength, blank, recordOf}
+use Rattle.journal.specs.Journal.{journalLength, blank, recordOf, recordOn}
 use Rattle.completion.specs.Table.{tableLength}
 use Rattle.rules.specs.Answer.{outLength, answer}
 use Rattle.rules.specs.State.{stateWith}
@@ -65,7 +65,9 @@ pub record Stores : Type 0 where
       ≡ (bytesOf (fe 0 0 1) ++ bytesOf (afe 1 3 2) ++ valuesFrom 14 36 lentByte) ∷ tabulate 50 lentByte ∷ []
   -- the five records, then those that were there
   pub journal : withBit1 .journal
-      ≡ map recordOf (fa 0 0 1 ∷ afe 0 0 1 ∷ fa 1 3 2 ∷ fe 0 0 1 ∷ afe 1 3 2 ∷ []) ++ valuesFrom 5 173 lentRecord
+      ≡ (recordOf (fa 0 0 1) ∷ recordOf (afe 0 0 1) ∷ recordOf (fa 1 3 2) ∷ recordOn 1 (fe 0 0 1)
+      ∷ recordOf (afe 1 3 2) ∷ [])
+      ++ valuesFrom 5 173 lentRecord
 
 -- ---- a full post, a parked train, six trains
 

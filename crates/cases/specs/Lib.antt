@@ -2,3 +2,4 @@
 -- number comes first; and sidings. Read in this order.
 pub mod Further
 pub mod Sidings
+pub mod Tracks

@@ -4,7 +4,7 @@ use mathlib.Core.List.{List, [], _∷_, map}
 use Prim.Native.Nat.{ℕ}
 use Rattle.line.specs.Holding.{postHolders, sectionHolders}
 use Rattle.frame.specs.Frame.{bytesOf}
-use Rattle.journal.specs.Journal.{recordOf}
+use Rattle.journal.specs.Journal.{recordOf, recordOn}
 use Rattle.rules.specs.State.{located}
 use Rattle.assurance.specs.Types.{Message, Sent, RefusedBy}
 use Rattle.examples.specs.Reading.{fa, fe, afe, am, openedBlank, refusalOf, ran, verdictsOf, repliesIn}
@@ -56,9 +56,9 @@ pub record Examples : Type 0 where
 abbrev pub sentInTheRun : List Message
 sentInTheRun = fa 0 0 1 ∷ fa 1 2 1 ∷ am 0 0 1 ∷ fa 0 1 2 ∷ am 1 2 1 ∷ fa 1 1 0 ∷ am 0 1 2 ∷ am 1 1 0 ∷ []
 
--- its 13 records
+-- its 13 records; an FE's has the track at the post run to
 abbrev pub PrintedRun : Type 0
 PrintedRun = loggedRecords (ran bookX (map bytesOf sentInTheRun))
-    ≡ map recordOf
-    (fa 0 0 1 ∷ fe 0 0 1 ∷ fa 1 2 1 ∷ fe 1 2 1 ∷ am 0 0 1 ∷ fa 0 1 2 ∷ afe 0 1 2
-    ∷ am 1 2 1 ∷ fe 0 1 2 ∷ fa 1 1 0 ∷ fe 1 1 0 ∷ am 0 1 2 ∷ am 1 1 0 ∷ [])
+    ≡ recordOf (fa 0 0 1) ∷ recordOn 1 (fe 0 0 1) ∷ recordOf (fa 1 2 1) ∷ recordOn 2 (fe 1 2 1) ∷ recordOf (am 0 0 1)
+    ∷ recordOf (fa 0 1 2) ∷ recordOf (afe 0 1 2) ∷ recordOf (am 1 2 1) ∷ recordOn 1 (fe 0 1 2) ∷ recordOf (fa 1 1 0)
+    ∷ recordOn 1 (fe 1 1 0) ∷ recordOf (am 0 1 2) ∷ recordOf (am 1 1 0) ∷ []

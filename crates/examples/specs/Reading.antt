@@ -1,8 +1,10 @@
 -- How the examples are read: books are read alone or opened with blank stores, frames are put to the box with these or
 -- with others, and the answers are read from the out buffers. The `unfolding` lines say which definitions are worked
 -- out where these are evaluated.
-use mathlib.Core.List.{List, map}
+use mathlib.Core.Bool.{cond}
+use mathlib.Core.List.{List, [], _∷_, map}
 use Prim.Native.Nat.{ℕ}
+use lib.Dec.{eqb}
 use lib.ListN.{take, replicate}
 use Rattle.common.specs.Below.{countBelow, allBelow, anyBelow}
 use Rattle.common.specs.Bits.{setBelow}
@@ -15,6 +17,7 @@ use Rattle.line.specs.Line.{wellFormed}
 use Rattle.line.specs.declared.line.Reading.{Reading}
 use Rattle.line.specs.Book.{added, lineIn, readBook, outcomeNumber}
 use Rattle.line.specs.Holding.{standing}
+use Rattle.tracks.specs.Tracks.{smallest, largest, trackFor}
 use Rattle.frame.specs.Frame.{moveOf, messageOf, readFrame, bytesOf}
 use Rattle.journal.specs.Journal.{journalLength, blank, recordOf}
 use Rattle.completion.specs.Configuration.{codeBelow, within, fits, arrived, feasible, freeTrack}
@@ -22,7 +25,7 @@ use Rattle.completion.specs.Table.{tableLength, movesOn, completableBy, complet
 use Rattle.rules.specs.Valid.{consistent, valid}
 use Rattle.rules.specs.Granting.{grantable, oldest, grants}
 use Rattle.rules.specs.Answer.{outLength, accepted, framesOf, answer}
-use Rattle.rules.specs.Opening.{Opening, openingWith, opening}
+use Rattle.rules.specs.Opening.{Opening, startTracks, openingWith, opening}
 use Rattle.assurance.specs.Types.{Message, Fa, Fe, Afe, Am, Record, State, Verdict}
 use Rattle.assurance.specs.Run.{Input, Ran, run}
 use Rattle.assurance.specs.Observer.{Seen, readFrames, answersOf, atOpening, noteAnswers, observe}
@@ -55,7 +58,8 @@ numbersOf books = map (λ b. outcomeNumber (readAlone b .outcome)) books
 -- the opening of a book with blank stores
 unfoldable pub openedBlank : List ℕ → Opening
 unfolding openingWith refusal unlessRefused valuesFrom padded countBelow allBelow anyBelow setBelow added postAfter
-    standing codeBelow within fits arrived feasible freeTrack movesOn completableBy completableIn tableOf
+    standing codeBelow within fits arrived feasible freeTrack movesOn completableBy completableIn tableOf startTracks
+    trackFor smallest largest
 openedBlank book = opening book (replicate tableLength 0) (replicate journalLength blank)
 
 -- the number by which a book is refused; 0 where it opens
@@ -67,7 +71,8 @@ refusalOf book = openedBlank book .number
 -- inputs put to a box in the state s, with a table and a journal
 unfoldable pub ranWith : State → List ℕ → List Record → List Input → Ran
 unfolding run answer refusal unlessRefused replaced accepted framesOf recordOf readFrame messageOf bytesOf valid
-    consistent wellFormed between nextPost standing countBelow allBelow grantable oldest grants update codeBelow
+    consistent wellFormed between nextPost standing countBelow allBelow anyBelow grantable oldest grants update codeBelow
+    trackFor smallest largest
 ranWith s table journal inputs = run table s journal inputs
 
 -- a frame with a blank out buffer of 42 bytes
@@ -94,6 +99,15 @@ repliesIn r = map (λ e. answersOf (e .verdict) (e .out)) (r .exchanges)
 -- the records in the journal
 abbrev pub loggedRecords : Ran → List Record
 loggedRecords r = take (r .state .logged) (r .journal)
+
+-- the tracks of some records, but for those that have none
+unfoldable pub tracksAmong : List Record → List ℕ
+tracksAmong [] = []
+tracksAmong (e ∷ l) = let rest = tracksAmong l in cond (eqb (e .track .0) 0) rest (e .track .0 ∷ rest)
+
+-- those that were given in a run, in their order
+abbrev pub tracksGiven : Ran → List ℕ
+tracksGiven r = tracksAmong (loggedRecords r)
 
 -- what the observer has of train t
 unfoldable pub seenIn : List ℕ → Ran → ℕ → Seen
