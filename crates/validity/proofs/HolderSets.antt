@@ -17,9 +17,12 @@ use Rattle.common.proofs.Tests.{by-equality}
 use Rattle.line.specs.Route.{sectionOf}
 use Rattle.line.specs.Holding.{isStabled, holdsPost, holdsSection, postHolders, sectionHolders}
 use Rattle.line.proofs.Holding.{standing-holds, standing-section}
+use Rattle.tracks.specs.Answers.{withTrack}
 use Rattle.validity.specs.Types.{State, Holders}
-use Rattle.rules.specs.State.{isRunning, nextOf, trainOf, located}
-use Rattle.validity.specs.Holders.{HeldBy, Held}
+use Rattle.rules.specs.State.{isRunning, trackAhead, nextOf, trainOf, located}
+use Rattle.validity.specs.Holders.{PlacedAt, HeldBy, Held}
+use Rattle.validity.proofs.TrackSets.{TracksIn, heldAmong, tracks-none, tracks-standing, tracks-stabled}
+use Rattle.validity.proofs.TrackSets.{tracks-running}
 
 -- ---- one train more in a set
 
@@ -63,80 +66,92 @@ stored-at sets i t h small k =
 
 -- ---- the sets of the first n trains
 
-pub record Sets (s : State) (n : ℕ) (posts sections : List ℕ) : Type 0 where
+pub record Sets (s : State) (n : ℕ) (posts sections tracks : List ℕ) : Type 0 where
   pub eight-posts : length posts ≡ 8
   pub eight-sections : length sections ≡ 8
-  pub held : HeldBy s n (record { posts = posts; sections = sections })
+  pub of-posts : (p : ℕ) → p < 8 → getD posts p 0 ≡ setBelow n (λ t. holdsPost (located s t) p)
+  pub of-sections : (i : ℕ) → i < 8 → getD sections i 0 ≡ setBelow n (λ t. holdsSection (located s t) i)
+  pub of-tracks : TracksIn (heldAmong s n) tracks
 
-pub sets-none : (s : State) → Sets s 0 (replicate 8 0) (replicate 8 0)
+pub sets-held : (s : State) (n : ℕ) (posts sections tracks : List ℕ) → Sets s n posts sections tracks
+    → HeldBy s n (record { posts = posts; sections = sections; tracks = tracks })
+sets-held s n posts sections tracks h =
+    record { posts = h .of-posts; sections = h .of-sections; tracks = h .of-tracks .each }
+
+pub sets-none : (s : State) → Sets s 0 (replicate 8 0) (replicate 8 0) (replicate 8 0)
 sets-none s = record {
   eight-posts = refl;
   eight-sections = refl;
-  held = record {
-    posts = λ p k. getD-replicate 8 p 0 0 k ∙ set-none _;
-    sections = λ i k. getD-replicate 8 i 0 0 k ∙ set-none _;
-  };
+  of-posts = λ p k. getD-replicate 8 p 0 0 k ∙ set-none _;
+  of-sections = λ i k. getD-replicate 8 i 0 0 k ∙ set-none _;
+  of-tracks = tracks-none s;
 }
 
-module _ (s : State) (n : ℕ) (small : n < 6) (posts sections : List ℕ) (h : Sets s n posts sections)
-    (at : trainOf s n .at .0 < 8) where
+module _ (s : State) (n : ℕ) (small : n < 6) (posts sections tracks : List ℕ) (h : Sets s n posts sections tracks)
+    (placed : PlacedAt (trainOf s n)) where
   abbrev here : ℕ
   here = trainOf s n .at .0
 
   abbrev end : ℕ
   end = trainOf s n .route .end .0
 
+  abbrev own : ℕ
+  own = trainOf s n .track .0
+
   module _ (e : isRunning (trainOf s n .status) ≡ false) where
     no-section : (i : ℕ) → i < 8 → getD sections i 0 ≡ setBelow (n + 1) (λ t. holdsSection (located s t) i)
     no-section i k =
-        joined-more n (λ t. holdsSection (located s t) i) _ (h .held .sections i k) false
+        joined-more n (λ t. holdsSection (located s t) i) _ (h .of-sections i k) false
         (rw e (sym (standing-section (s .sidings) end here i)))
 
     -- "Another train holds a track at its present post."
-    pub sets-standing : isStabled (s .sidings) end here ≡ false → Sets s (n + 1) (stored posts here n) sections
-    sets-standing away = record {
+    pub sets-standing : isStabled (s .sidings) end here ≡ false → (w : ℕ) → w ≡ withTrack (getD tracks here 0) own
+        → Sets s (n + 1) (stored posts here n) sections (set tracks here w)
+    sets-standing away w more = record {
       eight-posts = stored-size posts here n ∙ h .eight-posts;
       eight-sections = h .eight-sections;
-      held = record {
-        posts = λ p k.
-            stored-at posts here n (omega (arith, h .eight-posts)) small p
-            ∙ joined-more n (λ t. holdsPost (located s t) p) _ (h .held .posts p k) (eqb here p)
-            (rw e (sym (standing-holds (s .sidings) end here p ∙ rw away)));
-        sections = no-section;
-      };
+      of-posts = λ p k.
+          stored-at posts here n (omega (arith, h .eight-posts, placed .here)) small p
+          ∙ joined-more n (λ t. holdsPost (located s t) p) _ (h .of-posts p k) (eqb here p)
+          (rw e (sym (standing-holds (s .sidings) end here p ∙ rw away)));
+      of-sections = no-section;
+      of-tracks = tracks-standing s n tracks (h .of-tracks) e (placed .here) away w more;
     }
 
     -- one that is stabled holds none
-    pub sets-stabled : isStabled (s .sidings) end here ≡ true → Sets s (n + 1) posts sections
+    pub sets-stabled : isStabled (s .sidings) end here ≡ true → Sets s (n + 1) posts sections tracks
     sets-stabled away = record {
       eight-posts = h .eight-posts;
       eight-sections = h .eight-sections;
-      held = record {
-        posts = λ p k.
-            joined-more n (λ t. holdsPost (located s t) p) _ (h .held .posts p k) false
-            (rw e (sym (standing-holds (s .sidings) end here p ∙ rw away)));
-        sections = no-section;
-      };
+      of-posts = λ p k.
+          joined-more n (λ t. holdsPost (located s t) p) _ (h .of-posts p k) false
+          (rw e (sym (standing-holds (s .sidings) end here p ∙ rw away)));
+      of-sections = no-section;
+      of-tracks = tracks-stabled s n tracks (h .of-tracks) e away;
     }
 
   -- "A Running train, from its present post p to q, holds the section between them and a track at each of p and q."
-  pub sets-running : isRunning (trainOf s n .status) ≡ true → (q i : ℕ) → q ≡ nextOf (trainOf s n) → q < 8
-      → i ≡ sectionOf here q → Sets s (n + 1) (stored (stored posts here n) q n) (stored sections i n)
-  sets-running e q i next below between = record {
+  pub sets-running : isRunning (trainOf s n .status) ≡ true → (q i k : ℕ) → q ≡ nextOf (trainOf s n)
+      → i ≡ sectionOf here q → k ≡ trackAhead (trainOf s n .status)
+      → (v w : ℕ) → v ≡ withTrack (getD tracks here 0) own → w ≡ withTrack (getD (set tracks here v) q 0) k
+      → Sets s (n + 1) (stored (stored posts here n) q n) (stored sections i n) (set (set tracks here v) q w)
+  sets-running e q i k next between ahead v w first second = record {
     eight-posts = stored-size (stored posts here n) q n ∙ stored-size posts here n ∙ h .eight-posts;
     eight-sections = stored-size sections i n ∙ h .eight-sections;
-    held = record {
-      posts = λ p k.
-          stored-at (stored posts here n) q n (omega (arith, stored-size posts here n, h .eight-posts)) small p
-          ∙ ap (joined (eqb q p) n) (stored-at posts here n (omega (arith, h .eight-posts)) small p)
-          ∙ joined-twice n _ (set-low n _ _ (h .held .posts p k)) (eqb here p) (eqb q p)
-          ∙ joined-more n (λ t. holdsPost (located s t) p) _ (h .held .posts p k) (eqb here p || eqb q p)
-          (rw (e, next));
-      sections = λ k l.
-          stored-at sections i n (omega (arith, h .eight-sections)) small k
-          ∙ joined-more n (λ t. holdsSection (located s t) k) _ (h .held .sections k l) (eqb i k)
-          (rw (e, between, next));
-    };
+    of-posts = λ p l.
+        stored-at (stored posts here n) q n
+        (omega (arith, stored-size posts here n, h .eight-posts, next, placed .next)) small p
+        ∙ ap (joined (eqb q p) n) (stored-at posts here n (omega (arith, h .eight-posts, placed .here)) small p)
+        ∙ joined-twice n _ (set-low n _ _ (h .of-posts p l)) (eqb here p) (eqb q p)
+        ∙ joined-more n (λ t. holdsPost (located s t) p) _ (h .of-posts p l) (eqb here p || eqb q p)
+        (rw (e, next));
+    of-sections = λ j l.
+        stored-at sections i n (omega (arith, h .eight-sections, between, placed .here)) small j
+        ∙ joined-more n (λ t. holdsSection (located s t) j) _ (h .of-sections j l) (eqb i j)
+        (rw (e, between, next));
+    of-tracks =
+        tracks-running s n tracks (h .of-tracks) e q k next ahead (λ z. placed .onward e (z ∙ next))
+        (placed .here) (omega (arith, next, placed .next)) v w first second;
   }
 
 -- ---- the ones counted

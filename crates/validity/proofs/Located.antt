@@ -1,30 +1,49 @@
 -- What one train's record says, in the words of the functions that read it.
 use mathlib.Core.Path.{_≡_, ap, _∙_}
+use mathlib.Core.Logic.{_≢_}
+use mathlib.Core.Bool.{true, false}
 use Prim.Native.Nat.{ℕ, _≤_, _<_}
 use native.Mathlib.Omega.{arith}
-use lib.Dec.{ltb}
-use borrow.Author.Tests.{ltb-true}
-use Rattle.common.proofs.Tests.{by-cases}
-use Rattle.line.specs.Route.{nextPost}
-use Rattle.validity.specs.Types.{TrainNo, PostNo, Move, Free, Train, State}
-use Rattle.rules.specs.State.{nextOf, trainOf, nextMove, arrivedNext}
+use Rattle.common.proofs.Tests.{by-equality, by-order}
+use Rattle.line.specs.Holding.{isStabled}
+use Rattle.line.proofs.Travel.{next-up, next-down, next-end}
+use Rattle.validity.specs.Types.{TrainNo, PostNo, TrackNo, Move, Free, Train, State}
+use Rattle.validity.specs.Arrival.{trackThere}
+use Rattle.validity.specs.Holders.{PlacedAt}
+use Rattle.rules.specs.State.{isRunning, trackAhead, nextOf, trainOf, nextMove, arrivedNext}
 
-module _ (x : Train) where
-  pub arrived-at : (q : PostNo) → q .0 ≡ nextOf x → record { route = x .route; at = q; status = Free } ≡ arrivedNext x
-  arrived-at q e = ap (λ (n : ℕ). arrivedTo n) e
-    where
-      arrivedTo : ℕ → Train
-      arrivedTo n = record { route = x .route; at = record { 0 = n }; status = Free }
+-- the track of one that arrives at post p: none where it is stabled there, and else that ahead of it
+module _ (sidings : ℕ) (x : Train) (p : ℕ) where
+  pub no-track-there : isStabled sidings (x .route .end .0) p ≡ true → 0 ≡ trackThere sidings x p
+  no-track-there e = rw e
 
--- on a line of at most eight posts
-pub on-eight : (x : Train) (n : ℕ) → n ≤ 8 → x .at .0 < n → x .route .end .0 < n → (x .at .0 < 8) × (nextOf x < 8)
-unfolding nextPost
-on-eight x n few at end = (
-  omega arith,
-  by-cases (ltb (x .at .0) (x .route .end .0))
-      (λ e. rw e (omega (arith, ltb-true (x .at .0) (x .route .end .0) e)))
-      (λ e. rw e (by-cases (ltb (x .route .end .0) (x .at .0)) (λ f. rw f (omega arith)) (λ f. rw f (omega arith)))),
-)
+  pub track-there : isStabled sidings (x .route .end .0) p ≡ false → (k : ℕ) → k ≡ trackAhead (x .status)
+      → k ≡ trackThere sidings x p
+  track-there e k f = f ∙ rw e
+
+-- it has arrived at q, on its track k there
+pub arrived-at : (sidings : ℕ) (x : Train) (q : PostNo) (k : TrackNo)
+    → q .0 ≡ nextOf x → k .0 ≡ trackThere sidings x (q .0)
+    → record { route = x .route; at = q; track = k; status = Free } ≡ arrivedNext sidings x
+arrived-at sidings x q k e f = ap (arrivedOn (q .0)) f ∙ ap (λ (n : ℕ). arrivedOn n (trackThere sidings x n)) e
+  where
+    arrivedOn : ℕ → ℕ → Train
+    arrivedOn n j = record { route = x .route; at = record { 0 = n }; track = record { 0 = j }; status = Free }
+
+-- a train on a line of at most eight posts, Running only where it is short of its end
+pub placed-at : (x : Train) (n : ℕ) → n ≤ 8 → x .at .0 < n → x .route .end .0 < n
+    → (isRunning (x .status) ≡ true → x .at .0 ≢ x .route .end .0) → PlacedAt x
+placed-at x n few at end short = record {
+  here = omega arith;
+  next = by-order (x .at .0) (x .route .end .0)
+      (λ l. omega (arith, next-up (x .at .0) (x .route .end .0) l))
+      (λ l. by-equality (x .at .0) (x .route .end .0)
+      (λ e. omega (arith, next-end (x .at .0) (x .route .end .0) e))
+      (λ e. omega (arith, next-down (x .at .0) (x .route .end .0) (omega arith))));
+  onward = λ e. by-order (x .at .0) (x .route .end .0)
+      (λ l z. omega (arith, next-up (x .at .0) (x .route .end .0) l))
+      (λ l z. let h = short e in omega (arith, next-down (x .at .0) (x .route .end .0) (omega arith)));
+}
 
 pub move-next : (s : State) (t : TrainNo) (x : Train) (q : PostNo) → x ≡ trainOf s (t .0) → q .0 ≡ nextOf x
     → record { train = t; from = x .at; to = q } ≡ nextMove s (t .0)

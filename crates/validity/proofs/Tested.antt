@@ -1,32 +1,35 @@
 -- The tests of a state in the order in which the code makes them: the first that fails decides, and else the last.
 -- Together they are those of `rules`.
 use mathlib.Core.Path.{_≡_, refl, sym, ap, _∙_}
-use mathlib.Core.Logic.{⊎-elim}
+use mathlib.Core.Logic.{_≢_, ⊎-elim}
 use mathlib.Core.Bool.{Bool, true, false, not, _&&_, and-false, and-true}
-use Prim.Native.Nat.{ℕ, _≤_, _<_}
+use Prim.Native.Nat.{ℕ, _/_, _%_, _^_, _≤_, _<_}
 use native.Mathlib.Omega.{arith}
 use lib.Count.{ones}
-use lib.Dec.{leb, ltb}
+use lib.Dec.{leb, ltb, eqb}
 use lib.ListN.{getD}
-use borrow.Author.Tests.{ltb-true, le-leb, lt-leb}
+use borrow.Author.Tests.{ltb-true, eqb-false, not-true, lt-ltb, le-ltb, le-leb, lt-leb, eq-eqb, ne-eqb}
 use Rattle.common.specs.Below.{allBelow}
 use Rattle.common.proofs.Tests.{same-test, and-left, and-right, and-both}
 use Rattle.common.proofs.Below.{all-below, below-all, all-cong}
 use Rattle.line.specs.Route.{between}
 use Rattle.line.specs.Line.{inRange, postsInRange, tracksInRange, sidingsOnLine, trainsInRange}
 use Rattle.line.specs.Line.{routesOnLine, wellFormed}
+use Rattle.line.specs.Holding.{holdsPost, postHolders, sectionHolders}
 use Rattle.line.proofs.Travel.{between-of}
 use Rattle.line.proofs.WellFormed.{high, ranged, below-range, above-range}
 use Rattle.journal.specs.Journal.{journalLength}
 use Rattle.validity.specs.Types.{Status, Train, State, Holders}
 use Rattle.validity.specs.Holders.{Placed, Held}
-use Rattle.validity.specs.Tests.{countsValid, onLine, recordValid, heldWithin, placeValid}
-use Rattle.rules.specs.State.{isFree, atEnd, trainOf, lineOf}
-use Rattle.rules.proofs.Trains.{route-of}
-use Rattle.validity.proofs.Located.{on-eight}
+use Rattle.validity.specs.Tests.{countsValid, onLine, recordValid, recordsValid}
+use Rattle.validity.specs.Tests.{heldWithin, ownTracks, placeValid}
+use Rattle.rules.specs.State.{isFree, atEnd, trackAt, trainOf, lineOf, located}
+use Rattle.rules.proofs.Trains.{running-busy, route-of}
+use Rattle.validity.proofs.Located.{placed-at}
 use Rattle.validity.proofs.HolderSets.{posts-counted, sections-counted}
-use Rattle.rules.specs.Valid.{trainValid, sectionsValid, postsValid, numberBelow, sameNumber, numberValid}
-use Rattle.rules.specs.Valid.{consistent, valid}
+use Rattle.validity.proofs.OwnTracks.{own-tracks}
+use Rattle.rules.specs.Valid.{trainValid, sectionsValid, postsValid, trackValid, tracksValid, awayValid}
+use Rattle.rules.specs.Valid.{numberBelow, sameNumber, numberValid, consistent, valid}
 
 -- ---- one train's record
 
@@ -44,6 +47,12 @@ module _ (x : Train) where
     pub busy-valid : isFree (x .status) ≡ false → (b : Bool) → b ≡ atEnd x → not b ≡ trainValid x
     busy-valid f b g = rw (e, f, g)
 
+  -- one that is not Free is short of its end
+  short-of-end : trainValid x ≡ true → isFree (x .status) ≡ false → x .at .0 ≢ x .route .end .0
+  short-of-end e f =
+      let r : not (atEnd x) ≡ true = rw f at (and-right onRoute _ e) in
+      eqb-false _ _ (not-true _ r)
+
 -- ---- the number of train t's request: w is its status
 
 module _ (s : State) (t : ℕ) (w : Status) (e : w ≡ trainOf s t .status) where
@@ -54,13 +63,30 @@ module _ (s : State) (t : ℕ) (w : Status) (e : w ≡ trainOf s t .status) wher
       → b ≡ allBelow t (λ u. not (sameNumber w (trainOf s u .status))) → b ≡ numberValid s t
   number-decides f b g = g ∙ rw (← e, f)
 
--- ---- the sets of post p and of the section after it
+-- ---- the sets of post p, of the section after it and of the tracks held there
 
-pub place-tested : (s : State) (h : Holders) → Held s h → (p : ℕ) → p < 8 → (b : Bool)
-    → b ≡ heldWithin (getD (s .tracks) p 0) (ones (getD (h .posts) p 0)) (ones (getD (h .sections) p 0))
-    → placeValid s p ≡ b
-place-tested s h held p small b e =
-    sym (e ∙ rw (posts-counted s h held p _ small refl, sections-counted s h held p _ small refl))
+module _ (s : State) (h : Holders) (held : Held s h) (p : ℕ) (small : p < 8) where
+  abbrev tracks : ℕ
+  tracks = getD (s .tracks) p 0
+
+  abbrev within : Bool
+  within = heldWithin tracks (ones (getD (h .posts) p 0)) (ones (getD (h .sections) p 0))
+
+  within-same : within ≡ heldWithin tracks (postHolders (s .trains) (located s) p)
+      (sectionHolders (s .trains) (located s) p)
+  within-same = rw (posts-counted s h held p _ small refl, sections-counted s h held p _ small refl)
+
+  pub beyond : within ≡ false → placeValid s p ≡ false
+  beyond e = rw (sym within-same ∙ e)
+
+  pub few-tracks : within ≡ true → tracks < 8
+  few-tracks e = let few = high 1 4 tracks (and-left (inRange 1 4 tracks) _ e) in omega arith
+
+  pub place-tested : within ≡ true → (b : Bool)
+      → b ≡ ownTracks tracks (ones (getD (h .posts) p 0)) (getD (h .tracks) p 0) → placeValid s p ≡ b
+  place-tested e b f =
+      rw (sym within-same ∙ e) (sym (f ∙ rw (posts-counted s h held p _ small refl, held .tracks p small)
+      (own-tracks (λ t. holdsPost (located s t) p) (λ t. trackAt (trainOf s t) p) (s .trains) tracks (few-tracks e))))
 
 module _ (tracks h i : ℕ) where
   pub no-tracks : tracks < 1 → false ≡ heldWithin tracks h i
@@ -76,6 +102,19 @@ module _ (tracks h i : ℕ) where
     pub few-enough : h ≤ tracks → leb i 1 ≡ heldWithin tracks h i
     few-enough l = rw (ranged 1 4 tracks some few, le-leb h tracks l)
 
+-- as many tracks as holders, each of its own
+
+module _ (tracks h set : ℕ) where
+  pub track-0 : set % 2 ≢ 0 → false ≡ ownTracks tracks h set
+  track-0 e = rw (ne-eqb (set % 2) 0 e)
+
+  module _ (some : set % 2 ≡ 0) where
+    pub past-tracks : 2 ≤ set / 2 ^ tracks → false ≡ ownTracks tracks h set
+    past-tracks l = rw (eq-eqb (set % 2) 0 some, le-ltb (set / 2 ^ tracks) 2 l)
+
+    pub tracks-decide : set / 2 ^ tracks < 2 → eqb (ones set) h ≡ ownTracks tracks h set
+    tracks-decide l = rw (eq-eqb (set % 2) 0 some, lt-ltb (set / 2 ^ tracks) 2 l)
+
 -- ---- the state: the definition's tests are these
 
 all-and : (n : ℕ) (f g : ℕ → Bool) → allBelow n (λ k. f k && g k) ≡ allBelow n f && allBelow n g
@@ -89,39 +128,48 @@ all-and n f g = same-test (allBelow n (λ k. f k && g k)) (allBelow n f && allBe
     let two = all-below n g (and-right (allBelow n f) (allBelow n g) e) in
     below-all n _ (λ k l. and-both (f k) (g k) (one k l) (two k l)))
 
--- a line of posts r, tracks k, sidings d, trains t and routes o; trains v, sections s, posts p and numbers q, in two
--- orders
-in-turn : (r k d t o v s p q : Bool)
-    → r && (k && (d && (t && o))) && v && s && p && q ≡ (r && d && t) && (o && v) && (k && (p && s)) && q
-in-turn false k d t o v s p q = refl
-in-turn true k false t o v s p q = rw (and-false k)
-in-turn true k true false o v s p q = rw (and-false k)
-in-turn true k true true false v s p q = rw (and-false k)
-in-turn true false true true true v s p q = rw (and-false v)
-in-turn true true true true true false s p q = refl
-in-turn true true true true true true false p q = rw (and-false p)
-in-turn true true true true true true true false q = refl
-in-turn true true true true true true true true q = refl
+-- a line of posts r, tracks k, sidings d, trains t and routes o; trains v, sections s, posts p, the tracks held there w,
+-- trains put away a and numbers q, in two orders
+in-turn : (r k d t o v s p w a q : Bool)
+    → r && (k && (d && (t && o))) && v && s && p && w && a && q
+    ≡ (r && d && t) && (o && (v && a)) && ((k && (p && s)) && w) && q
+in-turn false k d t o v s p w a q = refl
+in-turn true k false t o v s p w a q = rw (and-false k)
+in-turn true k true false o v s p w a q = rw (and-false k)
+in-turn true k true true false v s p w a q = rw (and-false k)
+in-turn true false true true true v s p w a q = rw (and-false (v && a))
+in-turn true true true true true false s p w a q = refl
+in-turn true true true true true true s p w false q = rw (and-false (s && p && w))
+in-turn true true true true true true false p w true q = rw (and-false p)
+in-turn true true true true true true true false w true q = refl
+in-turn true true true true true true true true w true q = rw (and-true w)
+
+same-both : {a b c d : Bool} → a ≡ c → b ≡ d → a && b ≡ c && d
+same-both p q = rw (p, q)
 
 module _ (s : State) where
-  trains-together : allBelow (s .trains) (λ t. recordValid (s .posts) (trainOf s t))
-      ≡ routesOnLine (lineOf s) && allBelow (s .trains) (λ t. trainValid (trainOf s t))
+  -- the records of the trains, each and put away
+  abbrev standings : Bool
+  standings = allBelow (s .trains) (λ t. trainValid (trainOf s t))
+
+  abbrev away : Bool
+  away = allBelow (s .trains) (λ t. awayValid (s .sidings) (trainOf s t))
+
+  trains-together : recordsValid s ≡ routesOnLine (lineOf s) && (standings && away)
   trains-together =
-      all-and (s .trains) (λ t. onLine (s .posts) (trainOf s t .route)) (λ t. trainValid (trainOf s t))
-      ∙ ap (λ (b : Bool). b && allBelow (s .trains) (λ t. trainValid (trainOf s t)))
-      (all-cong (s .trains) _ _ (λ t k. ap (onLine (s .posts)) (sym (route-of s t))))
+      all-and (s .trains) (λ t. onLine (s .posts) (trainOf s t .route)) _
+      ∙ same-both (all-cong (s .trains) _ _ (λ t k. ap (onLine (s .posts)) (sym (route-of s t))))
+      (all-and (s .trains) (λ t. trainValid (trainOf s t)) (λ t. awayValid (s .sidings) (trainOf s t)))
 
   places-together : allBelow (s .posts) (placeValid s)
-      ≡ tracksInRange (lineOf s) && (postsValid s && sectionsValid s)
+      ≡ (tracksInRange (lineOf s) && (postsValid s && sectionsValid s)) && tracksValid s
   places-together =
-      all-and (s .posts) (λ p. inRange 1 4 (getD (s .tracks) p 0)) _
-      ∙ ap (λ (b : Bool). tracksInRange (lineOf s) && b) (all-and (s .posts) _ _)
+      all-and (s .posts) _ (λ p. allBelow (s .trains) (trackValid s p))
+      ∙ same-both (all-and (s .posts) (λ p. inRange 1 4 (getD (s .tracks) p 0)) _
+      ∙ ap (λ (b : Bool). tracksInRange (lineOf s) && b) (all-and (s .posts) _ _)) refl
 
   abbrev counts : Bool
   counts = countsValid (s .posts) (s .sidings) (s .trains)
-
-  abbrev trains : Bool
-  trains = allBelow (s .trains) (λ t. recordValid (s .posts) (trainOf s t))
 
   abbrev places : Bool
   places = allBelow (s .posts) (placeValid s)
@@ -129,12 +177,12 @@ module _ (s : State) where
   abbrev numbers : Bool
   numbers = allBelow (s .trains) (numberValid s)
 
-  grouped : consistent s ≡ counts && trains && places && numbers
+  grouped : consistent s ≡ counts && recordsValid s && places && numbers
   unfolding consistent wellFormed
   grouped =
       in-turn (postsInRange (lineOf s)) (tracksInRange (lineOf s)) (sidingsOnLine (lineOf s))
       (trainsInRange (lineOf s)) (routesOnLine (lineOf s))
-      (allBelow (s .trains) (λ t. trainValid (trainOf s t))) (sectionsValid s) (postsValid s) numbers
+      standings (sectionsValid s) (postsValid s) (tracksValid s) away numbers
       ∙ rw (trains-together, places-together)
 
   pub counts-fail : counts ≡ false → false ≡ consistent s
@@ -147,21 +195,23 @@ module _ (s : State) where
     pub six-trains : s .trains ≤ 6
     six-trains = high 1 6 (s .trains) (search (and-left, and-right))
 
-    pub trains-fail : trains ≡ false → false ≡ consistent s
+    pub trains-fail : recordsValid s ≡ false → false ≡ consistent s
     trains-fail f = sym (grouped ∙ rw (e, f))
 
-    module _ (f : trains ≡ true) where
+    module _ (f : recordsValid s ≡ true) where
       pub all-placed : Placed s
       all-placed t k =
           let x = trainOf s t in
-          let r = all-below (s .trains) (λ u. recordValid (s .posts) (trainOf s u)) f t k in
+          let r = all-below (s .trains) (λ u. recordValid (s .posts) (s .sidings) (trainOf s u)) f t k in
           let route = and-left (onLine (s .posts) (x .route)) _ r in
           let start : x .route .start .0 < s .posts =
           ltb-true _ _ (and-left (ltb (x .route .start .0) (s .posts)) _ route) in
           let end : x .route .end .0 < s .posts =
           ltb-true _ _ (and-right (ltb (x .route .start .0) (s .posts)) _ route) in
-          let inside = between-of _ _ _ (and-left (onRoute x) _ (and-right (onLine (s .posts) (x .route)) _ r)) in
-          on-eight x (s .posts) eight-posts (⊎-elim (λ b. omega arith) (λ b. omega arith) inside) end
+          let valid = and-left (trainValid x) _ (and-right (onLine (s .posts) (x .route)) _ r) in
+          let inside = between-of _ _ _ (and-left (onRoute x) _ valid) in
+          placed-at x (s .posts) eight-posts (⊎-elim (λ b. omega arith) (λ b. omega arith) inside) end
+          (λ w. short-of-end x valid (running-busy (x .status) w))
 
       pub places-fail : places ≡ false → false ≡ consistent s
       places-fail g = sym (grouped ∙ rw (e, f, g))

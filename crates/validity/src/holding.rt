@@ -1,22 +1,27 @@
 // Who holds what: for each post and for each section the set of the trains that hold it, in six
-// bits; that of value 2 ^ t is train t's.
+// bits, that of value 2 ^ t train t's; and for each post the set of the tracks that they hold, in
+// eight, that of value 2 ^ k track k's.
 ghost use mathlib.Core.Path.{_≡_};
 ghost use Prim.Native.Nat.{_≤_, _<_};
 ghost use lib.Count.{ones};
 ghost use lib.ListN.{getD};
+ghost use Rattle.common.specs.Bits.{setBelow};
 ghost use Rattle.line.specs.Holding.{postHolders, sectionHolders};
-ghost use Rattle.rules.specs.State.{located};
+ghost use Rattle.rules.specs.State.{located, trackHeld};
 ghost use Rattle.validity.specs.Holders.{Placed, Held};
 use crate::train::is_running;
 use crate::train::next_post;
+use crate::train::track_ahead;
 use line::PostNo;
 use line::SectionNo;
 use rules::State;
+use tracks::with_track;
 
-// The set of each post, and the set of each section.
+// The set of each post, the set of each section, and the tracks of each post.
 pub struct Holders {
     pub posts: [u8; 8],
     pub sections: [u8; 8],
+    pub tracks: [u8; 8],
 }
 
 // 01: "A Running train, from its present post p to q, holds the section between them and a track at
@@ -30,6 +35,7 @@ pub fn holders_of(state: State) -> Holders
     let sidings = state.sidings;
     let mut posts = [0u8; 8];
     let mut sections = [0u8; 8];
+    let mut tracks = [0u8; 8];
     let mut t: usize = 0;
     while t < state.trains as usize {
         let train = fleet[t];
@@ -44,11 +50,18 @@ pub fn holders_of(state: State) -> Holders
             posts[p] = posts[p] | own;
             posts[q] = posts[q] | own;
             sections[i] = sections[i] | own;
+            tracks[p] = with_track(tracks[p], train.track);
+            tracks[q] = with_track(tracks[q], track_ahead(status));
         } else if !line::stabled(sidings, train.route.end, train.at) {
             posts[p] = posts[p] | own;
+            tracks[p] = with_track(tracks[p], train.track);
         }
     }
-    Holders { posts, sections }
+    Holders {
+        posts,
+        sections,
+        tracks,
+    }
 }
 
 // How many trains hold post `p`.
@@ -75,4 +88,13 @@ fn ones_in(sets: [u8; 8], i: u8) -> u32
 {
     let k = i as usize;
     u32::count_ones(sets[k] as u32)
+}
+
+// The set of the tracks that are held at post `p`.
+pub fn tracks_held(holders: Holders, p: PostNo) -> u8
+    requires { ⌜ p .0 < 8 ⌝ }
+    ensures { λ r. ⌜ ((s : State) → Held s holders → r ≡ setBelow 8 (trackHeld s (p .0))) ⌝ }
+{
+    let k = p.0 as usize;
+    holders.tracks[k]
 }

@@ -1,12 +1,15 @@
-// One train's record: its status, its next post and what it has travelled, and the record changed.
+// One train's record: its status, its next post and the track there, what it has travelled, and the
+// record changed.
 ghost use mathlib.Core.Path.{_≡_};
 ghost use Prim.Native.Nat.{_<_};
 ghost use Rattle.line.specs.Route.{distance};
-ghost use Rattle.rules.specs.State.{isFree, isAsked, isRunning, atEnd, nextOf, reachedBy};
+ghost use Rattle.rules.specs.State.{isFree, isAsked, isRunning, trackAhead, atEnd, nextOf, reachedBy};
 ghost use Rattle.rules.specs.State.{nextMove, withStatus, arrivedNext};
+ghost use Rattle.validity.specs.Arrival.{trackThere};
 use crate::fleet::train_of;
 use frame::Move;
 use line::PostNo;
+use line::TrackNo;
 use line::TrainNo;
 use rules::State;
 use rules::Status;
@@ -18,7 +21,7 @@ pub fn is_free(status: Status) -> bool
     match status {
         Status::Free => true,
         Status::Asked(_) => false,
-        Status::Running => false,
+        Status::Running(_) => false,
     }
 }
 
@@ -28,7 +31,7 @@ pub fn is_asked(status: Status) -> bool
     match status {
         Status::Free => false,
         Status::Asked(_) => true,
-        Status::Running => false,
+        Status::Running(_) => false,
     }
 }
 
@@ -38,7 +41,18 @@ pub fn is_running(status: Status) -> bool
     match status {
         Status::Free => false,
         Status::Asked(_) => false,
-        Status::Running => true,
+        Status::Running(_) => true,
+    }
+}
+
+// The track at the post that a Running train runs to.
+pub fn track_ahead(status: Status) -> TrackNo
+    ensures { λ r. ⌜ r .0 ≡ trackAhead status ⌝ }
+{
+    match status {
+        Status::Free => TrackNo(0),
+        Status::Asked(_) => TrackNo(0),
+        Status::Running(track) => track,
     }
 }
 
@@ -76,7 +90,7 @@ pub fn reached(train: Train) -> u8
     match status {
         Status::Free => travelled,
         Status::Asked(_) => travelled,
-        Status::Running => travelled + 1,
+        Status::Running(_) => travelled + 1,
     }
 }
 
@@ -86,18 +100,37 @@ pub fn with_status(train: Train, status: Status) -> Train
 {
     let route = train.route;
     let at = train.at;
-    Train { route, at, status }
-}
-
-// 01: "the train becomes Free at the post it ran to".
-pub fn arrived(train: Train) -> Train
-    ensures { λ r. ⌜ r ≡ arrivedNext train ⌝ }
-{
-    let route = train.route;
-    let at = next_post(train);
+    let track = train.track;
     Train {
         route,
         at,
+        track,
+        status,
+    }
+}
+
+// 01: "the train becomes Free at the post it ran to".
+pub fn arrived(sidings: u8, train: Train) -> Train
+    ensures { λ r. ⌜ r ≡ arrivedNext sidings train ⌝ }
+{
+    let route = train.route;
+    let at = next_post(train);
+    let track = track_there(sidings, train, at);
+    Train {
+        route,
+        at,
+        track,
         status: Status::Free,
     }
+}
+
+// Its track at the post it ran to. 02, card 2: "one put away in a siding has none".
+fn track_there(sidings: u8, train: Train, at: PostNo) -> TrackNo
+    ensures { λ r. ⌜ r .0 ≡ trackThere sidings train (at .0) ⌝ }
+{
+    let status = train.status;
+    if line::stabled(sidings, train.route.end, at) {
+        return TrackNo(0);
+    }
+    track_ahead(status)
 }

@@ -4,10 +4,11 @@ ghost use mathlib.Core.Path.{_≡_};
 ghost use Prim.Native.Nat.{_≤_, _<_};
 ghost use lib.Count.{ones};
 ghost use Rattle.common.specs.Below.{allBelow};
-ghost use Rattle.rules.specs.State.{trainOf};
-ghost use Rattle.rules.specs.Valid.{trainValid, numberBelow, sameNumber, numberValid, consistent, valid};
+ghost use Rattle.rules.specs.Valid.{trainValid, awayValid, numberBelow, sameNumber, numberValid};
+ghost use Rattle.rules.specs.Valid.{consistent, valid};
 ghost use Rattle.validity.specs.Holders.{Placed};
-ghost use Rattle.validity.specs.Tests.{countsValid, onLine, recordValid, heldWithin, placeValid};
+ghost use Rattle.validity.specs.Tests.{countsValid, onLine, recordValid, recordsValid};
+ghost use Rattle.validity.specs.Tests.{heldWithin, ownTracks, placeValid};
 use crate::fleet::status_of;
 use crate::fleet::train_of;
 use crate::holding::holders_of;
@@ -63,11 +64,11 @@ fn counts_valid(posts: u8, sidings: u8, trains: u8) -> bool
 
 fn trains_valid(state: State) -> bool
     requires { ⌜ state .trains ≤ 6 ⌝ }
-    ensures { λ r. ⌜ r ≡ allBelow (state .trains) (λ t. recordValid (state .posts) (trainOf state t)) ⌝ }
+    ensures { λ r. ⌜ r ≡ recordsValid state ⌝ }
 {
     let mut t: u8 = 0;
     while t < state.trains {
-        if !record_valid(state.posts, train_of(state, TrainNo(t))) {
+        if !record_valid(state.posts, state.sidings, train_of(state, TrainNo(t))) {
             return false;
         }
         t += 1;
@@ -75,14 +76,17 @@ fn trains_valid(state: State) -> bool
     true
 }
 
-fn record_valid(posts: u8, train: Train) -> bool
-    ensures { λ r. ⌜ r ≡ recordValid posts train ⌝ }
+fn record_valid(posts: u8, sidings: u8, train: Train) -> bool
+    ensures { λ r. ⌜ r ≡ recordValid posts sidings train ⌝ }
 {
     let route = train.route;
     if !on_line(posts, route) {
         return false;
     }
-    train_valid(train)
+    if !train_valid(train) {
+        return false;
+    }
+    away_valid(sidings, train)
 }
 
 // The route starts and ends on a line of so many posts.
@@ -107,7 +111,18 @@ fn train_valid(train: Train) -> bool
     !at_end(train)
 }
 
-// Each post has 1 to 4 tracks and no more holders, and each section one at most.
+// 02, card 2: "one put away in a siding has none".
+fn away_valid(sidings: u8, train: Train) -> bool
+    ensures { λ r. ⌜ r ≡ awayValid sidings train ⌝ }
+{
+    if !line::stabled(sidings, train.route.end, train.at) {
+        return true;
+    }
+    train.track.0 == 0
+}
+
+// Each post has 1 to 4 tracks and no more holders, each of them a track of its own; and each section
+// one holder at most.
 fn places_valid(state: State) -> bool
     requires { ⌜ (state .posts ≤ 8) × (state .trains ≤ 6) × Placed state ⌝ }
     ensures { λ r. ⌜ r ≡ allBelow (state .posts) (placeValid state) ⌝ }
@@ -116,9 +131,13 @@ fn places_valid(state: State) -> bool
     let tracks = state.tracks;
     let posts = holders.posts;
     let sections = holders.sections;
+    let held = holders.tracks;
     let mut p: usize = 0;
     while p < state.posts as usize {
         if !held_within(tracks[p], posts[p], sections[p]) {
+            return false;
+        }
+        if !own_tracks(tracks[p], posts[p], held[p]) {
             return false;
         }
         p += 1;
@@ -140,6 +159,21 @@ fn held_within(tracks: u8, post: u8, section: u8) -> bool
         return false;
     }
     u32::count_ones(section as u32) <= 1
+}
+
+// 02, card 2: "the tracks held at a post differ and are in its count": the set of those held at one
+// of so many has neither track 0 nor one above the last, and as many as the set of its holders.
+fn own_tracks(tracks: u8, post: u8, held: u8) -> bool
+    requires { ⌜ tracks < 8 ⌝ }
+    ensures { λ r. ⌜ r ≡ ownTracks tracks (ones post) held ⌝ }
+{
+    if held % 2 != 0 {
+        return false;
+    }
+    if 2 <= held >> tracks {
+        return false;
+    }
+    u32::count_ones(held as u32) == u32::count_ones(post as u32)
 }
 
 // The numbers of the Asked trains' requests are below the count, and no two are the same.
@@ -182,7 +216,7 @@ fn number_below(status: Status, count: u8) -> bool
     match status {
         Status::Free => true,
         Status::Asked(n) => n < count,
-        Status::Running => true,
+        Status::Running(_) => true,
     }
 }
 
@@ -192,7 +226,7 @@ fn same_number(a: Status, b: Status) -> bool
     match a {
         Status::Free => false,
         Status::Asked(m) => has_number(b, m),
-        Status::Running => false,
+        Status::Running(_) => false,
     }
 }
 
@@ -203,6 +237,6 @@ fn has_number(status: Status, m: u8) -> bool
     match status {
         Status::Free => false,
         Status::Asked(n) => m == n,
-        Status::Running => false,
+        Status::Running(_) => false,
     }
 }

@@ -5,8 +5,7 @@ use borrow.Author.Needs.{needs}
 use borrow.Author.Tests.{not-true, not-false}
 use Rattle.common.specs.Below.{allBelow}
 use Rattle.validity.specs.Types.{State}
-use Rattle.validity.specs.Tests.{countsValid, recordValid, placeValid}
-use Rattle.rules.specs.State.{trainOf}
+use Rattle.validity.specs.Tests.{countsValid, recordsValid, placeValid}
 use Rattle.validity.proofs.Tested.{counts-fail, eight-posts, six-trains, trains-fail, all-placed}
 use Rattle.validity.proofs.Tested.{places-fail, numbers-decide}
 use Rattle.validity.proofs.validity.consistent.Statement.{statement}
@@ -36,7 +35,7 @@ module _ (c : tie.Else2) where
   abbrev one : tie.Else1
   one = c .before .before
 
-  trains : allBelow (given one .trains) (λ t. recordValid (given one .posts) (trainOf (given one) t)) ≡ true
+  trains : recordsValid (given one) ≡ true
   trains = sym (c .before .trains-valid .ensures) ∙ not-false _ (c .if2 .left)
 
 places-valid-requires : tie.Need-places-valid-requires

@@ -1,21 +1,23 @@
 -- `places_valid` meets its contract. The loop's invariant: the posts passed, and the sections after them, have no more
--- holders than they may.
-use mathlib.Core.Path.{_≡_, _∙_}
+-- holders than they may, each on a track of its own.
+use mathlib.Core.Path.{_≡_, sym, _∙_}
 use Prim.Native.Nat.{_-_, _<_}
 use native.Mathlib.Omega.{arith}
+use lib.ListN.{getD}
 use borrow.Author.Needs.{needs}
 use borrow.Author.Tests.{not-true, not-false}
 use Rattle.common.proofs.Below.{Passing, passing-none, passing-more, passing-fails, passing-all}
+use Rattle.validity.specs.Types.{State, Holders}
 use Rattle.validity.specs.Tests.{placeValid}
-use Rattle.validity.proofs.Tested.{place-tested}
+use Rattle.validity.proofs.Tested.{beyond, few-tracks, place-tested}
 use Rattle.validity.proofs.validity.places_valid.Statement.{statement}
 use Rattle.validity.proofs.validity.places_valid.Tie as tie
 
 abbrev Inv-loop : tie.InvT-loop
-Inv-loop state tracks posts sections p₀ p = Passing (state .posts) (placeValid state) p
+Inv-loop state tracks posts sections held p₀ p = Passing (state .posts) (placeValid state) p
 
 abbrev μ-loop : tie.MeasureT-loop
-μ-loop state tracks posts sections p₀ p = state .posts - p
+μ-loop state tracks posts sections held p₀ p = state .posts - p
 
 holders-of-requires : tie.Need-holders-of-requires Inv-loop μ-loop
 holders-of-requires c κs = (c .pre .1, c .pre .2)
@@ -29,7 +31,13 @@ module _ (c : tie.Then1 Inv-loop μ-loop) where
   here = c .before .before
 
   abbrev held : tie.After-holders-of Inv-loop μ-loop
-  held = here .before .before .before .before
+  held = here .before .before .before .before .before
+
+  abbrev given : State
+  given = held .before .args .state
+
+  abbrev sets : Holders
+  sets = held .holders-of .result
 
   low : here .loop .p < 8
   low = omega (arith, held .before .pre .0, c .if1 .taken)
@@ -43,32 +51,60 @@ array-read-held-within-2 c = low c
 array-read-held-within-3 : tie.Need-array-read-held-within-3 Inv-loop μ-loop
 array-read-held-within-3 c = low c
 
--- what the test says of post p
-module _ (c : tie.After-held-within Inv-loop μ-loop) where
-  abbrev turn : tie.Then1 Inv-loop μ-loop
-  turn = c .before
-
-  tested : placeValid (held turn .before .args .state) (here turn .loop .p) ≡ c .held-within .result
-  tested =
-      place-tested (held turn .before .args .state) (held turn .holders-of .result) (held turn .holders-of .ensures)
-      (here turn .loop .p) (low turn) _ (c .held-within .ensures)
-
 returns : tie.Need-returns Inv-loop μ-loop
 returns c =
-    passing-fails (here (turn (c .before)) .loop .inv) (omega arith) (tested (c .before) ∙ not-true _ (c .if2 .taken))
+    let turn = c .before .before in
+    passing-fails (here turn .loop .inv) (omega arith)
+    (beyond (given turn) (sets turn) (held turn .holders-of .ensures) (here turn .loop .p) (low turn)
+    (sym (c .before .held-within .ensures) ∙ not-true _ (c .if2 .taken)))
+
+-- the post and the section have no more holders than they may
+module _ (c : tie.Else2 Inv-loop μ-loop) where
+  abbrev turn : tie.Then1 Inv-loop μ-loop
+  turn = c .before .before
+
+  few : getD (given turn .tracks) (here turn .loop .p) 0 < 8
+  few = few-tracks (given turn) (sets turn) (held turn .holders-of .ensures) (here turn .loop .p) (low turn)
+      (sym (c .before .held-within .ensures) ∙ not-false _ (c .if2 .left))
+
+array-read-own-tracks : tie.Need-array-read-own-tracks Inv-loop μ-loop
+array-read-own-tracks c = low (turn c)
+
+array-read-own-tracks-2 : tie.Need-array-read-own-tracks-2 Inv-loop μ-loop
+array-read-own-tracks-2 c = low (turn c)
+
+array-read-own-tracks-3 : tie.Need-array-read-own-tracks-3 Inv-loop μ-loop
+array-read-own-tracks-3 c = low (turn c)
+
+own-tracks-requires : tie.Need-own-tracks-requires Inv-loop μ-loop
+own-tracks-requires c κs = few c
+
+-- what the test of their tracks says
+module _ (c : tie.After-own-tracks Inv-loop μ-loop) where
+  abbrev now : tie.Then1 Inv-loop μ-loop
+  now = turn (c .before)
+
+  tested : placeValid (given now) (here now .loop .p) ≡ c .own-tracks .result
+  tested =
+      place-tested (given now) (sets now) (held now .holders-of .ensures) (here now .loop .p) (low now)
+      (sym (c .before .before .held-within .ensures) ∙ not-false _ (c .before .if2 .left)) _ (c .own-tracks .ensures)
+
+returns-2 : tie.Need-returns-2 Inv-loop μ-loop
+returns-2 c =
+    passing-fails (here (now (c .before)) .loop .inv) (omega arith) (tested (c .before) ∙ not-true _ (c .if3 .taken))
 
 add-p : tie.Need-add-p Inv-loop μ-loop
-add-p c = omega (arith, low (turn (c .before)))
+add-p c = omega (arith, low (now (c .before)))
 
 loop-less : tie.Need-loop-less Inv-loop μ-loop
 loop-less c = omega arith
 
 loop-again : tie.Need-loop-again Inv-loop μ-loop
 loop-again c =
-    passing-more (here (turn (c .before)) .loop .inv) (omega arith) (tested (c .before) ∙ not-false _ (c .if2 .left))
+    passing-more (here (now (c .before)) .loop .inv) (omega arith) (tested (c .before) ∙ not-false _ (c .if3 .left))
 
-returns-2 : tie.Need-returns-2 Inv-loop μ-loop
-returns-2 c = passing-all (c .before .before .loop .inv) (omega arith)
+returns-3 : tie.Need-returns-3 Inv-loop μ-loop
+returns-3 c = passing-all (c .before .before .loop .inv) (omega arith)
 
 pub places-valid-spec : {M : Type 1} → statement M
 places-valid-spec =
@@ -84,7 +120,12 @@ places-valid-spec =
     array-read-held-within-3
     (λ c κs. search needs)
     returns
+    array-read-own-tracks
+    array-read-own-tracks-2
+    array-read-own-tracks-3
+    own-tracks-requires
+    returns-2
     add-p
     loop-less
     loop-again
-    returns-2)
+    returns-3)

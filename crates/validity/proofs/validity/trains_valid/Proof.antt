@@ -5,14 +5,15 @@ use native.Mathlib.Omega.{arith}
 use borrow.Author.Needs.{needs}
 use borrow.Author.Tests.{not-true, not-false}
 use Rattle.common.proofs.Below.{Passing, passing-none, passing-more, passing-fails, passing-all}
-use Rattle.validity.specs.Types.{Train}
+use Rattle.validity.specs.Types.{Train, State}
 use Rattle.rules.specs.State.{trainOf}
 use Rattle.validity.specs.Tests.{recordValid}
 use Rattle.validity.proofs.validity.trains_valid.Statement.{statement}
 use Rattle.validity.proofs.validity.trains_valid.Tie as tie
 
 abbrev Inv-loop : tie.InvT-loop
-Inv-loop state t₀ t = Passing (state .trains) (λ u. recordValid (state .posts) (trainOf state u)) t
+Inv-loop state t₀ t =
+    Passing (state .trains) (λ u. recordValid (state .posts) (state .sidings) (trainOf state u)) t
 
 abbrev μ-loop : tie.MeasureT-loop
 μ-loop state t₀ t = state .trains - t
@@ -28,10 +29,12 @@ module _ (c : tie.After-record-valid Inv-loop μ-loop) where
   abbrev here : tie.At-loop Inv-loop μ-loop
   here = c .before .before .before .before
 
-  tested : recordValid (here .before .args .state .posts) (trainOf (here .before .args .state) (here .loop .t))
-      ≡ c .record-valid .result
+  abbrev given : State
+  given = here .before .args .state
+
+  tested : recordValid (given .posts) (given .sidings) (trainOf given (here .loop .t)) ≡ c .record-valid .result
   tested =
-      ap (λ (x : Train). recordValid (here .before .args .state .posts) x) (sym (c .before .train-of .ensures))
+      ap (λ (x : Train). recordValid (given .posts) (given .sidings) x) (sym (c .before .train-of .ensures))
       ∙ sym (c .record-valid .ensures)
 
 returns : tie.Need-returns Inv-loop μ-loop
