@@ -128,7 +128,7 @@ all-and n f g = same-test (allBelow n (λ k. f k && g k)) (allBelow n f && allBe
     let two = all-below n g (and-right (allBelow n f) (allBelow n g) e) in
     below-all n _ (λ k l. and-both (f k) (g k) (one k l) (two k l)))
 
--- a line of posts r, tracks k, sidings d, trains t and routes o; trains v, sections s, posts p, the tracks held there w,
+-- a line of posts r, tracks k, sidings d, trains t and routes o; trains v, sections s, posts p, tracks that are held w,
 -- trains put away a and numbers q, in two orders
 in-turn : (r k d t o v s p w a q : Bool)
     → r && (k && (d && (t && o))) && v && s && p && w && a && q

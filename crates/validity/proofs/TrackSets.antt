@@ -22,7 +22,7 @@ use Rattle.validity.specs.Types.{Train, State}
 use Rattle.rules.specs.State.{isRunning, trackAhead, nextOf, trackAt, trainOf, located}
 use Rattle.rules.specs.State.{holdsTrack}
 
--- ---- eight sets, with track k in that of number i
+-- ---- eight sets of tracks
 
 -- set p has the tracks that pass the test of p
 pub record TracksIn (f : ℕ → ℕ → Bool) (sets : List ℕ) : Type 0 where
@@ -30,9 +30,11 @@ pub record TracksIn (f : ℕ → ℕ → Bool) (sets : List ℕ) : Type 0 where
   pub each : (p : ℕ) → p < 8 → getD sets p 0 ≡ setBelow 8 (f p)
 
 module _ {f : ℕ → ℕ → Bool} {sets : List ℕ} (h : TracksIn f sets) where
+  -- by another test that says the same
   retested : (g : ℕ → ℕ → Bool) → ((p k : ℕ) → f p k ≡ g p k) → TracksIn g sets
   retested g e = record { eight = h .eight; each = λ p l. h .each p l ∙ set-cong 8 (f p) (g p) (λ k m. e p k) }
 
+  -- w is set i with track k in it
   mark : (i k w : ℕ) → i < 8 → w ≡ withTrack (getD sets i 0) k
       → TracksIn (λ p j. f p j || (eqb i p && eqb k j)) (set sets i w)
   mark i k w small more = record {
@@ -53,7 +55,8 @@ pub tracks-none : (s : State) → TracksIn (heldAmong s 0) (replicate 8 0)
 unfolding anyBelow setBelow
 tracks-none s = record { eight = refl; each = λ p l. getD-replicate 8 p 0 0 l }
 
--- a train x that holds post p where the test passes: its own alone, or the one to which it runs besides
+-- whether train x has track k at post p, where b says whether it holds the post: its own post alone, or besides the one
+-- to which it runs, with track j there
 module _ (x : Train) (p k : ℕ) (b : Bool) where
   one-post : b ≡ eqb (x .at .0) p → eqb (x .at .0) p && eqb (x .track .0) k ≡ b && eqb (trackAt x p) k
   one-post e = rw e (by-cases (eqb (x .at .0) p) (λ y. rw y) (λ y. rw y))
@@ -81,7 +84,7 @@ module _ (s : State) (n : ℕ) (sets : List ℕ) (h : TracksIn (heldAmong s n) s
   own = trainOf s n .track .0
 
   module _ (e : isRunning (trainOf s n .status) ≡ false) where
-    -- it holds its own track at its own post
+    -- a train that stands holds its own track at its own post
     pub tracks-standing : here < 8 → isStabled (s .sidings) end here ≡ false
         → (w : ℕ) → w ≡ withTrack (getD sets here 0) own → TracksIn (heldAmong s (n + 1)) (set sets here w)
     tracks-standing small away w more = retested (mark h here own w small more) (heldAmong s (n + 1)) (λ p k.
@@ -89,7 +92,7 @@ module _ (s : State) (n : ℕ) (sets : List ℕ) (h : TracksIn (heldAmong s n) s
         rw e (standing-holds (s .sidings) end here p ∙ rw away) in
         ap (λ (b : Bool). heldAmong s n p k || b) (one-post (trainOf s n) p k _ holds) ∙ among-more p k)
 
-    -- or none
+    -- or none where it is stabled
     pub tracks-stabled : isStabled (s .sidings) end here ≡ true → TracksIn (heldAmong s (n + 1)) sets
     tracks-stabled away = retested h (heldAmong s (n + 1)) (λ p k.
         let none : holdsPost (located s n) p ≡ false = rw e (standing-holds (s .sidings) end here p ∙ rw away) in
@@ -97,7 +100,7 @@ module _ (s : State) (n : ℕ) (sets : List ℕ) (h : TracksIn (heldAmong s n) s
         ∙ ap (λ (b : Bool). heldAmong s n p k || (b && eqb (trackAt (trainOf s n) p) k)) (sym none)
         ∙ among-more p k)
 
-  -- and one more at the post to which it runs, which is another
+  -- one that is Running holds the track ahead of it besides, at another post
   pub tracks-running : isRunning (trainOf s n .status) ≡ true → (q k : ℕ) → q ≡ nextOf (trainOf s n)
       → k ≡ trackAhead (trainOf s n .status) → here ≢ q → here < 8 → q < 8
       → (v w : ℕ) → v ≡ withTrack (getD sets here 0) own → w ≡ withTrack (getD (set sets here v) q 0) k

@@ -35,7 +35,8 @@ loop-less c = omega arith
 loop-again : tie.Need-loop-again Inv-loop μ-loop
 loop-again c =
     let at = c .before .before .before in
-    (omega arith, passed-down _ (at .loop .inv .1) (sym (c .before .is-held .ensures) ∙ not-false _ (c .if1 .left)) _ (omega arith))
+    let held = sym (c .before .is-held .ensures) ∙ not-false _ (c .if1 .left) in
+    (omega arith, passed-down _ (at .loop .inv .1) held _ (omega arith))
 
 returns-2 : tie.Need-returns-2 Inv-loop μ-loop
 returns-2 c = no-largest _ _ (c .before .loop .inv .1) (omega (arith, c .loop-test .left))
