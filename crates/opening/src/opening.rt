@@ -1,7 +1,10 @@
-// The opening of a book: the table is filled, and every train stands at its start.
+// The opening of a book: the table is filled, and every train stands at its start, on its track.
 ghost use mathlib.Core.Path.{_≡_};
+ghost use mathlib.Core.Bool.{true};
+ghost use Rattle.line.specs.Line.{wellFormed};
 ghost use Rattle.rules.specs.State.{noTrain};
 ghost use Rattle.rules.specs.Opening.{fresh, openedState, emptyState, openingOf, openingWith, opening};
+use crate::starting::start_tracks;
 use journal::JOURNAL_LENGTH;
 use journal::Log;
 use journal::Record;
@@ -9,6 +12,7 @@ use line::Line;
 use line::NO_ROUTE;
 use line::Outcome;
 use line::Route;
+use line::TrackNo;
 use line::refusal::NO_WAY_THROUGH;
 use line::refusal::OVERFULL;
 use line::refusal::SHORT_STORE;
@@ -93,14 +97,17 @@ pub fn empty_state() -> State
     }
 }
 
-// 01: "every train Free at its start, count 0".
+// 01: "every train Free at its start, count 0", on the track that it takes there.
 fn opened_state(line: Line) -> State
+    requires { ⌜ wellFormed line ≡ true ⌝ }
     ensures { λ r. ⌜ r ≡ openedState line ⌝ }
 {
+    let starts = start_tracks(line);
     let mut fleet = [no_train(); 6];
     let mut t: usize = 0;
     while t < 6 {
-        fleet[t] = fresh(line.routes[t]);
+        let track = starts[t];
+        fleet[t] = fresh(line.routes[t], TrackNo(track));
         t += 1;
     }
     let tracks = line.tracks;
@@ -114,14 +121,15 @@ fn opened_state(line: Line) -> State
     }
 }
 
-// A train at its start.
-fn fresh(route: Route) -> Train
-    ensures { λ r. ⌜ r ≡ fresh route ⌝ }
+// A train at its start, on that track.
+fn fresh(route: Route, track: TrackNo) -> Train
+    ensures { λ r. ⌜ r ≡ fresh route (track .0) ⌝ }
 {
     let at = route.start;
     Train {
         route,
         at,
+        track,
         status: Status::Free,
     }
 }
@@ -130,5 +138,5 @@ fn fresh(route: Route) -> Train
 fn no_train() -> Train
     ensures { λ r. ⌜ r ≡ noTrain ⌝ }
 {
-    fresh(NO_ROUTE)
+    fresh(NO_ROUTE, TrackNo(0))
 }

@@ -9,6 +9,7 @@ use lib.ListN.{length}
 use borrow.Author.Needs.{needs}
 use borrow.Author.Tests.{not-true, not-false}
 use Rattle.line.specs.Book.{acceptedBook, readBook}
+use Rattle.line.proofs.Claims.{line-book}
 use Rattle.journal.specs.Journal.{journalLength}
 use Rattle.completion.specs.Configuration.{start, code, feasible}
 use Rattle.completion.specs.Table.{tableLength, bitOf}
@@ -96,6 +97,10 @@ returns-5 c =
     ∙ no-way _ _ _ (long (stores r)) (room (stores r)) (line r) (is-read r) (fits a) _ _ (filling a .fill .ensures)
     (tested a ∙ not-true _ (c .before .if4 .taken))
 
+opened-state-requires : tie.Need-opened-state-requires
+opened-state-requires c κs =
+    let r = whole (c .before) in line-book .only (book (stores r)) (line r) (is-read r) .formed
+
 returns-6 : tie.Need-returns-6
 returns-6 c =
     let a = c .before .before in
@@ -127,6 +132,6 @@ open-with-spec =
     (λ c κs. search needs)
     (λ c. search needs)
     returns-5
-    (λ c κs. search needs)
+    opened-state-requires
     (λ c. search needs)
     returns-6)

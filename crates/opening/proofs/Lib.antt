@@ -1,0 +1,2 @@
+-- The laws of the tracks that trains take at the opening.
+pub mod StartTracks
