@@ -22,6 +22,7 @@ pub mod Accepted
 pub mod Arrival
 pub mod Order
 pub mod Turns
+pub mod RightTrack
 pub mod Recorded
 pub mod Serving
 pub mod Replies

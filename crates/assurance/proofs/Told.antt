@@ -103,6 +103,11 @@ module _ (table : List ℕ) (s : State) (j : List Record) (o : Observer) (inv : 
   posts-told p = count-cong (s .trains) (λ u. holdsPost (seen-at u) p) (λ u. holdsPost (recorded s u) p)
       (λ u ku. ap (λ (w : Whereabouts). holdsPost w p) (told table s j o inv u ku))
 
+  -- on which tracks
+  pub track-as : (k : Tracks) → TracksAgree s k → (p t : ℕ) → t < s .trains
+      → trackTold o k t p ≡ trackAt (trainOf s t) p
+  track-as k h p t kt = rw (seen table s j o inv t kt, h .each t kt)
+
 -- ---- the claim over a list
 
 module _ (table : List ℕ) (r : Ran) (o : Observer) (settled : Settled table (r .state) (r .journal) o) where
@@ -138,24 +143,20 @@ module _ (table : List ℕ) (r : Ran) (o : Observer) (settled : Settled table (r
         unasked = asked-told table _ _ o inv (g .0) (g .1) ∙ g .3;
       }
 
-  -- its tracks are those of the records
-  track-told : (k : Tracks) → TracksAgree (r .state) k → (p t : ℕ) → t < r .state .trains
-      → trackTold o k t p ≡ trackAt (trainOf (r .state) t) p
-  track-told k h p t kt = rw (seen table (r .state) (r .journal) o inv t kt, h .each t kt)
-
   pub assured : AllRequested r → (k : Tracks) → TracksAgree (r .state) k → Assured (lineOf (r .state)) r o k
   assured requested k h =
       let s = r .state in
       let told = told table s (r .journal) o inv in
+      let track = track-as table s (r .journal) o inv k h in
       record {
         sections = λ i t u kt ku p q.
             one-holder s (inv .valid-state) i t u kt ku (rw (told t kt) at p) (rw (told u ku) at q);
         posts = λ p kp.
             rw (posts-told table s (r .journal) o inv p) (inv .valid-state .posts p kp);
         tracks = λ p t u kp kt ku a b e. inv .valid-state .differ p t u kp kt ku
-            (rw (told t kt) at a) (rw (told u ku) at b) (sym (track-told k h p t kt) ∙ e ∙ track-told k h p u ku);
+            (rw (told t kt) at a) (rw (told u ku) at b) (sym (track p t kt) ∙ e ∙ track p u ku);
         tracks-of-post = λ p t kp kt a.
-            rw (track-told k h p t kt) (inv .valid-state .tracks p t kp kt (rw (told t kt) at a));
+            rw (track p t kt) (inv .valid-state .tracks p t kp kt (rw (told t kt) at a));
         moves = onward-move;
         short = short-of-end;
         requests = requested;
