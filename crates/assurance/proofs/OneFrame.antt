@@ -26,7 +26,7 @@ use Rattle.rules.proofs.Settling.{settled-settles}
 use Rattle.rules.proofs.Acceptance.{by-verdict, refusal-leaves, paired, accepted-facts, accepted-valid}
 use Rattle.rules.proofs.Acceptance.{accepted-nobody}
 use Rattle.assurance.specs.Types.{Fe, Record, State, Sent}
-use Rattle.assurance.specs.OneFrame.{ValidKept, RefusalsChangeNothing, AtMostSix, BitInTable, NoneLeft, First}
+use Rattle.assurance.specs.OneFrame.{TrackFound, ValidKept, RefusalsChangeNothing, AtMostSix, BitInTable, NoneLeft, First}
 use Rattle.assurance.specs.OneFrame.{Granting, done, next, ExactGrant, OldestFirst, RightGrant}
 
 pub valid-kept : ValidKept
@@ -106,6 +106,14 @@ oldest-first table w t e f =
       ap (λ (v : Work). v .sent) (sym (settled-next table w t d (first-turn table (w .state) t f))) ∙ rest .added ∙
           append-assoc (w .sent) (Fe (nextMove (w .state) t) ∷ []) (rest .answers),
     )
+
+-- ---- the free track
+
+pub track-found : TrackFound
+track-found = record {
+  only = λ s t p e kp. free-fewer s (valid-facts s e) p kp t;
+  then = λ s t p e kp. fewer-free s (valid-facts s e) p kp t;
+}
 
 -- ---- the grant, with the table of the line
 

@@ -10,7 +10,7 @@ use Rattle.line.specs.Line.{tracksAt}
 use Rattle.line.specs.Holding.{postHolders, sectionHolders}
 use Rattle.completion.specs.Configuration.{Completable, moved, codeBelow}
 use Rattle.completion.specs.Table.{codeCount, filled}
-use Rattle.rules.specs.State.{isAsked, askedAs, nextOf, trainOf, lineOf, located, reached, nextMove}
+use Rattle.rules.specs.State.{isAsked, askedAs, nextOf, trainOf, lineOf, located, freeTrack, reached, nextMove}
 use Rattle.rules.specs.Valid.{valid}
 use Rattle.rules.specs.Granting.{grantable, Work, granted, settled}
 use Rattle.rules.specs.Answer.{answer}
@@ -37,6 +37,14 @@ AtMostSix = (s : State) (table : List ℕ) (journal : List Record) (frame out : 
 abbrev pub BitInTable : Type 0
 BitInTable = (s : State) (t : ℕ) → valid s ≡ true → t < s .trains → isAsked (trainOf s t .status) ≡ true
     → codeBelow (s .trains) (moved (reached s) t) < codeCount
+
+-- 02, card 2: "The test for a free track now returns which one", and does so exactly where the post "is held by fewer
+-- trains than tracks"
+pub record TrackFound : Type 0 where
+  pub only : (s : State) (t p : ℕ) → valid s ≡ true → p < s .posts → freeTrack s t p ≢ 0
+      → postHolders (s .trains) (located s) p < tracksAt (lineOf s) p
+  pub then : (s : State) (t p : ℕ) → valid s ≡ true → p < s .posts
+      → postHolders (s .trains) (located s) p < tracksAt (lineOf s) p → freeTrack s t p ≢ 0
 
 -- none can be granted
 abbrev pub NoneLeft : List ℕ → State → Type 0

@@ -1,6 +1,7 @@
 -- Each claim, by its proof.
 use Rattle.line.proofs.Claims.{line-book}
 use Rattle.line.proofs.Sidings.{sidings}
+use Rattle.tracks.proofs.Choice.{track-rule}
 use Rattle.frame.proofs.RoundTrip.{round-trip as frames-read-back}
 use Rattle.journal.proofs.Records.{logged-as-sent}
 use Rattle.journal.proofs.Appended.{only-appended}
@@ -15,7 +16,7 @@ use Rattle.rules.proofs.Acceptance.{numbers-told}
 use Rattle.rules.proofs.Refusals.{refusals}
 use Rattle.assurance.proofs.WholeList.{whole-list}
 use Rattle.assurance.proofs.OneFrame.{valid-kept, refusals-change-nothing, at-most-six, bit-in-table}
-use Rattle.assurance.proofs.OneFrame.{exact-grant, oldest-first, right-grant}
+use Rattle.assurance.proofs.OneFrame.{track-found, exact-grant, oldest-first, right-grant}
 use Rattle.assurance.proofs.Unread.{unread, left-alone}
 use Rattle.assurance.proofs.Replies.{all-replies}
 use Rattle.assurance.proofs.NeverRefused.{never-refused-in-runs}
@@ -23,6 +24,7 @@ use Rattle.assurance.proofs.Homecoming.{homecoming}
 use Rattle.assurance.proofs.Waiting.{no-needless-wait}
 use Rattle.assurance.proofs.Arrival.{arrival-of-all}
 use Rattle.assurance.proofs.Turns.{turn-by-turn}
+use Rattle.assurance.proofs.RightTrack.{right-track}
 use Rattle.assurance.proofs.Recorded.{journal-told}
 use Rattle.encoding.proofs.RoundTrip.{round-trip as bytes-read-back}
 use Rattle.calls.proofs.HandedOn.{handed-on}
@@ -32,12 +34,14 @@ use Rattle.examples.proofs.Examples.{examples, printed-run}
 use Rattle.examples.proofs.Books.{books}
 use Rattle.cases.proofs.Further.{older-then, stores, full-post, parked, six-trains, both-home, precedence}
 use Rattle.cases.proofs.Sidings.{siding-byte, still-needs-a-track, put-away, siding-state}
+use Rattle.cases.proofs.Tracks.{opened-tracks, tracks-in-turn, tracks-seen, track-states}
 use Rattle.promises.specs.Claims.{Parts, Cab, OneFrame, WholeLists, InUse, Evaluated}
 
 pub parts : Parts
 parts = record {
   book = line-book;
   sidings = sidings;
+  tracks = track-rule;
   frames = frames-read-back;
   records = logged-as-sent;
   appended = only-appended;
@@ -59,6 +63,7 @@ one-frame = record {
   valid = valid-kept;
   unread = unread;
   left-alone = left-alone;
+  track = track-found;
   exact = exact-grant;
   oldest = oldest-first;
   right = right-grant;
@@ -75,6 +80,7 @@ whole-lists = record {
   arrival = arrival-of-all;
   no-needless-wait = no-needless-wait;
   turns = turn-by-turn;
+  right-track = right-track;
   journal = journal-told;
 }
 
@@ -102,4 +108,8 @@ evaluated = record {
   still-needs-a-track = still-needs-a-track;
   put-away = put-away;
   siding-state = siding-state;
+  opened-tracks = opened-tracks;
+  tracks-in-turn = tracks-in-turn;
+  tracks-seen = tracks-seen;
+  track-states = track-states;
 }

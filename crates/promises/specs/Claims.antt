@@ -1,5 +1,6 @@
 -- Each claim over the definitions that the contracts cite, by name. It is stated in the file that its `use` line names.
 use Rattle.line.specs.Claims.{LineBook, Sidings}
+use Rattle.tracks.specs.Tracks.{TrackRule}
 use Rattle.frame.specs.RoundTrip.{FramesReadBack}
 use Rattle.journal.specs.Journal.{LoggedAsSent, OnlyAppended}
 use Rattle.completion.specs.Configuration.{StartAndEnd, WithoutSidings}
@@ -11,13 +12,14 @@ use Rattle.rules.specs.Answer.{NumbersTold}
 use Rattle.rules.specs.Refusals.{Refusals}
 use Rattle.assurance.specs.WholeList.{WholeList}
 use Rattle.assurance.specs.OneFrame.{ValidKept, RefusalsChangeNothing, AtMostSix, BitInTable}
-use Rattle.assurance.specs.OneFrame.{ExactGrant, OldestFirst, RightGrant}
+use Rattle.assurance.specs.OneFrame.{TrackFound, ExactGrant, OldestFirst, RightGrant}
 use Rattle.assurance.specs.Unread.{Unread, LeftAlone}
 use Rattle.assurance.specs.Replies.{Replies}
 use Rattle.assurance.specs.Homecoming.{NeverRefused, Homecoming}
 use Rattle.assurance.specs.Waiting.{NoNeedlessWait}
 use Rattle.assurance.specs.Arrival.{Arrival}
 use Rattle.assurance.specs.Turns.{TurnByTurn}
+use Rattle.assurance.specs.RightTrack.{RightTrack}
 use Rattle.assurance.specs.Recorded.{JournalTold}
 use Rattle.encoding.specs.RoundTrip.{BytesReadBack}
 use Rattle.calls.specs.HandedOn.{HandedOn}
@@ -27,6 +29,7 @@ use Rattle.examples.specs.Examples.{Examples, PrintedRun}
 use Rattle.examples.specs.Books.{Books}
 use Rattle.cases.specs.Further.{OlderThen, Stores, FullPost, Parked, SixTrains, BothHome, Precedence}
 use Rattle.cases.specs.Sidings.{SidingByte, StillNeedsATrack, PutAway, SidingState}
+use Rattle.cases.specs.Tracks.{OpenedTracks, TracksInTurn, TracksSeen, TrackStates}
 
 -- any book, frame, record, table
 pub record Parts : Type 0 where
@@ -34,6 +37,8 @@ pub record Parts : Type 0 where
   pub book : LineBook
   -- which siding bytes are read; a train at its end in a siding holds no track, and every other train one
   pub sidings : Sidings
+  -- which track a train gets: the smallest that is not held, or the largest
+  pub tracks : TrackRule
   -- demand 2: frames read back as written, and only such frames are read
   pub frames : FramesReadBack
   -- a record has the bytes of its frame; appending touches no other record
@@ -66,6 +71,8 @@ pub record OneFrame : Type 0 where
   pub valid : ValidKept
   pub unread : Unread
   pub left-alone : LeftAlone
+  -- a track is found exactly where fewer trains hold the post than it has tracks
+  pub track : TrackFound
   -- demand 2: a train is granted exactly if it can be, the oldest first
   pub exact : ExactGrant
   pub oldest : OldestFirst
@@ -87,7 +94,9 @@ pub record WholeLists : Type 0 where
   -- nobody waits who could go, and each gets its turn
   pub no-needless-wait : NoNeedlessWait
   pub turns : TurnByTurn
-  -- the journal is what was heard and sent
+  -- each authority's record has the track that the rule gives
+  pub right-track : RightTrack
+  -- the journal is what was heard and sent, with the tracks
   pub journal : JournalTold
 
 -- the ends in use: calls from C, and the desk's program
@@ -113,3 +122,7 @@ pub record Evaluated : Type 0 where
   pub still-needs-a-track : StillNeedsATrack
   pub put-away : PutAway
   pub siding-state : SidingState
+  pub opened-tracks : OpenedTracks
+  pub tracks-in-turn : TracksInTurn
+  pub tracks-seen : TracksSeen
+  pub track-states : TrackStates
