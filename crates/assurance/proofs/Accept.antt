@@ -19,10 +19,10 @@ use Rattle.journal.proofs.Records.{logged-as-sent}
 use Rattle.rules.specs.declared.state.Status.the-variants.{Asked}
 use Rattle.rules.specs.State.{isAsked, askedAs, trainOf, nextMove, withStatus, withTrain}
 use Rattle.rules.specs.State.{oneLogged}
-use Rattle.rules.specs.Granting.{grantable, Work, begun, sends, granted, settled}
+use Rattle.rules.specs.Granting.{grantable, Work, begun, sends, granted, settled, granting, grantRecord}
 use Rattle.rules.specs.Answer.{mostLogged, taken, declined, accepted}
 use Rattle.rules.proofs.Changes.{grantable-facts}
-use Rattle.rules.proofs.Grants.{askedCount, granting, grantRecord, Turn, grants-keep, granted-fewer}
+use Rattle.rules.proofs.Grants.{askedCount, Turn, grants-keep, granted-fewer}
 use Rattle.rules.proofs.Settling.{settled-settles}
 use Rattle.rules.proofs.Acceptance.{Taken, request, arrival}
 use Rattle.assurance.specs.Types.{Line, Move, Message, Fa, Fe, Afe, Am, Record, State}

@@ -17,12 +17,12 @@ use Rattle.rules.specs.declared.state.Status.{Status}
 use Rattle.rules.specs.declared.state.Status.the-variants.{Free, Asked, Running}
 use Rattle.rules.specs.declared.state.Train.{Train}
 use Rattle.rules.specs.State.{isAsked, isRunning, reachedBy, trainOf, lineOf, withStatus, arrivedNext}
-use Rattle.rules.specs.Granting.{Work, granted, settled}
+use Rattle.rules.specs.Granting.{Work, granted, settled, granting}
 use Rattle.rules.specs.Answer.{taken, declined, accepted, answer}
 use Rattle.rules.proofs.Trains.{asked-idle, running-is, route-of}
 use Rattle.rules.proofs.Validity.{Consistent}
 use Rattle.rules.proofs.Changes.{grantable-facts, short-place}
-use Rattle.rules.proofs.Grants.{granting, Turn, grants-keep, granted-place}
+use Rattle.rules.proofs.Grants.{Turn, grants-keep, granted-place}
 use Rattle.rules.proofs.Acceptance.{Taken, request, arrival, by-verdict}
 use Rattle.assurance.specs.Types.{Move, Message, Fa, Am, Record, State}
 use Rattle.assurance.specs.Run.{Input, run}

@@ -28,14 +28,14 @@ use Rattle.rules.specs.declared.state.Status.the-variants.{Running}
 use Rattle.rules.specs.State.{isAsked, nextOf, locatedAt, trackAt, reachedBy, trainOf, lineOf, located, trackHeld}
 use Rattle.rules.specs.State.{freeTrack, reached, nextMove, withStatus, oneLogged}
 use Rattle.rules.specs.Valid.{valid}
-use Rattle.rules.specs.Granting.{grantable, older, oldest, Work, granted, proceed, grants}
+use Rattle.rules.specs.Granting.{grantable, older, oldest, Work, granted, proceed, grants, granting, grantRecord}
 use Rattle.rules.specs.Answer.{outerChecks, knows, contentChecks, frameChecks}
 use Rattle.rules.proofs.Trains.{route-of, in-fleet, changed, changed-own, changed-other}
 use Rattle.rules.proofs.Validity.{TrainValid, Consistent, valid-facts, few-logged, is-valid, asked-short}
 use Rattle.rules.proofs.Validity.{next-post-below}
 use Rattle.rules.proofs.Changes.{grantable-facts, is-grantable}
 use Rattle.rules.proofs.Oldest.{oldest-some}
-use Rattle.rules.proofs.Grants.{granting, grantRecord, Turn, granted-place}
+use Rattle.rules.proofs.Grants.{Turn, granted-place}
 use Rattle.rules.proofs.Settling.{granted-valid}
 use Rattle.assurance.specs.Types.{Message, Fa, Fe, Afe, Am, Refused, State}
 use Rattle.assurance.specs.Unread.{Alike}

@@ -13,6 +13,7 @@ pub mod Ran
 pub mod Told
 pub mod WholeList
 pub mod OneFrame
+pub mod TrackKept
 pub mod Alike
 pub mod Unread
 pub mod NeverRefused

@@ -13,14 +13,14 @@ use Rattle.completion.specs.Table.{filled}
 use Rattle.completion.proofs.Rule.{bit-completable, completable-bit}
 use Rattle.rules.specs.State.{nextOf, trainOf, lineOf, reached, nextMove}
 use Rattle.rules.specs.Valid.{valid}
-use Rattle.rules.specs.Granting.{oldest, Work, granted, proceed, grants}
+use Rattle.rules.specs.Granting.{oldest, Work, granted, proceed, grants, granting}
 use Rattle.rules.specs.Answer.{accepted, answer}
 use Rattle.rules.proofs.Validity.{Distinct, valid-facts, next-post-below, asked-short}
 use Rattle.rules.proofs.FreeTrack.{free-fewer, fewer-free}
 use Rattle.rules.proofs.Changes.{distinct-change, grantable-facts, is-grantable}
 use Rattle.rules.proofs.Reached.{moved-within, moved-code}
 use Rattle.rules.proofs.Oldest.{Oldest, oldest-none, oldest-some, earlier}
-use Rattle.rules.proofs.Grants.{askedCount, granting, Turn, granted-fewer, granted-place, none-asked, few-asked}
+use Rattle.rules.proofs.Grants.{askedCount, Turn, granted-fewer, granted-place, none-asked, few-asked}
 use Rattle.rules.proofs.Grants.{settled-next}
 use Rattle.rules.proofs.Settling.{settled-settles}
 use Rattle.rules.proofs.Acceptance.{by-verdict, refusal-leaves, paired, accepted-facts, accepted-valid}

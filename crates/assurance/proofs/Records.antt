@@ -18,12 +18,12 @@ use Rattle.rules.specs.declared.state.Status.{Status}
 use Rattle.rules.specs.declared.state.Status.the-variants.{Free, Asked, Running}
 use Rattle.rules.specs.declared.state.Train.{Train}
 use Rattle.rules.specs.State.{isFree, isAsked, isRunning, trainOf, lineOf, withStatus, arrivedNext}
-use Rattle.rules.specs.Granting.{Work, granted, settled}
+use Rattle.rules.specs.Granting.{Work, granted, settled, granting}
 use Rattle.rules.specs.Answer.{taken, declined, accepted}
 use Rattle.rules.proofs.Trains.{running-is, route-of, changed, changed-own, changed-other}
 use Rattle.rules.proofs.Validity.{Consistent}
 use Rattle.rules.proofs.Changes.{grantable-facts, short-place}
-use Rattle.rules.proofs.Grants.{granting, Turn, grants-keep, granted-place}
+use Rattle.rules.proofs.Grants.{Turn, grants-keep, granted-place}
 use Rattle.rules.proofs.Acceptance.{Taken, request, arrival}
 use Rattle.assurance.specs.Types.{Move, Message, Fa, Am, State}
 

@@ -20,11 +20,11 @@ use Rattle.journal.specs.Journal.{journalLength, recordOf, recordOn}
 use Rattle.completion.specs.Table.{filled}
 use Rattle.rules.specs.declared.state.Status.the-variants.{Asked}
 use Rattle.rules.specs.State.{isAsked, nextOf, trackAt, trainOf, lineOf, trackHeld, nextMove, withStatus, arrivedNext}
-use Rattle.rules.specs.Granting.{Work, granted, settled}
+use Rattle.rules.specs.Granting.{Work, granted, settled, grantRecord}
 use Rattle.rules.specs.Answer.{taken, declined, accepted, answer}
 use Rattle.rules.specs.Opening.{openedState}
 use Rattle.rules.proofs.Trains.{route-of, changed-line}
-use Rattle.rules.proofs.Grants.{grantRecord, Turn, grants-keep, granted-line}
+use Rattle.rules.proofs.Grants.{Turn, grants-keep, granted-line}
 use Rattle.rules.proofs.Acceptance.{Taken, request, arrival, by-verdict, accepted-facts}
 use Rattle.assurance.specs.Types.{Line, Move, Message, Fa, Fe, Afe, Am, Record, State}
 use Rattle.assurance.specs.Run.{newRecords, run}

@@ -12,10 +12,10 @@ use Rattle.common.proofs.Tests.{clash, by-equality}
 use Rattle.frame.specs.Frame.{moveOf}
 use Rattle.rules.specs.declared.state.Train.{Train}
 use Rattle.rules.specs.State.{isAsked, nextOf, trainOf, nextMove, oneLogged}
-use Rattle.rules.specs.Granting.{Work, begun, granted, settled}
+use Rattle.rules.specs.Granting.{Work, begun, granted, settled, granting}
 use Rattle.rules.proofs.Trains.{changed-own, changed-other, changed-each}
 use Rattle.rules.proofs.Changes.{grantable-facts}
-use Rattle.rules.proofs.Grants.{granting, Turn, grants-keep, granted-place}
+use Rattle.rules.proofs.Grants.{Turn, grants-keep, granted-place}
 use Rattle.assurance.specs.Types.{Move, Message, Fe, Record, State}
 use Rattle.assurance.proofs.Logging.{split-last}
 

@@ -19,11 +19,10 @@ use Rattle.rules.specs.declared.state.Status.the-variants.{Asked}
 use Rattle.rules.specs.declared.state.Train.{Train}
 use Rattle.rules.specs.State.{isAsked, isRunning, askedAs, nextOf, reachedBy, noTrain, trainOf, lineOf, reached}
 use Rattle.rules.specs.State.{nextMove, withStatus, arrivedNext, withTrain, oneLogged}
-use Rattle.rules.specs.Granting.{grantable}
+use Rattle.rules.specs.Granting.{grantable, granting, grantRecord}
 use Rattle.rules.proofs.Trains.{asked-idle, running-is, in-fleet, changed}
 use Rattle.rules.proofs.Validity.{Consistent}
 use Rattle.rules.proofs.Changes.{grantable-facts, short-place, valid-logged, valid-request, valid-arrival, valid-grant}
-use Rattle.rules.proofs.Grants.{granting, grantRecord}
 use Rattle.rules.proofs.Acceptance.{NextMove}
 use Rattle.rules.proofs.Reached.{moved-within}
 use Rattle.assurance.specs.Types.{Move, Message, Fa, Fe, Afe, Am, Record, State}

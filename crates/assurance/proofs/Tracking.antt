@@ -16,11 +16,11 @@ use Rattle.rules.specs.declared.state.Train.{Train}
 use Rattle.rules.specs.declared.state.Status.the-variants.{Asked}
 use Rattle.rules.specs.State.{isAsked, isRunning, nextOf, trackAhead, trainOf, lineOf, freeTrack, withStatus}
 use Rattle.rules.specs.State.{arrivedNext}
-use Rattle.rules.specs.Granting.{Work, granted, settled}
+use Rattle.rules.specs.Granting.{Work, granted, settled, granting, grantRecord}
 use Rattle.rules.specs.Answer.{taken, declined, accepted, answer}
 use Rattle.rules.proofs.Trains.{idle-ahead, route-of, changed, changed-each}
 use Rattle.rules.proofs.Changes.{short-place}
-use Rattle.rules.proofs.Grants.{granting, grantRecord, Turn, grants-keep, granted-place}
+use Rattle.rules.proofs.Grants.{Turn, grants-keep, granted-place}
 use Rattle.rules.proofs.Acceptance.{NextMove, Taken, request, arrival, by-verdict}
 use Rattle.assurance.specs.Types.{Line, Move, Message, Fa, Afe, Am, Record, State}
 use Rattle.assurance.specs.Run.{Input, newRecords, run}

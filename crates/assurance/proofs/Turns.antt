@@ -17,13 +17,13 @@ use Rattle.journal.specs.Journal.{journalLength}
 use Rattle.completion.specs.Table.{filled}
 use Rattle.rules.specs.declared.state.Status.the-variants.{Asked}
 use Rattle.rules.specs.State.{isAsked, trainOf, lineOf, nextMove, withStatus, arrivedNext}
-use Rattle.rules.specs.Granting.{Work, granted, settled}
+use Rattle.rules.specs.Granting.{Work, granted, settled, granting}
 use Rattle.rules.specs.Answer.{taken, declined, accepted, Answer, answer}
 use Rattle.rules.specs.Opening.{openedState}
 use Rattle.rules.proofs.Trains.{changed-line}
 use Rattle.rules.proofs.Changes.{grantable-facts, short-place}
 use Rattle.rules.proofs.Oldest.{earlier}
-use Rattle.rules.proofs.Grants.{granting, Turn, grants-keep, granted-place, granted-line}
+use Rattle.rules.proofs.Grants.{Turn, grants-keep, granted-place, granted-line}
 use Rattle.rules.proofs.Acceptance.{Taken, request, arrival, by-verdict, accepted-facts}
 use Rattle.assurance.specs.Types.{Line, Move, Message, Fa, Fe, Afe, Am, Record, State}
 use Rattle.assurance.specs.Run.{Input, run}

@@ -7,10 +7,11 @@ use mathlib.Core.List.{List, _∷_, _++_}
 use Prim.Native.Nat.{ℕ, _≤_, _<_}
 use Rattle.line.specs.Route.{sectionOf}
 use Rattle.line.specs.Line.{tracksAt}
-use Rattle.line.specs.Holding.{postHolders, sectionHolders}
+use Rattle.line.specs.Holding.{holdsPost, postHolders, sectionHolders}
 use Rattle.completion.specs.Configuration.{Completable, moved, codeBelow}
 use Rattle.completion.specs.Table.{codeCount, filled}
-use Rattle.rules.specs.State.{isAsked, askedAs, nextOf, trainOf, lineOf, located, freeTrack, reached, nextMove}
+use Rattle.rules.specs.State.{isAsked, askedAs, nextOf, trackAt, trainOf, lineOf, located, freeTrack, reached}
+use Rattle.rules.specs.State.{nextMove}
 use Rattle.rules.specs.Valid.{valid}
 use Rattle.rules.specs.Granting.{grantable, Work, granted, settled}
 use Rattle.rules.specs.Answer.{answer}
@@ -45,6 +46,13 @@ pub record TrackFound : Type 0 where
       → postHolders (s .trains) (located s) p < tracksAt (lineOf s) p
   pub then : (s : State) (t p : ℕ) → valid s ≡ true → p < s .posts
       → postHolders (s .trains) (located s) p < tracksAt (lineOf s) p → freeTrack s t p ≢ 0
+
+-- "A train keeps its track while it holds the post": whatever the frame
+abbrev pub TrackKept : Type 0
+TrackKept = (s : State) (table : List ℕ) (journal : List Record) (frame out : List ℕ) (t p : ℕ)
+    → let v = answer s table journal frame out .state in
+    holdsPost (located s t) p ≡ true → holdsPost (located v t) p ≡ true
+    → trackAt (trainOf v t) p ≡ trackAt (trainOf s t) p
 
 -- none can be granted
 abbrev pub NoneLeft : List ℕ → State → Type 0

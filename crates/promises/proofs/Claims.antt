@@ -17,6 +17,7 @@ use Rattle.rules.proofs.Refusals.{refusals}
 use Rattle.assurance.proofs.WholeList.{whole-list}
 use Rattle.assurance.proofs.OneFrame.{valid-kept, refusals-change-nothing, at-most-six, bit-in-table}
 use Rattle.assurance.proofs.OneFrame.{track-found, exact-grant, oldest-first, right-grant}
+use Rattle.assurance.proofs.TrackKept.{track-kept}
 use Rattle.assurance.proofs.Unread.{unread, left-alone}
 use Rattle.assurance.proofs.Replies.{all-replies}
 use Rattle.assurance.proofs.NeverRefused.{never-refused-in-runs}
@@ -64,6 +65,7 @@ one-frame = record {
   unread = unread;
   left-alone = left-alone;
   track = track-found;
+  track-kept = track-kept;
   exact = exact-grant;
   oldest = oldest-first;
   right = right-grant;

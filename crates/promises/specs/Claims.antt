@@ -12,7 +12,7 @@ use Rattle.rules.specs.Answer.{NumbersTold}
 use Rattle.rules.specs.Refusals.{Refusals}
 use Rattle.assurance.specs.WholeList.{WholeList}
 use Rattle.assurance.specs.OneFrame.{ValidKept, RefusalsChangeNothing, AtMostSix, BitInTable}
-use Rattle.assurance.specs.OneFrame.{TrackFound, ExactGrant, OldestFirst, RightGrant}
+use Rattle.assurance.specs.OneFrame.{TrackFound, TrackKept, ExactGrant, OldestFirst, RightGrant}
 use Rattle.assurance.specs.Unread.{Unread, LeftAlone}
 use Rattle.assurance.specs.Replies.{Replies}
 use Rattle.assurance.specs.Homecoming.{NeverRefused, Homecoming}
@@ -71,8 +71,10 @@ pub record OneFrame : Type 0 where
   pub valid : ValidKept
   pub unread : Unread
   pub left-alone : LeftAlone
-  -- a track is found exactly where fewer trains hold the post than it has tracks
+  -- a track is found exactly where fewer trains hold the post than it has tracks; a train keeps it while it holds the
+  -- post
   pub track : TrackFound
+  pub track-kept : TrackKept
   -- demand 2: a train is granted exactly if it can be, the oldest first
   pub exact : ExactGrant
   pub oldest : OldestFirst

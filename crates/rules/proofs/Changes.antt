@@ -22,10 +22,10 @@ use Rattle.line.proofs.WellFormed.{WellFormed}
 use Rattle.tracks.proofs.Choice.{Chosen}
 use Rattle.completion.specs.Configuration.{moved, codeBelow}
 use Rattle.completion.specs.Table.{bitOf}
-use Rattle.rules.specs.Types.{Asked, Running, Train, State}
+use Rattle.rules.specs.Types.{Asked, Train, State}
 use Rattle.rules.specs.State.{isAsked, isRunning, askedAs, atEnd, nextOf, locatedAt, trackAt, trainOf, lineOf}
 use Rattle.rules.specs.State.{located, trackHeld, freeTrack, reached, withStatus, arrivedNext, withTrain, oneLogged}
-use Rattle.rules.specs.Granting.{grantable}
+use Rattle.rules.specs.Granting.{grantable, granting}
 use Rattle.rules.proofs.Trains.{asked-idle, idle-ahead, in-fleet, changed, changed-own, changed-other}
 use Rattle.rules.proofs.Trains.{changed-each, changed-line, changed-count}
 use Rattle.rules.proofs.Validity.{TrainValid, Distinct, Consistent, next-post-below, asked-short}
@@ -202,8 +202,8 @@ module _ (s : State) (d : Consistent s) (t : ℕ) (known : t < s .trains) where
     held-before p h = rw (runs, eq-eqb _ _ (there p h .1)) (or-true (eqb (ran .at .0) p))
 
     -- "A train keeps its track while it holds the post"
-    track-kept : (p : ℕ) → holdsPost (locatedAt (s .sidings) arrived) p ≡ true → trackAt arrived p ≡ trackAt ran p
-    track-kept p h =
+    pub arrival-track : (p : ℕ) → holdsPost (locatedAt (s .sidings) arrived) p ≡ true → trackAt arrived p ≡ trackAt ran p
+    arrival-track p h =
         let r = there p h in
         let other : ran .at .0 ≢ p = λ z. next-other _ _ _ (d .each t known .inside) short (r .1 ∙ sym z) in
         rw (eq-eqb _ _ (r .1), r .0, ne-eqb _ _ other)
@@ -222,9 +222,9 @@ module _ (s : State) (d : Consistent s) (t : ℕ) (known : t < s .trains) where
       post = λ p k.
           rw (runs, holds-there p)
           (omega (arith, d .posts p k, fewer-held stabled? (eqb (ran .at .0) p) (eqb (nextOf ran) p)));
-      track = λ p k h. rw (track-kept p h) (d .tracks p t k known (held-before p h));
+      track = λ p k h. rw (arrival-track p h) (d .tracks p t k known (held-before p h));
       differ = λ p u k ku z h g e.
-          z (sym (d .differ p t u k known ku (held-before p h) g (sym (track-kept p h) ∙ e)));
+          z (sym (d .differ p t u k known ku (held-before p h) g (sym (arrival-track p h) ∙ e)));
       away = λ e. rw e;
       number = λ u ku h p. absurd (false≢true p);
     })
@@ -238,7 +238,7 @@ module _ (s : State) (d : Consistent s) (t : ℕ) (known : t < s .trains) where
     next = nextOf (trainOf s t)
 
     abbrev runs-to : Train
-    runs-to = withStatus (trainOf s t) (Running (record { 0 = freeTrack s t next }))
+    runs-to = granting s t
 
     g : Grantable table s t
     g = grantable-facts table s t can
@@ -247,8 +247,8 @@ module _ (s : State) (d : Consistent s) (t : ℕ) (known : t < s .trains) where
     short = asked-short s d t known (g .asks)
 
     -- it stood at its post
-    was : located s t ≡ at (asks .at .0)
-    was = rw (
+    pub asker-stands : located s t ≡ at (asks .at .0)
+    asker-stands = rw (
       asked-idle (asks .status) (g .asks),
       standing-short (s .sidings) (asks .route .end .0) (asks .at .0) (ne-eqb _ _ short),
     )
@@ -266,20 +266,19 @@ module _ (s : State) (d : Consistent s) (t : ℕ) (known : t < s .trains) where
     track-given : (p : ℕ) → p < s .posts → holdsPost (locatedAt (s .sidings) runs-to) p ≡ true
         → (1 ≤ trackAt runs-to p) × (trackAt runs-to p ≤ tracksAt (lineOf s) p)
     track-given p k h = by-equality (asks .at .0) p
-        (λ q. rw (eq-eqb _ _ q) (rw (eq-eqb _ _ q) at (d .tracks p t k known (rw (was, eq-eqb _ _ q)))))
+        (λ q. rw (eq-eqb _ _ q) (rw (eq-eqb _ _ q) at (d .tracks p t k known (rw (asker-stands, eq-eqb _ _ q)))))
         (λ q. rw (ne-eqb _ _ q, ← ahead p q h) (omega (arith, g .track), c .few))
 
     track-new : (p u : ℕ) → p < s .posts → u < s .trains → u ≢ t → holdsPost (locatedAt (s .sidings) runs-to) p ≡ true
         → holdsPost (located s u) p ≡ true → trackAt runs-to p ≢ trackAt (trainOf s u) p
     track-new p u k ku z h b = by-equality (asks .at .0) p
         (λ q. rw (eq-eqb _ _ q)
-        (λ y. z (sym (d .differ p t u k known ku (rw (was, eq-eqb _ _ q)) b (rw (eq-eqb _ _ q) y)))))
+        (λ y. z (sym (d .differ p t u k known ku (rw (asker-stands, eq-eqb _ _ q)) b (rw (eq-eqb _ _ q) y)))))
         (λ q. rw (ne-eqb _ _ q) (λ y. clash (trackHeld s p (freeTrack s t next))
         (below-any (s .trains) _ u ku (and-both _ _ b (eq-eqb _ _ (sym y))))
         (subst (λ (i : ℕ). trackHeld s i (freeTrack s t next) ≡ false) (ahead p q h) (c .free (g .track)))))
 
-    pub valid-grant : let k = freeTrack s t (nextOf (trainOf s t)) in
-        Consistent (oneLogged (withTrain s t (withStatus (trainOf s t) (Running (record { 0 = k })))))
+    pub valid-grant : Consistent (oneLogged (withTrain s t (granting s t)))
     valid-grant = valid-change s d t known runs-to (s .logged + 1) (record {
       place = in-fleet s t (λ x. isAsked (x .status)) refl (g .asks);
       route = refl;
@@ -299,7 +298,7 @@ module _ (s : State) (d : Consistent s) (t : ℕ) (known : t < s .trains) where
           (λ q.
           let free : postHolders (s .trains) (located s) p < tracksAt (lineOf s) p = rw q at fewer in
           omega (arith, ofBool-le (eqb (asks .at .0) p || eqb next p)))
-          (λ q. rw (was, ne-eqb next p q, or-false (eqb (asks .at .0) p)) (omega (arith, d .posts p k)));
+          (λ q. rw (asker-stands, ne-eqb next p q, or-false (eqb (asks .at .0) p)) (omega (arith, d .posts p k)));
       track = track-given;
       differ = track-new;
       away = d .away t known;

@@ -11,10 +11,9 @@ use lib.ListN.{length}
 use Rattle.common.specs.Below.{ofBool, countBelow}
 use Rattle.common.proofs.Tests.{clash, not-passed}
 use Rattle.common.proofs.Below.{none-counted, count-le}
-use Rattle.journal.specs.Journal.{recordOn}
-use Rattle.rules.specs.Types.{Fe, Record, Running, Train, State}
-use Rattle.rules.specs.State.{isAsked, nextOf, trainOf, lineOf, freeTrack, nextMove, withStatus}
-use Rattle.rules.specs.Granting.{grantable, oldest, Work, granted, proceed, grants, settled}
+use Rattle.rules.specs.Types.{Train, State}
+use Rattle.rules.specs.State.{isAsked, trainOf, lineOf}
+use Rattle.rules.specs.Granting.{grantable, oldest, Work, granting, granted, proceed, grants, settled}
 use Rattle.rules.proofs.Trains.{in-fleet, changed-line, changed-count}
 use Rattle.rules.proofs.Validity.{Consistent}
 use Rattle.rules.proofs.Changes.{grantable-facts}
@@ -22,13 +21,6 @@ use Rattle.rules.proofs.Oldest.{Nobody, Oldest, oldest-none, oldest-som
 
 abbrev pub askedCount : State → ℕ
 askedCount s = countBelow (s .trains) (λ t. isAsked (trainOf s t .status))
-
--- train t's record after its grant, and the record of its FE
-abbrev pub granting : State → ℕ → Train
-granting s t = withStatus (trainOf s t) (Running (record { 0 = freeTrack s t (nextOf (trainOf s t)) }))
-
-abbrev pub grantRecord : State → ℕ → Record
-grantRecord s t = recordOn (freeTrack s t (nextOf (trainOf s t))) (Fe (nextMove s t))
 
 -- the work's oldest
 abbrev pub Turn : List ℕ → Work → ℕ → Type 0

@@ -12,12 +12,12 @@ use Rattle.journal.specs.Journal.{journalLength, recordOf, withoutTrack, Tracke
 use Rattle.journal.proofs.Records.{recorded-untracked}
 use Rattle.rules.specs.Types.{Line, Message, Fe, Record, Train, State}
 use Rattle.rules.specs.State.{nextOf, trainOf, lineOf, freeTrack, nextMove}
-use Rattle.rules.specs.Granting.{Work, granted, settled}
+use Rattle.rules.specs.Granting.{Work, granted, settled, granting, grantRecord}
 use Rattle.rules.proofs.Trains.{changed-each}
 use Rattle.rules.proofs.Validity.{Consistent}
 use Rattle.rules.proofs.FreeTrack.{free-chosen}
 use Rattle.rules.proofs.Changes.{grantable-facts, valid-grant}
-use Rattle.rules.proofs.Grants.{askedCount, granting, grantRecord, Turn, grants-keep, granted-place}
+use Rattle.rules.proofs.Grants.{askedCount, Turn, grants-keep, granted-place}
 use Rattle.rules.proofs.Grants.{granted-fewer, granted-line}
 
 pub record Settles (w v : Work) : Type 0 where

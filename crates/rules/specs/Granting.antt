@@ -10,9 +10,9 @@ use Rattle.line.specs.Holding.{sectionHolders}
 use Rattle.journal.specs.Journal.{recordOn}
 use Rattle.completion.specs.Configuration.{moved, codeBelow}
 use Rattle.completion.specs.Table.{bitOf}
-use Rattle.rules.specs.Types.{Message, Fe, Record, Running, State}
-use Rattle.rules.specs.State.{isAsked, askedAs, nextOf, trainOf, located, freeTrack, reached, nextMove, withStatus}
-use Rattle.rules.specs.State.{withTrain, oneLogged}
+use Rattle.rules.specs.Types.{Message, Fe, Record, Running, Train, State}
+use Rattle.rules.specs.State.{isAsked, askedAs, nextOf, trainOf, located, freeTrack, reached, nextMove}
+use Rattle.rules.specs.State.{withStatus, withTrain, oneLogged}
 
 -- "A train can be granted if it is Asked, its next section is unheld, its next post is held by fewer trains than
 -- tracks, and the table has the bit for the placing in which every Running train, and this one, has reached its next
@@ -50,13 +50,17 @@ begun s r = record { state = oneLogged s; logged = r ∷ []; sent = [] }
 abbrev pub sends : State → Work → Record → Message → Work
 sends s w r a = record { state = oneLogged s; logged = w .logged ++ r ∷ []; sent = w .sent ++ a ∷ [] }
 
--- train t becomes Running, on its way to the track that is free for it, and the record of its FE has that track
+-- train t "becomes Running", on its way to the track that is free for it, and the record of its FE has that track
+abbrev pub granting : State → ℕ → Train
+granting s t = withStatus (trainOf s t) (Running (record { 0 = freeTrack s t (nextOf (trainOf s t)) }))
+
+abbrev pub grantRecord : State → ℕ → Record
+grantRecord s t = recordOn (freeTrack s t (nextOf (trainOf s t))) (Fe (nextMove s t))
+
 abbrev pub granted : Work → ℕ → Work
 granted w t =
     let s = w .state in
-    let a = Fe (nextMove s t) in
-    let k = freeTrack s t (nextOf (trainOf s t)) in
-    sends (withTrain s t (withStatus (trainOf s t) (Running (record { 0 = k })))) w (recordOn k a) a
+    sends (withTrain s t (granting s t)) w (grantRecord s t) (Fe (nextMove s t))
 
 abbrev pub proceed : Option ℕ → Work → (ℕ → Work) → Work
 proceed none w next = w
