@@ -1,4 +1,4 @@
--- The laws of the choice of a track, and of sets of tracks.
+-- The laws of tracks counted, of the choice of a track, and of sets of tracks.
 pub mod Counting
 pub mod Choice
 pub mod Sets

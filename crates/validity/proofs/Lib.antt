@@ -1,4 +1,5 @@
--- A state, read: one train's record, the sets of holders, and the tests in the code's order.
+-- A state, read: one train's record, the sets of holders and of the tracks that they hold, and the tests in the code's
+-- order.
 pub mod Located
 pub mod TrackSets
 pub mod OwnTracks

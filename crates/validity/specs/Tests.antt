@@ -1,4 +1,5 @@
--- The tests of a state as the code groups them: the counts, each train's record, each post with its section.
+-- The tests of a state as the code groups them: the counts, each train's record, each post with its section and the
+-- tracks held there.
 use mathlib.Core.Bool.{Bool, _&&_}
 use Prim.Native.Nat.{ℕ, _/_, _%_, _^_}
 use lib.Count.{ones}

@@ -1,5 +1,5 @@
 // Whether a state that is handed in is valid (01: sound): its counts, each train's record, each post
-// with its section, and the numbers of the requests.
+// with its section and the tracks held there, and the numbers of the requests.
 ghost use mathlib.Core.Path.{_≡_};
 ghost use Prim.Native.Nat.{_≤_, _<_};
 ghost use lib.Count.{ones};
