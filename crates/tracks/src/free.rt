@@ -4,7 +4,7 @@ ghost use mathlib.Core.Path.{_≡_};
 ghost use Prim.Native.Nat.{_<_};
 ghost use Rattle.common.specs.Bits.{bitAt};
 ghost use Rattle.tracks.specs.Tracks.{smallest, largest, trackFor};
-ghost use Rattle.tracks.specs.Answers.{trackNumber, withTrack};
+ghost use Rattle.tracks.specs.Answers.{trackNumber, NamesTrack, withTrack};
 use line::Route;
 use line::TrackNo;
 
@@ -18,7 +18,7 @@ pub enum FreeTrack {
 // largest." Of a post with so many tracks.
 pub fn free_track(route: Route, held: u8, tracks: u8) -> FreeTrack
     requires { ⌜ tracks < 8 ⌝ }
-    ensures { λ r. ⌜ trackNumber r ≡ trackFor route (bitAt held) tracks ⌝ }
+    ensures { λ r. ⌜ (trackNumber r ≡ trackFor route (bitAt held) tracks) × NamesTrack r ⌝ }
 {
     if route.start.0 <= route.end.0 {
         return smallest(held, tracks);
@@ -28,7 +28,7 @@ pub fn free_track(route: Route, held: u8, tracks: u8) -> FreeTrack
 
 fn smallest(held: u8, tracks: u8) -> FreeTrack
     requires { ⌜ tracks < 8 ⌝ }
-    ensures { λ r. ⌜ trackNumber r ≡ smallest (bitAt held) tracks ⌝ }
+    ensures { λ r. ⌜ (trackNumber r ≡ smallest (bitAt held) tracks) × NamesTrack r ⌝ }
 {
     let mut k: u8 = 1;
     while k <= tracks {
@@ -42,7 +42,7 @@ fn smallest(held: u8, tracks: u8) -> FreeTrack
 
 fn largest(held: u8, tracks: u8) -> FreeTrack
     requires { ⌜ tracks < 8 ⌝ }
-    ensures { λ r. ⌜ trackNumber r ≡ largest (bitAt held) tracks ⌝ }
+    ensures { λ r. ⌜ (trackNumber r ≡ largest (bitAt held) tracks) × NamesTrack r ⌝ }
 {
     let mut k = tracks;
     while 0 < k {

@@ -18,7 +18,7 @@ found : (c : tie.After-free-track)
     trackNumber (c .free-track .result)
     ≡ cond (isStabled (a .sidings) (a .route .end .0) (a .route .start .0)) 0
     (trackFor (a .route) (bitAt (a .held)) (a .tracks))
-found c = c .free-track .ensures ∙ rw (sym (c .before .before .stabled .ensures) ∙ c .before .if1 .left)
+found c = c .free-track .ensures .0 ∙ rw (sym (c .before .before .stabled .ensures) ∙ c .before .if1 .left)
 
 returns-2 : tie.Need-returns-2
 returns-2 c = sym (ap trackNumber (c .enum-told .given .1)) ∙ found (c .before .before)

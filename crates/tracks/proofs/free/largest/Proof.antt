@@ -23,8 +23,8 @@ is-held-requires c κs = omega arith
 returns : tie.Need-returns Inv-loop μ-loop
 returns c =
     let at = c .before .before .before in
-    found-largest _ _ _ (omega arith) (omega arith) (sym (c .before .is-held .ensures) ∙ not-true _ (c .if1 .taken))
-    (at .loop .inv .1)
+    let unheld = sym (c .before .is-held .ensures) ∙ not-true _ (c .if1 .taken) in
+    (found-largest _ _ _ (omega arith) (omega arith) unheld (at .loop .inv .1), omega arith)
 
 sub-k : tie.Need-sub-k Inv-loop μ-loop
 sub-k c = omega arith
@@ -39,7 +39,7 @@ loop-again c =
     (omega arith, passed-down _ (at .loop .inv .1) held _ (omega arith))
 
 returns-2 : tie.Need-returns-2 Inv-loop μ-loop
-returns-2 c = no-largest _ _ (c .before .loop .inv .1) (omega (arith, c .loop-test .left))
+returns-2 c = (no-largest _ _ (c .before .loop .inv .1) (omega (arith, c .loop-test .left)), tt)
 
 pub largest-spec : {M : Type 1} → statement M
 largest-spec =

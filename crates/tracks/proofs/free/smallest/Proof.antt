@@ -23,8 +23,8 @@ is-held-requires c κs = omega arith
 returns : tie.Need-returns Inv-loop μ-loop
 returns c =
     let at = c .before .before .before in
-    found-smallest _ _ _ (omega arith) (omega arith) (sym (c .before .is-held .ensures) ∙ not-true _ (c .if1 .taken))
-    (at .loop .inv .1)
+    let unheld = sym (c .before .is-held .ensures) ∙ not-true _ (c .if1 .taken) in
+    (found-smallest _ _ _ (omega arith) (omega arith) unheld (at .loop .inv .1), omega arith)
 
 add-k : tie.Need-add-k Inv-loop μ-loop
 add-k c = omega arith
@@ -38,7 +38,7 @@ loop-again c =
     (omega arith, passed-up _ (at .loop .inv .1) (sym (c .before .is-held .ensures) ∙ not-false _ (c .if1 .left)))
 
 returns-2 : tie.Need-returns-2 Inv-loop μ-loop
-returns-2 c = no-smallest _ _ (c .before .loop .inv .1) (c .loop-test .left)
+returns-2 c = (no-smallest _ _ (c .before .loop .inv .1) (c .loop-test .left), tt)
 
 pub smallest-spec : {M : Type 1} → statement M
 smallest-spec =
