@@ -28,12 +28,12 @@ pub fn status_of(state: State, t: TrainNo) -> Status
 }
 
 // The tracks at post `p`.
-pub fn tracks_at(state: State, p: PostNo) -> u32
+pub fn tracks_at(state: State, p: PostNo) -> u8
     requires { ⌜ p .0 < 8 ⌝ }
     ensures { λ r. ⌜ r ≡ getD (state .tracks) (p .0) 0 ⌝ }
 {
     let i = p.0 as usize;
-    state.tracks[i] as u32
+    state.tracks[i]
 }
 
 // The state with another record of train `t`.

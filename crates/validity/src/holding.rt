@@ -3,10 +3,8 @@
 // eight, that of value 2 ^ k track k's.
 ghost use mathlib.Core.Path.{_≡_};
 ghost use Prim.Native.Nat.{_≤_, _<_};
-ghost use lib.Count.{ones};
-ghost use lib.ListN.{getD};
 ghost use Rattle.common.specs.Bits.{setBelow};
-ghost use Rattle.line.specs.Holding.{postHolders, sectionHolders};
+ghost use Rattle.line.specs.Holding.{sectionHolders};
 ghost use Rattle.rules.specs.State.{located, trackHeld};
 ghost use Rattle.validity.specs.Holders.{Placed, Held};
 use crate::train::is_running;
@@ -64,30 +62,13 @@ pub fn holders_of(state: State) -> Holders
     }
 }
 
-// How many trains hold post `p`.
-pub fn post_holders(holders: Holders, p: PostNo) -> u32
-    requires { ⌜ p .0 < 8 ⌝ }
-    ensures { λ r. ⌜ ((s : State) → Held s holders → r ≡ postHolders (s .trains) (located s) (p .0)) ⌝ }
-{
-    let posts = holders.posts;
-    ones_in(posts, p.0)
-}
-
 // How many trains hold section `i`.
 pub fn section_holders(holders: Holders, i: SectionNo) -> u32
     requires { ⌜ i .0 < 8 ⌝ }
     ensures { λ r. ⌜ ((s : State) → Held s holders → r ≡ sectionHolders (s .trains) (located s) (i .0)) ⌝ }
 {
-    let sections = holders.sections;
-    ones_in(sections, i.0)
-}
-
-fn ones_in(sets: [u8; 8], i: u8) -> u32
-    requires { ⌜ i < 8 ⌝ }
-    ensures { λ r. ⌜ r ≡ ones (getD sets i 0) ⌝ }
-{
-    let k = i as usize;
-    u32::count_ones(sets[k] as u32)
+    let k = i.0 as usize;
+    u32::count_ones(holders.sections[k] as u32)
 }
 
 // The set of the tracks that are held at post `p`.

@@ -11,7 +11,6 @@ pub use fleet::tracks_at;
 pub use fleet::train_of;
 pub use fleet::with_train;
 pub use holding::holders_of;
-pub use holding::post_holders;
 pub use holding::section_holders;
 pub use holding::tracks_held;
 pub use train::arrived;
