@@ -71,7 +71,7 @@ module _ (s : State) (from i : ℕ) where
   next-more best (Asked n) e a = by-cases (ltb n from)
       (λ p. rw p (skip best (λ m q. omega (arith, ltb-true n from p, same-asked e q)) a))
       (λ p. rw p (take n e (ltb-false n from p) best a))
-  next-more best Running e a = skip best (λ m q. absurd (false≢true (ap isAsked (sym e ∙ q)))) a
+  next-more best (Running k) e a = skip best (λ m q. absurd (false≢true (ap isAsked (sym e ∙ q)))) a
 
 -- ---- the next one, if there is one
 
@@ -97,7 +97,7 @@ next-small s from t k v few n =
 asked-number : (w : Status) → isAsked w ≡ true → w ≡ Asked (askedAs w)
 asked-number Free e = absurd (false≢true e)
 asked-number (Asked n) e = refl
-asked-number Running e = absurd (false≢true e)
+asked-number (Running k) e = absurd (false≢true e)
 
 -- nobody whose request has a number below `from` can be granted
 pub record Tried (table : List ℕ) (s : State) (from : ℕ) : Type 0 where

@@ -1,29 +1,36 @@
--- The test of a grant in the order in which the code makes it, and the configuration whose bit it reads, train by
--- train.
-use mathlib.Core.Path.{_≡_, refl, ap, _∙_}
+-- The test of a grant in the order in which the code makes it, the configuration whose bit it reads, train by train,
+-- and what its answer says.
+use mathlib.Core.Path.{_≡_, refl, sym, ap, _∙_}
 use mathlib.Core.Bool.{true, false}
 use mathlib.Core.List.{List}
-use Prim.Native.Nat.{ℕ, _+_, _≤_, _<_}
+use Prim.Native.Nat.{ℕ, suc, _+_, _≤_, _<_}
 use native.Mathlib.Nat.{not-suc-le-zero}
 use native.Mathlib.Omega.{arith}
-use lib.Dec.{eqb, ltb}
+use lib.Dec.{eqb}
 use lib.ListN.{length, getD, set, replicate, length-set}
 use lib.Seq.{getD-set-same, getD-set-other}
-use borrow.Author.Tests.{eq-eqb, ne-eqb, lt-ltb, le-ltb}
-use Rattle.common.proofs.Tests.{by-equality}
+use borrow.Author.Tests.{eq-eqb, ne-eqb}
+use Rattle.common.specs.Bits.{setBelow, bitAt}
+use Rattle.common.proofs.Tests.{by-cases, by-equality, not-passed}
 use Rattle.common.proofs.Below.{ofBool-le}
+use Rattle.common.proofs.Bits.{bit-set}
 use Rattle.common.proofs.Update.{update-own, update-other}
 use Rattle.line.specs.Route.{sectionOf, distance}
-use Rattle.line.specs.Holding.{postHolders, sectionHolders}
+use Rattle.line.specs.Holding.{sectionHolders}
+use Rattle.tracks.specs.Tracks.{trackFor}
+use Rattle.tracks.proofs.Choice.{track-cong}
 use Rattle.completion.specs.Configuration.{moved, codeBelow}
 use Rattle.completion.specs.Table.{bitOf}
-use Rattle.authority.specs.Types.{Move, State}
-use Rattle.rules.specs.State.{isAsked, isRunning, trainOf, located, reached, nextMove}
+use Rattle.authority.specs.Types.{Move, Train, State}
+use Rattle.rules.specs.State.{isAsked, isRunning, nextOf, trainOf, located, trackHeld, freeTrack, reached, nextMove}
 use Rattle.rules.specs.Valid.{consistent}
 use Rattle.rules.specs.Granting.{grantable}
+use Rattle.authority.specs.GrantTrack.{grantTrack}
 use Rattle.validity.specs.Holders.{Placed}
-use Rattle.validity.proofs.Located.{on-eight}
+use Rattle.validity.proofs.Located.{placed-at}
+use Rattle.rules.proofs.Trains.{running-busy}
 use Rattle.rules.proofs.Validity.{consistent-facts, start-below, end-below, post-below, next-post-below, asked-short}
+use Rattle.rules.proofs.Changes.{grantable-facts}
 
 -- ---- a consistent state
 
@@ -34,7 +41,8 @@ module _ (s : State) (d : consistent s ≡ true) where
   pub all-placed : Placed s
   all-placed t k =
       let v = consistent-facts s d in
-      on-eight (trainOf s t) (s .posts) (v .line .few-posts) (post-below s v t k) (end-below s v t k)
+      placed-at (trainOf s t) (s .posts) (v .line .few-posts) (post-below s v t k) (end-below s v t k)
+      (λ e. v .each t k .busy (running-busy (trainOf s t .status) e))
 
   pub short-way : (t : ℕ) → t < s .trains → distance (trainOf s t .route .start .0) (trainOf s t .at .0) < 8
   short-way t k =
@@ -72,7 +80,7 @@ stored-moved s travelled h t small known u k = by-equality u t
     (λ q. rw (update-other (reached s) t (reached s t + 1) u q)
     (getD-set-other travelled t u _ 0 q ∙ h .each u k))
 
--- ---- holders and tracks, found to be n and k
+-- ---- holders, found to be n
 
 module _ {n : ℕ} (h : ℕ) (e : n ≡ h) where
   pub some-hold : 0 < n → eqb h 0 ≡ false
@@ -80,13 +88,6 @@ module _ {n : ℕ} (h : ℕ) (e : n ≡ h) where
 
   pub none-hold : n ≤ 0 → eqb h 0 ≡ true
   none-hold l = eq-eqb h 0 (omega arith)
-
-  module _ {k : ℕ} (t : ℕ) (f : k ≡ t) where
-    pub no-track : k ≤ n → ltb h t ≡ false
-    no-track l = le-ltb h t (omega arith)
-
-    pub a-track : n < k → ltb h t ≡ true
-    a-track l = lt-ltb h t (omega arith)
 
 -- ---- the test, in the code's order
 
@@ -98,32 +99,75 @@ module _ (s : State) (d : consistent s ≡ true) (t : ℕ) (k : t < s .trains) (
       let v = consistent-facts s d in
       rw next (omega (arith, post-below s v t k, v .line .few-posts))
 
+  to-below : m .to .0 < s .posts
+  to-below = let v = consistent-facts s d in rw next (next-post-below s v t k (asked-short s v t k asks))
+
   pub to-on-line : m .to .0 < 8
-  to-on-line =
-      let v = consistent-facts s d in
-      rw next (omega (arith, next-post-below s v t k (asked-short s v t k asks), v .line .few-posts))
+  to-on-line = omega (arith, to-below, consistent-facts s d .line .few-posts)
+
+  -- the tracks there
+  module _ (n : ℕ) (tracks : n ≡ getD (s .tracks) (m .to .0) 0) where
+    pub few-there : n ≤ 4
+    few-there = rw tracks (consistent-facts s d .line .few-tracks (m .to .0) to-below)
+
+    -- the free one, as the code finds it in the set of those that are held, is the definition's
+    pub free-there : (x : Train) → x ≡ trainOf s t → (held : ℕ) → held ≡ setBelow 8 (trackHeld s (m .to .0))
+        → (r : ℕ) → r ≡ trackFor (x .route) (bitAt held) n → r ≡ freeTrack s t (nextOf (trainOf s t))
+    free-there x own held set r e =
+        e
+        ∙ track-cong (x .route) (bitAt held) (trackHeld s (m .to .0)) n
+        (λ i l. rw set (bit-set 8 (trackHeld s (m .to .0)) (suc i) (omega (arith, few-there))))
+        ∙ rw (own, tracks, next)
 
 module _ (table : List ℕ) (s : State) (t : ℕ) where
-  pub not-asked : isAsked (trainOf s t .status) ≡ false → false ≡ grantable table s t
+  -- a train that cannot be granted gets no track
+  none-given : grantable table s t ≡ false → 0 ≡ grantTrack table s t
+  none-given e = rw e
+
+  pub not-asked : isAsked (trainOf s t .status) ≡ false → 0 ≡ grantTrack table s t
   unfolding grantable
-  not-asked e = rw e
+  not-asked e = none-given (rw e)
 
   module _ (asks : isAsked (trainOf s t .status) ≡ true) (m : Move) (next : m ≡ nextMove s t) (i : ℕ)
       (section : i ≡ sectionOf (m .from .0) (m .to .0)) where
     own : i ≡ sectionOf (nextMove s t .from .0) (nextMove s t .to .0)
     own = section ∙ ap (λ (n : Move). sectionOf (n .from .0) (n .to .0)) next
 
-    pub section-held : eqb (sectionHolders (s .trains) (located s) i) 0 ≡ false → false ≡ grantable table s t
+    pub section-held : eqb (sectionHolders (s .trains) (located s) i) 0 ≡ false → 0 ≡ grantTrack table s t
     unfolding grantable
-    section-held e = rw (asks, ← own, e)
+    section-held e = none-given (rw (asks, ← own, e))
 
-    module _ (free : eqb (sectionHolders (s .trains) (located s) i) 0 ≡ true) where
-      pub post-full : ltb (postHolders (s .trains) (located s) (m .to .0)) (getD (s .tracks) (m .to .0) 0) ≡ false
-          → false ≡ grantable table s t
+    module _ (free : eqb (sectionHolders (s .trains) (located s) i) 0 ≡ true) (k : ℕ)
+        (found : k ≡ freeTrack s t (nextOf (trainOf s t))) where
+      pub post-full : k ≡ 0 → 0 ≡ grantTrack table s t
       unfolding grantable
-      post-full e = rw (asks, ← own, free, rw next at e)
+      post-full z = none-given (rw (asks, ← own, free, ← found, z))
 
-      pub bit-decides : ltb (postHolders (s .trains) (located s) (m .to .0)) (getD (s .tracks) (m .to .0) 0) ≡ true
-          → (c : ℕ) → c ≡ codeBelow (s .trains) (moved (reached s) t) → bitOf table c ≡ grantable table s t
-      unfolding grantable
-      bit-decides e c q = rw (asks, ← own, free, rw next at e, q)
+      module _ (some : 1 ≤ k) (c : ℕ) (code : c ≡ codeBelow (s .trains) (moved (reached s) t)) where
+        unheld : eqb (freeTrack s t (nextOf (trainOf s t))) 0 ≡ false
+        unheld = ne-eqb (freeTrack s t (nextOf (trainOf s t))) 0 (λ z. omega (arith, found))
+
+        pub bit-unset : bitOf table c ≡ false → 0 ≡ grantTrack table s t
+        unfolding grantable
+        bit-unset e = none-given (rw (asks, ← own, free, unheld, ← code, e))
+
+        pub track-given : bitOf table c ≡ true → k ≡ grantTrack table s t
+        unfolding grantable
+        track-given e = rw (asks, ← own, free, unheld, ← code, e) found
+
+-- ---- what the answer says
+
+module _ (table : List ℕ) (s : State) (t : ℕ) where
+  -- a track that is named is the one that is free, and the train can be granted
+  pub named-grantable : (k : ℕ) → k ≡ grantTrack table s t → 1 ≤ k → grantable table s t ≡ true
+  named-grantable k e some = by-cases (grantable table s t) (λ g. g)
+      (λ g. absurd (let z : grantTrack table s t ≡ 0 = rw g in omega arith))
+
+  pub named-free : (k : ℕ) → k ≡ grantTrack table s t → 1 ≤ k → k ≡ freeTrack s t (nextOf (trainOf s t))
+  named-free k e some = e ∙ rw (named-grantable k e some)
+
+  -- where none is named, it cannot
+  pub none-grantable : 0 ≡ grantTrack table s t → grantable table s t ≡ false
+  none-grantable e = not-passed (grantable table s t) (λ g.
+      let z : grantTrack table s t ≡ freeTrack s t (nextOf (trainOf s t)) = rw g in
+      grantable-facts table s t g .track (sym z ∙ sym e))

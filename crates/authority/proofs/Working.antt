@@ -5,9 +5,9 @@ use mathlib.Core.List.{List, [], _∷_, _++_}
 use Prim.Native.Nat.{ℕ, _+_, _≤_, _<_}
 use native.Mathlib.Omega.{arith}
 use Rattle.common.proofs.Below.{count-le}
-use Rattle.journal.specs.Journal.{journalLength, emptyBatch, withRecord}
-use Rattle.authority.specs.Types.{Message, Fe, Record, Batch, State, Progress}
-use Rattle.rules.specs.State.{isAsked, trainOf, nextMove, oneLogged}
+use Rattle.journal.specs.Journal.{journalLength, recordOn, emptyBatch, withRecord}
+use Rattle.authority.specs.Types.{TrackNo, Message, Fe, Record, Batch, Running, State, Progress}
+use Rattle.rules.specs.State.{isAsked, nextOf, trainOf, freeTrack, nextMove, withStatus, withTrain, oneLogged}
 use Rattle.rules.specs.Valid.{consistent}
 use Rattle.rules.specs.Granting.{Work, begun, sends, granted, settled}
 use Rattle.rules.specs.Answer.{mostLogged}
@@ -26,6 +26,14 @@ records-more b (c ∷ l) r = records-more (withRecord b c) l r
 pub sent-more : (s : State) (w : Work) (r : Record) (a : Message)
     → progressWith s (batchOf (w .logged)) r ≡ progressOf (sends s w r a)
 sent-more s w r a = rw (records-more emptyBatch (w .logged) r)
+
+-- a grant, by the track that is free
+pub granted-to : (p : Progress) (t : ℕ) (k : TrackNo) → k .0 ≡ freeTrack (p .state) t (nextOf (trainOf (p .state) t))
+    → progressWith (withTrain (p .state) t (withStatus (trainOf (p .state) t) (Running k))) (p .batch)
+    (recordOn (k .0) (Fe (nextMove (p .state) t))) ≡ progressTo p t
+granted-to p t k e = ap (λ (n : ℕ).
+    progressWith (withTrain (p .state) t (withStatus (trainOf (p .state) t) (Running (record { 0 = n })))) (p .batch)
+    (recordOn n (Fe (nextMove (p .state) t)))) e
 
 -- ---- the granting that began with the work w, when the code holds p
 

@@ -15,7 +15,7 @@ lower t n Nobody = Of t n
 abbrev pub elder : Asker → TrainNo → Status → ℕ → Asker
 elder best t Free from = best
 elder best t (Asked n) from = cond (ltb n from) best (lower t n best)
-elder best t Running from = best
+elder best t (Running k) from = best
 
 -- of the first n trains, the one whose request has the lowest number from `from` on
 pub data NextAsked (s : State) (from n : ℕ) : Asker → Type 0 where

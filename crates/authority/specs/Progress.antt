@@ -2,8 +2,8 @@
 -- sent are those of the batch, so that the messages have no place of their own.
 use mathlib.Core.List.{List, [], _∷_}
 use Prim.Native.Nat.{ℕ}
-use Rattle.journal.specs.Journal.{recordOf, emptyBatch, withRecord}
-use Rattle.rules.specs.State.{trainOf, nextMove, withStatus, withTrain, oneLogged}
+use Rattle.journal.specs.Journal.{recordOn, emptyBatch, withRecord}
+use Rattle.rules.specs.State.{nextOf, trainOf, freeTrack, nextMove, withStatus, withTrain, oneLogged}
 use Rattle.rules.specs.Granting.{Work}
 use Rattle.authority.specs.Types.{Fe, Record, Batch, Running, State, Progress}
 
@@ -22,8 +22,10 @@ progressOf w = record { state = w .state; batch = batchOf (w .logged) }
 abbrev pub progressWith : State → Batch → Record → Progress
 progressWith s b r = record { state = oneLogged s; batch = withRecord b r }
 
--- train t becomes Running, and its FE is logged: `granted` of the work
+-- train t becomes Running, on its way to the track that is free for it, and its FE is logged: `granted` of the work
 abbrev pub progressTo : Progress → ℕ → Progress
 progressTo p t =
     let s = p .state in
-    progressWith (withTrain s t (withStatus (trainOf s t) Running)) (p .batch) (recordOf (Fe (nextMove s t)))
+    let k = freeTrack s t (nextOf (trainOf s t)) in
+    progressWith (withTrain s t (withStatus (trainOf s t) (Running (record { 0 = k })))) (p .batch)
+    (recordOn k (Fe (nextMove s t)))

@@ -41,7 +41,7 @@ fn elder(best: Asker, t: TrainNo, status: Status, from: u8) -> Asker
             }
             lower(t, n, best)
         }
-        Status::Running => best,
+        Status::Running(_) => best,
     }
 }
 

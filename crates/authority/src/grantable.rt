@@ -1,42 +1,52 @@
-// Whether a train can be granted.
+// Whether a train can be granted, and the track that it gets then.
 ghost use mathlib.Core.Path.{_≡_};
 ghost use mathlib.Core.Bool.{true};
 ghost use Prim.Native.Nat.{ℕ, _<_};
 ghost use lib.ListN.{getD};
+ghost use Rattle.tracks.specs.Answers.{trackNumber, NamesTrack};
 ghost use Rattle.completion.specs.Configuration.{moved};
 ghost use Rattle.rules.specs.State.{reached};
 ghost use Rattle.rules.specs.Valid.{consistent};
-ghost use Rattle.rules.specs.Granting.{grantable};
+ghost use Rattle.authority.specs.GrantTrack.{grantTrack};
 use line::TrainNo;
 use rules::State;
+use tracks::FreeTrack;
+use tracks::free_track;
 use validity::holders_of;
 use validity::is_asked;
 use validity::next_move;
-use validity::post_holders;
 use validity::reached;
 use validity::section_holders;
-use validity::status_of;
 use validity::tracks_at;
+use validity::tracks_held;
+use validity::train_of;
 
 // 01: "A train can be granted if it is Asked, its next section is unheld, its next post is held by
 // fewer trains than tracks, and the table has the bit for the placing in which every Running train,
-// and this one, has reached its next post."
-pub fn grantable(state: State, table: &[u8], t: TrainNo) -> bool
+// and this one, has reached its next post." 02, card 2: "The test for a free track now returns
+// which one."
+pub fn grantable(state: State, table: &[u8], t: TrainNo) -> FreeTrack
     requires { ⌜ (consistent state ≡ true) × (t .0 < state .trains) ⌝ }
-    ensures { λ r. ⌜ r ≡ grantable (now (table .entry)) state (t .0) ⌝ }
+    ensures { λ r. ⌜ (trackNumber r ≡ grantTrack (now (table .entry)) state (t .0)) × NamesTrack r ⌝ }
 {
-    if !is_asked(status_of(state, t)) {
-        return false;
+    let train = train_of(state, t);
+    let status = train.status;
+    if !is_asked(status) {
+        return FreeTrack::Nothing;
     }
     let next = next_move(state, t);
     let holders = holders_of(state);
     if 0 < section_holders(holders, line::section(next.from, next.to)) {
-        return false;
+        return FreeTrack::Nothing;
     }
-    if tracks_at(state, next.to) <= post_holders(holders, next.to) {
-        return false;
+    let held = tracks_held(holders, next.to);
+    let FreeTrack::At(track) = free_track(train.route, held, tracks_at(state, next.to)) else {
+        return FreeTrack::Nothing;
+    };
+    if !table::bit(table, table::code(reached_with(state, t), state.trains)) {
+        return FreeTrack::Nothing;
     }
-    table::bit(table, table::code(reached_with(state, t), state.trains))
+    FreeTrack::At(track)
 }
 
 // The posts that each train has then travelled.

@@ -4,7 +4,7 @@ ghost use mathlib.Core.Path.{_≡_};
 ghost use mathlib.Core.Bool.{true};
 ghost use Prim.Native.Nat.{_+_, _≤_, _<_};
 ghost use Rattle.journal.specs.Journal.{journalLength, recordOf};
-ghost use Rattle.rules.specs.State.{oneLogged};
+ghost use Rattle.rules.specs.State.{nextOf, trainOf, freeTrack, oneLogged};
 ghost use Rattle.rules.specs.Valid.{consistent};
 ghost use Rattle.rules.specs.Granting.{begun, settled};
 ghost use Rattle.rules.specs.Answer.{mostLogged};
@@ -14,9 +14,14 @@ use crate::asking::next_asked;
 use crate::grantable::grantable;
 use frame::Message;
 use journal::Batch;
+use journal::Record;
+use line::TrackNo;
 use line::TrainNo;
+use logging::record_of;
+use logging::record_on;
 use rules::State;
 use rules::Status;
+use tracks::FreeTrack;
 use validity::next_move;
 use validity::one_logged;
 use validity::train_of;
@@ -34,7 +39,7 @@ pub fn settle(state: State, table: &[u8], message: Message) -> Progress
     requires { ⌜ (consistent (oneLogged state) ≡ true) × (state .logged + mostLogged ≤ journalLength) ⌝ }
     ensures { λ r. ⌜ r ≡ progressOf (settled (now (table .entry)) (begun state (recordOf message))) ⌝ }
 {
-    let mut work = logged(state, logging::empty(), message);
+    let mut work = logged(state, logging::empty(), record_of(message));
     'again: loop {
         let mut from: u8 = 0;
         loop {
@@ -42,8 +47,8 @@ pub fn settle(state: State, table: &[u8], message: Message) -> Progress
             let Asker::Of(t, n) = next_asked(state, from) else {
                 return work;
             };
-            if grantable(state, table, t) {
-                work = granted(work, t);
+            if let FreeTrack::At(track) = grantable(state, table, t) {
+                work = granted(work, t, track);
                 continue 'again;
             }
             from = n + 1;
@@ -51,24 +56,27 @@ pub fn settle(state: State, table: &[u8], message: Message) -> Progress
     }
 }
 
-// A message more is logged.
-pub fn logged(state: State, batch: Batch, message: Message) -> Progress
+// A record more is logged.
+pub fn logged(state: State, batch: Batch, entry: Record) -> Progress
     requires { ⌜ state .logged ≤ journalLength ⌝ }
-    ensures { λ r. ⌜ r ≡ progressWith state batch (recordOf message) ⌝ }
+    ensures { λ r. ⌜ r ≡ progressWith state batch entry ⌝ }
 {
     let state = one_logged(state);
-    let batch = logging::with(batch, logging::record_of(message));
+    let batch = logging::with(batch, entry);
     Progress { state, batch }
 }
 
-// Train `t` becomes Running, and its FE is logged.
-fn granted(work: Progress, t: TrainNo) -> Progress
+// Train `t` becomes Running, on its way to the track that is free for it, and its FE is logged. 02,
+// card 2: "The FE record gains the track number at the post run to".
+fn granted(work: Progress, t: TrainNo, track: TrackNo) -> Progress
     requires { ⌜ (t .0 < 6) × (work .state .logged ≤ journalLength) ⌝ }
+    requires { ⌜ track .0 ≡ freeTrack (work .state) (t .0) (nextOf (trainOf (work .state) (t .0))) ⌝ }
     ensures { λ r. ⌜ r ≡ progressTo work (t .0) ⌝ }
 {
     let state = work.state;
     let batch = work.batch;
-    let message = Message::Fe(next_move(state, t));
-    let running = with_status(train_of(state, t), Status::Running);
-    logged(with_train(state, t, running), batch, message)
+    let entry = record_on(Message::Fe(next_move(state, t)), track);
+    let train = train_of(state, t);
+    let running = with_status(train, Status::Running(track));
+    logged(with_train(state, t, running), batch, entry)
 }

@@ -1,5 +1,5 @@
-// Which trains may run: whether a train can be granted, and the granting. Inner parts of the
-// dispatcher, whose callers meet what they ask.
+// Which trains may run: whether a train can be granted, on which track, and the granting. Inner
+// parts of the dispatcher, whose callers meet what they ask.
 mod asking;
 mod grantable;
 mod granting;

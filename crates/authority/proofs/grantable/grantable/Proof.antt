@@ -1,22 +1,25 @@
 -- `grantable` meets its contract: the tests are those of the definition, in its order.
-use mathlib.Core.Path.{_≡_, sym, ap, _∙_}
+use mathlib.Core.Path.{_≡_, sym, ap, subst, _∙_}
 use mathlib.Core.Bool.{true}
-use Prim.Native.Nat.{_<_}
+use Prim.Native.Nat.{ℕ, _≤_, _<_}
 use native.Mathlib.Omega.{arith}
 use lib.Dec.{eqb}
 use borrow.Author.Needs.{needs}
 use borrow.Author.Tests.{not-true, not-false}
+use Rattle.completion.specs.Configuration.{moved, codeBelow}
 use Rattle.completion.proofs.Codes.{code-cong}
-use Rattle.line.specs.Holding.{postHolders, sectionHolders}
-use Rattle.authority.specs.Types.{Status}
-use Rattle.rules.specs.State.{isAsked, trainOf, located}
-use Rattle.authority.proofs.GrantTest.{few-trains, all-placed, some-hold, none-hold, no-track, a-track}
-use Rattle.authority.proofs.GrantTest.{from-on-line, to-on-line, not-asked, section-held, post-full, bit-decides}
+use Rattle.line.specs.Holding.{sectionHolders}
+use Rattle.tracks.specs.Answers.{trackNumber, NamesTrack}
+use Rattle.authority.specs.Types.{TrackNo, Train}
+use Rattle.rules.specs.State.{isAsked, nextOf, trainOf, located, freeTrack, reached}
+use Rattle.authority.proofs.GrantTest.{few-trains, all-placed, some-hold, none-hold, from-on-line, to-on-line}
+use Rattle.authority.proofs.GrantTest.{few-there, free-there, not-asked, section-held, post-full, bit-unset}
+use Rattle.authority.proofs.GrantTest.{track-given}
 use Rattle.authority.proofs.grantable.grantable.Statement.{statement}
 use Rattle.authority.proofs.grantable.grantable.Tie as tie
 
-status-of-requires : tie.Need-status-of-requires
-status-of-requires c κs = omega (arith, few-trains _ (c .before .pre .0), c .before .pre .1)
+train-of-requires : tie.Need-train-of-requires
+train-of-requires c κs = omega (arith, few-trains _ (c .before .pre .0), c .before .pre .1)
 
 -- the test of the status
 module _ (c : tie.After-is-asked) where
@@ -24,10 +27,10 @@ module _ (c : tie.After-is-asked) where
   start = c .before .before .before
 
   tested : isAsked (trainOf (start .args .state) (start .args .t .0) .status) ≡ c .is-asked .result
-  tested = ap (λ (w : Status). isAsked w) (sym (c .before .status-of .ensures)) ∙ sym (c .is-asked .ensures)
+  tested = ap (λ (x : Train). isAsked (x .status)) (sym (c .before .train-of .ensures)) ∙ sym (c .is-asked .ensures)
 
 returns : tie.Need-returns
-returns c = not-asked _ _ _ (tested (c .before) ∙ not-true _ (c .if1 .taken))
+returns c = (not-asked _ _ _ (tested (c .before) ∙ not-true _ (c .if1 .taken)), tt)
 
 -- the train has asked
 module _ (c : tie.Else1) where
@@ -49,16 +52,17 @@ module _ (c : tie.After-section) where
   abbrev asked : tie.Else1
   asked = c .before .before .before
 
-  from-low : c .before .before .next-move .result .from .0 < 8
-  from-low =
-      from-on-line _ (from asked .pre .0) _ (from asked .pre .1) (asks asked) _ (c .before .before .next-move .ensures)
-
-  to-low : c .before .before .next-move .result .to .0 < 8
-  to-low =
-      to-on-line _ (from asked .pre .0) _ (from asked .pre .1) (asks asked) _ (c .before .before .next-move .ensures)
+  -- the posts that it runs between
+  on-line : let m = c .before .before .next-move .result in (m .from .0 < 8) × (m .to .0 < 8)
+  on-line =
+      let s = from asked in
+      let next = c .before .before .next-move .ensures in (
+        from-on-line _ (s .pre .0) _ (s .pre .1) (asks asked) _ next,
+        to-on-line _ (s .pre .0) _ (s .pre .1) (asks asked) _ next,
+      )
 
 section-holders-requires : tie.Need-section-holders-requires
-section-holders-requires c κs = omega (arith, from-low c, c .section .ensures)
+section-holders-requires c κs = omega (arith, on-line c .0, c .section .ensures)
 
 -- how many hold the next section
 module _ (c : tie.After-section-holders) where
@@ -71,9 +75,11 @@ module _ (c : tie.After-section-holders) where
 
 returns-2 : tie.Need-returns-2
 returns-2 c =
-    let i = c .before .before in
-    section-held _ _ _ (asks (asked i)) _ (i .before .before .next-move .ensures) _ (i .section .ensures)
-    (some-hold _ (section-counted (c .before)) (c .if2 .taken))
+    let i = c .before .before in (
+      section-held _ _ _ (asks (asked i)) _ (i .before .before .next-move .ensures) _ (i .section .ensures)
+          (some-hold _ (section-counted (c .before)) (c .if2 .taken)),
+      tt,
+    )
 
 -- nobody does
 module _ (c : tie.Else2) where
@@ -84,47 +90,97 @@ module _ (c : tie.Else2) where
       (at .section .result .0)) 0 ≡ true
   free = none-hold _ (section-counted (c .before)) (c .if2 .left)
 
+tracks-held-requires : tie.Need-tracks-held-requires
+tracks-held-requires c κs = omega (arith, on-line (at c))
+
 tracks-at-requires : tie.Need-tracks-at-requires
-tracks-at-requires c κs = to-low (at c)
+tracks-at-requires c κs = omega (arith, on-line (at (c .before)))
 
-post-holders-requires : tie.Need-post-holders-requires
-post-holders-requires c κs = to-low (at (c .before))
+free-track-requires : tie.Need-free-track-requires
+free-track-requires c κs =
+    let i = at (c .before .before) in
+    let s = from (asked i) in
+    omega (
+      arith,
+      few-there _ (s .pre .0) _ (s .pre .1) (asks (asked i)) _ (i .before .before .next-move .ensures) _
+          (c .tracks-at .ensures),
+    )
 
--- how many hold the next post
-module _ (c : tie.After-post-holders) where
+-- which track is free at the next post
+module _ (c : tie.After-free-track) where
   abbrev unheld : tie.Else2
-  unheld = c .before .before
+  unheld = c .before .before .before
 
   abbrev start-of : tie.Start
   start-of = given (unheld .before)
 
-  post-counted : c .post-holders .result
-      ≡ postHolders (start-of .args .state .trains) (located (start-of .args .state))
-      (at unheld .before .before .next-move .result .to .0)
-  post-counted = c .post-holders .ensures (start-of .args .state) (at unheld .before .holders-of .ensures)
+  abbrev free-one : ℕ
+  free-one = let s = start-of .args .state in let t = start-of .args .t .0 in freeTrack s t (nextOf (trainOf s t))
+
+  found : trackNumber (c .free-track .result) ≡ free-one
+  found =
+      let i = at unheld in
+      free-there _ (start-of .pre .0) _ (start-of .pre .1) (asks (asked i)) _ (i .before .before .next-move .ensures)
+      _ (c .before .tracks-at .ensures) _ (asked i .before .before .train-of .ensures) _
+      (c .before .before .tracks-held .ensures (start-of .args .state) (i .before .holders-of .ensures)) _
+      (c .free-track .ensures .0)
 
 returns-3 : tie.Need-returns-3
 returns-3 c =
-    let e = unheld (c .before) in
-    let i = at e in
-    post-full _ _ _ (asks (asked i)) _ (i .before .before .next-move .ensures) _ (i .section .ensures) (free e)
-    (no-track _ (post-counted (c .before)) _ (c .before .before .tracks-at .ensures) (c .if3 .taken))
+    let f = c .before .before in
+    let e = unheld f in
+    let i = at e in (
+      post-full _ _ _ (asks (asked i)) _ (i .before .before .next-move .ensures) _ (i .section .ensures) (free e) _
+          (found f) (ap trackNumber (c .enum-told .given .1)),
+      tt,
+    )
+
+-- there is one
+module _ (c : tie.After-bit) where
+  abbrev named : tie.After-track
+  named = c .before .before .before .before
+
+  abbrev search-of : tie.After-free-track
+  search-of = named .before .before
+
+  abbrev track : TrackNo
+  track = named .track .given .0 .0
+
+  is-free : track .0 ≡ free-one search-of
+  is-free = ap trackNumber (sym (named .track .given .1)) ∙ found search-of
+
+  from-1 : 1 ≤ track .0
+  from-1 = subst NamesTrack (named .track .given .1) (search-of .free-track .ensures .1)
+
+  coded : let s = start-of search-of .args .state in
+      c .before .code .result ≡ codeBelow (s .trains) (moved (reached s) (start-of search-of .args .t .0))
+  coded = c .before .code .ensures ∙ code-cong _ _ _ (c .before .before .reached-with .ensures)
 
 returns-4 : tie.Need-returns-4
 returns-4 c =
-    let room = c .before .before .before in
-    let e = unheld (room .before) in
-    let i = at e in
-    let code = c .before .code .ensures ∙ code-cong _ _ _ (c .before .before .reached-with .ensures) in
-    c .bit .ensures
-    ∙ bit-decides _ _ _ (asks (asked i)) _ (i .before .before .next-move .ensures) _ (i .section .ensures) (free e)
-    (a-track _ (post-counted (room .before)) _ (room .before .before .tracks-at .ensures) (room .if3 .left)) _ code
+    let e = unheld (search-of (c .before)) in
+    let i = at e in (
+      bit-unset _ _ _ (asks (asked i)) _ (i .before .before .next-move .ensures) _ (i .section .ensures) (free e) _
+          (is-free (c .before)) (from-1 (c .before)) _ (coded (c .before))
+          (sym (c .before .bit .ensures) ∙ not-true _ (c .if3 .taken)),
+      tt,
+    )
+
+returns-5 : tie.Need-returns-5
+returns-5 c =
+    let e = unheld (search-of (c .before)) in
+    let i = at e in (
+      track-given _ _ _ (asks (asked i)) _ (i .before .before .next-move .ensures) _ (i .section .ensures) (free e) _
+          (is-free (c .before)) (from-1 (c .before)) _ (coded (c .before))
+          (sym (c .before .bit .ensures) ∙ not-false _ (c .if3 .left)),
+      from-1 (c .before),
+    )
 
 pub grantable-spec : {M : Type 1} → statement M
 grantable-spec =
     tie.close
     (tie.spec
-    status-of-requires
+    train-of-requires
     (λ c κs. search needs)
     returns
     next-move-requires
@@ -132,10 +188,14 @@ grantable-spec =
     (λ c κs. search needs)
     section-holders-requires
     returns-2
+    tracks-held-requires
     tracks-at-requires
-    post-holders-requires
+    free-track-requires
+    (λ c. search needs)
+    (λ c. search needs)
     returns-3
     (λ c κs. search needs)
     (λ c κs. search needs)
     (λ c κs. search needs)
-    returns-4)
+    returns-4
+    returns-5)

@@ -1,21 +1,23 @@
 -- `settle` meets its contract. Outer loop: the work is one that ends as the work it began with, and each turn has one
 -- Asked train fewer. Inner loop: nothing is changed, and nobody whose request has a number below `from` can be granted.
 use mathlib.Core.Path.{_≡_, refl, sym, ap, subst, _∙_}
-use mathlib.Core.Bool.{true}
+use mathlib.Core.Bool.{true, false}
 use mathlib.Core.List.{List}
 use Prim.Native.Nat.{ℕ, _-_, _≤_, _<_}
 use native.Mathlib.Omega.{arith}
 use denote.Ref.{now}
 use borrow.Author.Needs.{needs}
-use Rattle.journal.specs.Journal.{journalLength, recordOf}
-use Rattle.authority.specs.Types.{TrainNo, Asker, Batch, State, Progress}
+use Rattle.journal.specs.Journal.{journalLength, recordOf, emptyBatch}
+use Rattle.tracks.specs.Answers.{trackNumber, NamesTrack}
+use Rattle.authority.specs.Types.{TrainNo, TrackNo, Batch, Asker, State, Progress}
 use Rattle.rules.specs.Valid.{consistent}
-use Rattle.rules.specs.Granting.{Work, begun}
+use Rattle.rules.specs.Granting.{grantable, Work, begun}
 use Rattle.authority.specs.Asking.{NextAsked}
+use Rattle.authority.specs.GrantTrack.{grantTrack}
 use Rattle.authority.specs.Progress.{progressWith}
 use Rattle.rules.proofs.Oldest.{Oldest}
 use Rattle.rules.proofs.Grants.{askedCount}
-use Rattle.authority.proofs.GrantTest.{few-trains}
+use Rattle.authority.proofs.GrantTest.{few-trains, named-grantable, named-free, none-grantable}
 use Rattle.authority.proofs.Askers.{Next, Tried, next-found, next-small, tried-none, tried-all, first-oldest}
 use Rattle.authority.proofs.Askers.{tried-more}
 use Rattle.authority.proofs.Working.{Working, working-start, working-valid, working-room, working-end}
@@ -36,7 +38,7 @@ abbrev μ-again : tie.MeasureT-again
 μ-again table work₀ work = askedCount (work .state)
 
 logged-requires : tie.Need-logged-requires Inv-loop μ-loop Inv-again μ-again
-logged-requires c κs = omega (arith, c .before .before .pre .1)
+logged-requires c κs = omega (arith, c .before .before .before .pre .1)
 
 again-holds : tie.Need-again-holds Inv-loop μ-loop Inv-again μ-again
 again-holds c = λ w g. g
@@ -47,7 +49,7 @@ loop-holds c = (refl, tried-none _ _)
 -- a turn of the inner loop
 module _ (c : tie.At-loop Inv-loop μ-loop Inv-again μ-again) where
   abbrev start : tie.Start Inv-loop μ-loop Inv-again μ-again
-  start = c .before .before .before .before .before
+  start = c .before .before .before .before .before .before
 
   abbrev table : List ℕ
   table = now (start .args .table)
@@ -63,8 +65,9 @@ module _ (c : tie.At-loop Inv-loop μ-loop Inv-again μ-again) where
   starts =
       working-start table (start .args .state) _ _ (start .pre .0) (start .pre .1)
       (c .before .before .logged .ensures
-      ∙ ap (λ (b : Batch). progressWith (start .args .state) b (recordOf (start .args .message)))
-      (c .before .before .before .empty .ensures))
+      ∙ ap (λ (b : Batch). progressWith (start .args .state) b (c .before .before .before .record-of .result))
+      (c .before .before .before .before .empty .ensures)
+      ∙ ap (progressWith (start .args .state) emptyBatch) (c .before .before .before .record-of .ensures))
 
   -- the inner loop has changed nothing
   kept : (w : Work) → Working table w (c .before .before .logged .result) → Working table w (c .loop .work)
@@ -108,20 +111,34 @@ module _ (c : tie.After-known-told Inv-loop μ-loop Inv-again μ-again) where
 grantable-requires : tie.Need-grantable-requires Inv-loop μ-loop Inv-again μ-again
 grantable-requires c κs = (valid-state (at c), next c .known)
 
--- it is granted
-module _ (c : tie.Then1 Inv-loop μ-loop Inv-again μ-again) where
+-- it is granted, and named is its track
+module _ (c : tie.After-known-told2 Inv-loop μ-loop Inv-again μ-again) where
+  abbrev found : tie.After-grantable Inv-loop μ-loop Inv-again μ-again
+  found = c .before .before .before
+
   abbrev asker : tie.After-known-told Inv-loop μ-loop Inv-again μ-again
-  asker = c .before .before
+  asker = found .before
+
+  abbrev track : TrackNo
+  track = c .before .track .given .0 .0
+
+  told : track .0 ≡ grantTrack (table (at asker)) (state (at asker)) (t asker .0)
+  told = ap trackNumber (sym (c .before .track .given .1)) ∙ found .grantable .ensures .0
+
+  from-1 : 1 ≤ track .0
+  from-1 = subst NamesTrack (c .before .track .given .1) (found .grantable .ensures .1)
 
   oldest : Oldest (table (at asker)) (state (at asker)) (state (at asker) .trains) (t asker .0)
   oldest =
       first-oldest (table (at asker)) (state (at asker)) _ (at asker .loop .inv .1) _ _ (next asker)
-      (sym (c .before .grantable .ensures) ∙ c .if1 .taken)
+      (named-grantable (table (at asker)) (state (at asker)) _ _ told from-1)
 
 granted-requires : tie.Need-granted-requires Inv-loop μ-loop Inv-again μ-again
 granted-requires c κs =
-    let n = asker c in
-    (omega (arith, next n .known, few-trains _ (valid-state (at n))), room-left (at n))
+    let n = asker c in (
+      (omega (arith, next n .known, few-trains _ (valid-state (at n))), room-left (at n)),
+      named-free (table (at n)) (state (at n)) _ _ (told c) (from-1 c),
+    )
 
 again-less : tie.Need-again-less Inv-loop μ-loop Inv-again μ-again
 again-less c =
@@ -135,9 +152,14 @@ again-again c =
     λ w g. working-next (table (at n)) w _ (kept (at n) w g) _ (oldest (c .before)) _ (c .granted .ensures)
 
 -- it is not
-module _ (c : tie.Else1 Inv-loop μ-loop Inv-again μ-again) where
+module _ (c : tie.After-enum-told2 Inv-loop μ-loop Inv-again μ-again) where
   abbrev refused : tie.After-known-told Inv-loop μ-loop Inv-again μ-again
-  refused = c .before .before
+  refused = c .before .before .before
+
+  barred : grantable (table (at refused)) (state (at refused)) (t refused .0) ≡ false
+  barred =
+      none-grantable (table (at refused)) (state (at refused)) _
+      (ap trackNumber (sym (c .enum-told2 .given .1)) ∙ c .before .before .grantable .ensures .0)
 
   small : number refused < journalLength
   small =
@@ -151,10 +173,9 @@ loop-less c = omega (arith, small c, next (refused c) .low)
 
 loop-again : tie.Need-loop-again Inv-loop μ-loop Inv-again μ-again
 loop-again c =
-    let n = c .before .before in (
+    let n = refused c in (
       at n .loop .inv .0,
-      tried-more (table (at n)) (state (at n)) _ (at n .loop .inv .1) _ _ (next n) (valid-state (at n))
-          (sym (c .before .grantable .ensures) ∙ c .if1 .left),
+      tried-more (table (at n)) (state (at n)) _ (at n .loop .inv .1) _ _ (next n) (valid-state (at n)) (barred c),
     )
 
 pub settle-spec : {M : Type 1} → statement M
@@ -166,6 +187,7 @@ settle-spec =
     Inv-again
     μ-again
     (λ c κs. search needs)
+    (λ c κs. search needs)
     logged-requires
     again-holds
     loop-holds
@@ -174,9 +196,11 @@ settle-spec =
     (λ c. search needs)
     returns
     grantable-requires
+    (λ c. search needs)
     granted-requires
     again-less
     again-again
+    (λ c. search needs)
     add-from
     loop-less
     loop-again)
