@@ -7,7 +7,7 @@ use native.Mathlib.Omega.{arith}
 use lib.ListN.{length, take, drop, length-append, length-set}
 use Rattle.common.specs.Part.{replaced}
 use Rattle.frame.specs.RoundTrip.{IsMessage}
-use Rattle.journal.specs.Journal.{recordOf, batchLength, records, emptyBatch, withRecord, appended}
+use Rattle.journal.specs.Journal.{recordOf, withoutTrack, batchLength, records, emptyBatch, withRecord, appended}
 use Rattle.journal.proofs.Records.{logged-as-sent}
 use Rattle.journal.proofs.Batches.{with-room, records-with}
 use Rattle.journal.proofs.Appended.{appended-fits}
@@ -68,7 +68,7 @@ tail-taken [] m x l e = absurd (let z : _≡_ {A = ℕ} 0 1 = cc in omega arith)
 tail-taken (y ∷ items) m x l e = cc
 
 -- all but the first
-pub batched-answers : (b : Batch) (r : Record) (rs : List Record) → Batched b (r ∷ rs)
+batched-answers : (b : Batch) (r : Record) (rs : List Record) → Batched b (r ∷ rs)
     → answersIn (b .items) (b .n) ≡ rs
 batched-answers b r rs k =
     let n : b .n - 1 ≡ length rs = omega (arith, k .count) in
@@ -76,7 +76,7 @@ batched-answers b r rs k =
     ∙ tail-taken (b .items) (length rs) r rs (ap (λ (m : ℕ). take m (b .items)) (sym (k .count)) ∙ k .same)
 
 -- a frame that is sent is the frame of its record
-pub frames-logged : (l : List Message) → ((a : Message) → List·Memᴰ a l → IsMessage a)
+frames-logged : (l : List Message) → ((a : Message) → List·Memᴰ a l → IsMessage a)
     → framesIn (map recordOf l) ≡ framesOf l
 unfolding framesIn framesOf
 frames-logged [] h = refl
@@ -84,3 +84,20 @@ frames-logged (a ∷ l) h = rw (
   logged-as-sent a (h a (List·Memᴰ·head refl)),
   frames-logged l (λ c m. h c (List·Memᴰ·tail m)),
 )
+
+-- and has no track
+frames-untracked : (l : List Record) → framesIn (map withoutTrack l) ≡ framesIn l
+unfolding framesIn
+frames-untracked [] = refl
+frames-untracked (r ∷ l) = rw (frames-untracked l)
+
+-- so the frames in a batch that has the record of a message and those of its answers are the answers'
+pub batched-frames : (b : Batch) (rs : List Record) → Batched b rs → (a : Message) (l : List Message)
+    → map withoutTrack rs ≡ map recordOf (a ∷ l) → ((c : Message) → List·Memᴰ c l → IsMessage c)
+    → framesIn (answersIn (b .items) (b .n)) ≡ framesOf l
+batched-frames b [] k a l e h = absurd (omega (arith, ap length e))
+batched-frames b (r ∷ rs) k a l e h =
+    ap framesIn (batched-answers b r rs k)
+    ∙ sym (frames-untracked rs)
+    ∙ ap (λ (m : List Record). framesIn (drop 1 m)) e
+    ∙ frames-logged l h

@@ -1,5 +1,5 @@
 -- The step on a frame: what it leaves by value is the answer, with every journal of the length that was handed in.
-use mathlib.Core.Path.{_≡_, refl, sym, ap, subst, _∙_}
+use mathlib.Core.Path.{_≡_, refl, sym, ap, _∙_}
 use mathlib.Core.Logic.{_≢_}
 use mathlib.Core.List.{List}
 use Prim.Native.Nat.{ℕ, _-_, _≤_}
@@ -21,7 +21,7 @@ use Rattle.rules.proofs.Validity.{Consistent, is-consistent}
 use Rattle.rules.proofs.Changes.{valid-request, valid-arrival}
 use Rattle.rules.proofs.Acceptance.{Taken, request, arrival, taken-space, Passed, frame-passed, Accepted}
 use Rattle.rules.proofs.Acceptance.{paired, accepted-facts}
-use Rattle.dispatcher.proofs.Batched.{Batched, batched, batched-appended, batched-answers, frames-logged}
+use Rattle.dispatcher.proofs.Batched.{Batched, batched, batched-appended, batched-frames}
 
 -- an FA or an AM that passes the checks can be taken
 pub taken-acceptable : (s : State) → Consistent s → (a : Message) → Taken s a → Acceptable s a
@@ -95,9 +95,8 @@ module _ (s : State) (table : List ℕ) (count : ℕ) (frame out : List ℕ) (nu
       frames : framesIn (answersIn (p .batch .items) (p .batch .n)) ≡ framesOf (work .sent)
       frames =
           ap (λ (q : Progress). framesIn (answersIn (q .batch .items) (q .batch .n))) held
-          ∙ ap framesIn (batched-answers (batchOf (work .logged)) _ _
-          (subst (Batched (batchOf (work .logged))) (left .written) kept))
-          ∙ frames-logged (work .sent) (left .messages)
+          ∙ batched-frames (batchOf (work .logged)) (work .logged) kept (readFrame frame) (work .sent) (left .written)
+          (left .messages)
 
       written : (journal : List Record) → length journal ≡ count
           → replaced journal (s .logged) (work .logged) ≡ appended journal (s .logged) (p .batch)

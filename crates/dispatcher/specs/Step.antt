@@ -24,7 +24,7 @@ Ready s a x = (moveIn a .train .0 < s .trains) × (s .logged + mostLogged ≤ jo
 
 abbrev pub Acceptable : State → Message → Type 0
 Acceptable s (Fa m) = Ready s (Fa m) (withStatus (trainOf s (m .train .0)) (Asked (s .logged)))
-Acceptable s (Am m) = Ready s (Am m) (arrivedNext (trainOf s (m .train .0)))
+Acceptable s (Am m) = Ready s (Am m) (arrivedNext (s .sidings) (trainOf s (m .train .0)))
 Acceptable s (Fe m) = Unit {0}
 Acceptable s (Afe m) = Unit {0}
 Acceptable s (Refused n) = Unit {0}

@@ -16,6 +16,7 @@ use authority::settle;
 use frame::Message;
 use frame::Move;
 use line::TrainNo;
+use logging::record_of;
 use rules::State;
 use rules::Status;
 use rules::Train;
@@ -53,10 +54,10 @@ fn request(state: State, table: &[u8], m: Move) -> Progress
 
 // 01: "AM: the train becomes Free at the post it ran to. Then the same granting."
 fn arrival(state: State, table: &[u8], m: Move) -> Progress
-    requires { ⌜ Ready state (Am m) (arrivedNext (trainOf state (m .train .0))) ⌝ }
+    requires { ⌜ Ready state (Am m) (arrivedNext (state .sidings) (trainOf state (m .train .0))) ⌝ }
     ensures { λ r. ⌜ r ≡ progressOf (accepted (now (table .entry)) state (Am m)) ⌝ }
 {
-    let free = arrived(train_of(state, m.train));
+    let free = arrived(state.sidings, train_of(state, m.train));
     take(state, table, Message::Am(m), m.train, free)
 }
 
@@ -78,7 +79,7 @@ fn decline(work: Progress, m: Move) -> Progress
     let state = work.state;
     let batch = work.batch;
     if is_asked(status_of(state, m.train)) {
-        return logged(state, batch, Message::Afe(m));
+        return logged(state, batch, record_of(Message::Afe(m)));
     }
     work
 }

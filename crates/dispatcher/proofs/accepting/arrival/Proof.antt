@@ -14,10 +14,12 @@ train-of-requires c κs = let a = c .before .args in ready-train (a .state) (Am 
 
 -- the train's new record
 abbrev free : tie.Start → Train
-free s = arrivedNext (trainOf (s .args .state) (s .args .m .train .0))
+free s = arrivedNext (s .args .state .sidings) (trainOf (s .args .state) (s .args .m .train .0))
 
 record-made : (c : tie.After-arrived) → c .arrived .result ≡ free (c .before .before .before)
-record-made c = c .arrived .ensures ∙ ap (λ (y : Train). arrivedNext y) (c .before .train-of .ensures)
+record-made c =
+    let s = c .before .before .before in
+    c .arrived .ensures ∙ ap (arrivedNext (s .args .state .sidings)) (c .before .train-of .ensures)
 
 take-requires : tie.Need-take-requires
 take-requires c κs =

@@ -3,6 +3,7 @@ use mathlib.Core.Path.{_≡_, sym, ap, _∙_}
 use borrow.Author.Needs.{needs}
 use Rattle.dispatcher.specs.Types.{Status}
 use Rattle.rules.specs.State.{isAsked, trainOf}
+use Rattle.authority.specs.Progress.{progressWith}
 use Rattle.dispatcher.proofs.Declining.{declined-asker, granted-asker}
 use Rattle.dispatcher.proofs.accepting.decline.Statement.{statement}
 use Rattle.dispatcher.proofs.accepting.decline.Tie as tie
@@ -16,8 +17,11 @@ module _ (c : tie.After-is-asked) where
   tested = ap (λ (w : Status). isAsked w) (sym (c .before .status-of .ensures)) ∙ sym (c .is-asked .ensures)
 
 returns : tie.Need-returns
-returns c = λ w held. c .logged .ensures
-    ∙ declined-asker _ w _ held (tested (c .before .before) ∙ c .before .if1 .taken)
+returns c =
+    let asks = c .before .before in
+    let work = start (asks .before) .args .work in
+    λ w held. c .logged .ensures ∙ ap (progressWith (work .state) (work .batch)) (c .before .record-of .ensures)
+    ∙ declined-asker _ w _ held (tested (asks .before) ∙ asks .if1 .taken)
 
 returns-2 : tie.Need-returns-2
 returns-2 c = λ w held. granted-asker _ w _ held (tested (c .before) ∙ c .if1 .left)
@@ -26,6 +30,7 @@ pub decline-spec : {M : Type 1} → statement M
 decline-spec =
     tie.close
     (tie.spec
+    (λ c κs. search needs)
     (λ c κs. search needs)
     (λ c κs. search needs)
     (λ c κs. search needs)
