@@ -2,10 +2,10 @@
 -- sent are those of the batch, so that the messages have no place of their own.
 use mathlib.Core.List.{List, [], _∷_}
 use Prim.Native.Nat.{ℕ}
-use Rattle.journal.specs.Journal.{recordOn, emptyBatch, withRecord}
-use Rattle.rules.specs.State.{nextOf, trainOf, freeTrack, nextMove, withStatus, withTrain, oneLogged}
-use Rattle.rules.specs.Granting.{Work}
-use Rattle.authority.specs.Types.{Fe, Record, Batch, Running, State, Progress}
+use Rattle.journal.specs.Journal.{emptyBatch, withRecord}
+use Rattle.rules.specs.State.{withTrain, oneLogged}
+use Rattle.rules.specs.Granting.{Work, granting, grantRecord}
+use Rattle.authority.specs.Types.{Record, Batch, State, Progress}
 
 -- some records, added to a batch one by one
 unfoldable pub addRecords : Batch → List Record → Batch
@@ -26,6 +26,4 @@ progressWith s b r = record { state = oneLogged s; batch = withRecord b r }
 abbrev pub progressTo : Progress → ℕ → Progress
 progressTo p t =
     let s = p .state in
-    let k = freeTrack s t (nextOf (trainOf s t)) in
-    progressWith (withTrain s t (withStatus (trainOf s t) (Running (record { 0 = k })))) (p .batch)
-    (recordOn k (Fe (nextMove s t)))
+    progressWith (withTrain s t (granting s t)) (p .batch) (grantRecord s t)
