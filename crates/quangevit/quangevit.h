@@ -61,8 +61,8 @@ extern "C" {
 
 /* Stack that a call needs, in bytes. */
 #define QUANGEVIT_STACK_READ_BOOK 256
-#define QUANGEVIT_STACK_OPEN 512
-#define QUANGEVIT_STACK_ANSWER 1024
+#define QUANGEVIT_STACK_OPEN 768
+#define QUANGEVIT_STACK_ANSWER 1280
 #define QUANGEVIT_STACK_UNIT 128 /* each call of a unit, and quangevit_version */
 
 /* ---- what the bytes mean */

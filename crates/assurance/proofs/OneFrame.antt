@@ -11,7 +11,7 @@ use Rattle.frame.specs.Frame.{readFrame}
 use Rattle.completion.specs.Configuration.{moved}
 use Rattle.completion.specs.Table.{filled}
 use Rattle.completion.proofs.Rule.{bit-completable, completable-bit}
-use Rattle.rules.specs.State.{nextOf, trainOf, lineOf, reached, nextMove}
+use Rattle.rules.specs.State.{lineOf, reached, nextMove}
 use Rattle.rules.specs.Valid.{valid}
 use Rattle.rules.specs.Granting.{oldest, Work, granted, proceed, grants, granting}
 use Rattle.rules.specs.Answer.{accepted, answer}
@@ -26,8 +26,8 @@ use Rattle.rules.proofs.Settling.{settled-settles}
 use Rattle.rules.proofs.Acceptance.{by-verdict, refusal-leaves, paired, accepted-facts, accepted-valid}
 use Rattle.rules.proofs.Acceptance.{accepted-nobody}
 use Rattle.assurance.specs.Types.{Fe, Record, State, Sent}
-use Rattle.assurance.specs.OneFrame.{TrackFound, ValidKept, RefusalsChangeNothing, AtMostSix, BitInTable, NoneLeft, First}
-use Rattle.assurance.specs.OneFrame.{Granting, done, next, ExactGrant, OldestFirst, RightGrant}
+use Rattle.assurance.specs.OneFrame.{ValidKept, RefusalsChangeNothing, AtMostSix, BitInTable, TrackFound}
+use Rattle.assurance.specs.OneFrame.{NoneLeft, First, Granting, done, next, ExactGrant, OldestFirst, RightGrant}
 
 pub valid-kept : ValidKept
 valid-kept s table journal frame out e =
@@ -125,7 +125,7 @@ right-grant = record {
       record {
         asks = f .asks;
         section = f .section;
-        post = free-fewer s d (nextOf (trainOf s t)) (next-post-below s d t k (asked-short s d t k (f .asks))) t (f .track);
+        post = track-found .only s t _ e (next-post-below s d t k (asked-short s d t k (f .asks))) (f .track);
         completable = bit-completable (lineOf s) (d .line) table (moved (reached s) t)
             (moved-within s d t k (f .asks)) (f .bit);
       };
@@ -134,7 +134,7 @@ right-grant = record {
       is-grantable (filled (lineOf s) table) s t (record {
         asks = m .asks;
         section = m .section;
-        track = fewer-free s d (nextOf (trainOf s t)) (next-post-below s d t k (asked-short s d t k (m .asks))) t (m .post);
+        track = track-found .then s t _ e (next-post-below s d t k (asked-short s d t k (m .asks))) (m .post);
         bit = completable-bit (lineOf s) (d .line) table (moved (reached s) t) (moved-within s d t k (m .asks))
             (m .completable);
       });

@@ -56,7 +56,8 @@ module _ (table : List ℕ) (s : State) (j : List Record) (frame out : List ℕ)
       let whole : length (take (s .logged) j ++ w .logged) ≡ w .state .logged =
       length-append (take (s .logged) j) (w .logged) ∙ omega (arith, facts .counted) in
       let reach : s .logged + length (w .logged) ≡ w .state .logged = omega (arith, facts .counted) in
-      subst (Adds s j (w .state) (replaced j (s .logged) (w .logged))) (sym (new-logged table s j frame out p)) (record {
+      let new = new-logged table s j frame out p in
+      subst (Adds s j (w .state) (replaced j (s .logged) (w .logged))) (sym new) (record {
         count = facts .counted;
         records = take-at (take (s .logged) j ++ w .logged) _ (w .state .logged) whole;
         rest = drop-at (take (s .logged) j ++ w .logged) _ (w .state .logged) whole

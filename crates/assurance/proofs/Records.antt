@@ -127,9 +127,10 @@ accepted-bounded table s d a (request m q free idle) b =
     (settled-bounded table 1 (recordsIn s + 1) w (record { spare = omega arith; raised = omega arith }))
 accepted-bounded table s d a (arrival m q runs) b =
     let t = m .train .0 in
+    let x = arrivedNext (s .sidings) (trainOf s t) in
     let three : askedFor (trainOf s t .status) ≡ 3 = rw (running-is (trainOf s t .status) runs .1) in
     let c =
-    changed-sum recordsOf s t (arrivedNext (s .sidings) (trainOf s t)) (s .logged + 1) (q .known) (short-place s t (q .short)) in
+    changed-sum recordsOf s t x (s .logged + 1) (q .known) (short-place s t (q .short)) in
     let far = next-travelled _ _ _ (d .each t (q .known) .inside) (q .short) in
-    settled-bounded table 0 (recordsIn s + 1) (taken s (Am m) (arrivedNext (s .sidings) (trainOf s t)))
+    settled-bounded table 0 (recordsIn s + 1) (taken s (Am m) x)
     (record { spare = omega arith; raised = omega arith })

@@ -54,7 +54,8 @@ module _ (table : List ℕ) (s : State) (j : List Record) (o : Observer) (inv : 
       let idle = asked-idle (trainOf s t .status) (g .asks) in
       let permit = authority (trainOf s t .at .0) (nextOf (trainOf s t)) in
       let further : reachedBy x ≡ reached s t + 1 = rw idle (omega arith) in
-      changed-kept table s j o (noteAnswer o (Fe (nextMove s t))) t (grantRecord s t) x inv (other-train (Fe (nextMove s t))) space
+      let a = Fe (nextMove s t) in
+      changed-kept table s j o (noteAnswer o a) t (grantRecord s t) x inv (other-train a) space
       (λ u h. update-other o t _ u h)
       (in-fleet s t (λ y. isAsked (y .status)) refl (g .asks)) refl (valid-grant s d t known table e)
       (record {
@@ -98,8 +99,8 @@ module _ (table : List ℕ) (s : State) (j : List Record) (o : Observer) (inv : 
     request-kept idle =
         let t = m .train .0 in
         let x = withStatus (trainOf s t) (Asked (s .logged)) in
-        changed-kept table s j o (noteFrame o (Fa m)) t (recordOf (Fa m)) x inv (other-train (Fa m)) space (λ u h. update-other o t _ u h)
-        place refl (valid-request s (inv .valid-state) t (n .known) (n .short) idle)
+        changed-kept table s j o (noteFrame o (Fa m)) t (recordOf (Fa m)) x inv (other-train (Fa m)) space
+        (λ u h. update-other o t _ u h) place refl (valid-request s (inv .valid-state) t (n .known) (n .short) idle)
         (record {
           seen = update-own o t _ ∙ ap (λ (y : Seen). seenWith (y .post) asked) (inv .each t (n .known) .seen);
           request = λ q.
@@ -133,7 +134,8 @@ module _ (table : List ℕ) (s : State) (j : List Record) (o : Observer) (inv : 
         rw runs (omega (arith, next-travelled _ _ _ (inv .valid-state .each t (n .known) .inside) (n .short))) in
         let arrived : Observer = update o t (seenWith (m .to .0) nothing) in
         let heard : noteFrame o (Am m) ≡ arrived = rw (authorised runs) in
-        rw heard (changed-kept table s j o arrived t (recordOf (Am m)) x inv (other-train (Am m)) space (λ u h. update-other o t _ u h) place refl
+        rw heard (changed-kept table s j o arrived t (recordOf (Am m)) x inv (other-train (Am m)) space
+        (λ u h. update-other o t _ u h) place refl
         (valid-arrival s (inv .valid-state) t (n .known) (n .short) runs)
         (record {
           seen = update-own o t _ ∙ rw (n .to);

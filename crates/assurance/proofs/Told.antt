@@ -130,7 +130,8 @@ module _ (table : List ℕ) (r : Ran) (o : Observer) (settled : Settled table (r
       inv .valid-state .each t kt .busy (some-claim (trainOf s t .status) _ _ (λ q. some (same ∙ q)))
       (sym here ∙ e ∙ rw (route-of s t))
 
-  pub not-waiting : (t : ℕ) → t < r .state .trains → ShortOfEnd (lineOf (r .state)) o t → Unhindered (lineOf (r .state)) o
+  pub not-waiting : (t : ℕ) → t < r .state .trains → ShortOfEnd (lineOf (r .state)) o t
+      → Unhindered (lineOf (r .state)) o
   not-waiting t kt short =
       let s = r .state in
       let g =

@@ -1,5 +1,5 @@
--- "A train keeps its track while it holds the post": the granting gives tracks and takes none, and the frame's own change
--- leaves a train on its track or takes it from the post.
+-- "A train keeps its track while it holds the post": the granting gives tracks and takes none, and the frame's own
+-- change leaves a train on its track or takes it from the post.
 use mathlib.Core.Path.{_≡_, refl, sym, ap, _∙_}
 use mathlib.Core.Bool.{true, false}
 use mathlib.Core.List.{List}
@@ -14,7 +14,8 @@ use Rattle.rules.specs.Granting.{Work, granting, granted, settled}
 use Rattle.rules.specs.Answer.{taken, declined, accepted}
 use Rattle.rules.proofs.Trains.{idle-ahead, changed-own, changed-other}
 use Rattle.rules.proofs.Validity.{Consistent}
-use Rattle.rules.proofs.Changes.{grantable-facts, short-place, valid-request, valid-arrival, arrival-track, asker-stands}
+use Rattle.rules.proofs.Changes.{grantable-facts, short-place, valid-request, valid-arrival, arrival-track}
+use Rattle.rules.proofs.Changes.{asker-stands}
 use Rattle.rules.proofs.Grants.{Turn, grants-keep, granted-place}
 use Rattle.rules.proofs.Settling.{settled-settles, granted-valid}
 use Rattle.rules.proofs.Acceptance.{Taken, request, arrival, by-verdict}

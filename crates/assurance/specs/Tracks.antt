@@ -1,5 +1,5 @@
--- The tracks that the observer tells. 02, card 2: "From now on no track has two trains over any list of frames; for this
--- clause alone the tally has tracks too, at opening by the rule above, then from each FE's record."
+-- The tracks that the observer tells. 02, card 2: "From now on no track has two trains over any list of frames; for
+-- this clause alone the tally has tracks too, at opening by the rule above, then from each FE's record."
 use mathlib.Core.Bool.{cond}
 use mathlib.Core.List.{List, [], _∷_}
 use Prim.Native.Nat.{ℕ}

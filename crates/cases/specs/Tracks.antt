@@ -67,8 +67,8 @@ pub record TracksInTurn : Type 0 where
 -- ---- as the observer tells it
 
 unfoldable pub toldIn : List ℕ → Ran → ℕ → TracksTold
-unfolding padded valuesFrom added observeTracks trackRecords noteAnswers update readFrames readFrame refusal unlessRefused
-    messageOf startTracks trackFor smallest largest anyBelow standing postAfter
+unfolding padded valuesFrom added observeTracks trackRecords noteAnswers update readFrames readFrame refusal
+    unlessRefused messageOf startTracks trackFor smallest largest anyBelow standing postAfter
 toldIn book r t = let l = lineIn book in observeTracks l (atOpening l) (tracksAtOpening l) (r .exchanges) t
 
 abbrev pub onTracks : ℕ → ℕ → TracksTold

@@ -20,7 +20,7 @@ use Rattle.line.specs.Holding.{standing}
 use Rattle.tracks.specs.Tracks.{smallest, largest, trackFor}
 use Rattle.frame.specs.Frame.{moveOf, messageOf, readFrame, bytesOf}
 use Rattle.journal.specs.Journal.{journalLength, blank, recordOf}
-use Rattle.completion.specs.Configuration.{codeBelow, within, fits, arrived, feasible, freeTrack}
+use Rattle.completion.specs.Configuration.{codeBelow, within, fits, arrived, feasible, roomAhead}
 use Rattle.completion.specs.Table.{tableLength, movesOn, completableBy, completableIn, tableOf}
 use Rattle.rules.specs.Valid.{consistent, valid}
 use Rattle.rules.specs.Granting.{grantable, oldest, grants}
@@ -58,7 +58,7 @@ numbersOf books = map (λ b. outcomeNumber (readAlone b .outcome)) books
 -- the opening of a book with blank stores
 unfoldable pub openedBlank : List ℕ → Opening
 unfolding openingWith refusal unlessRefused valuesFrom padded countBelow allBelow anyBelow setBelow added postAfter
-    standing codeBelow within fits arrived feasible freeTrack movesOn completableBy completableIn tableOf startTracks
+    standing codeBelow within fits arrived feasible roomAhead movesOn completableBy completableIn tableOf startTracks
     trackFor smallest largest
 openedBlank book = opening book (replicate tableLength 0) (replicate journalLength blank)
 
@@ -71,8 +71,8 @@ refusalOf book = openedBlank book .number
 -- inputs put to a box in the state s, with a table and a journal
 unfoldable pub ranWith : State → List ℕ → List Record → List Input → Ran
 unfolding run answer refusal unlessRefused replaced accepted framesOf recordOf readFrame messageOf bytesOf valid
-    consistent wellFormed between nextPost standing countBelow allBelow anyBelow grantable oldest grants update codeBelow
-    trackFor smallest largest
+    consistent wellFormed between nextPost standing countBelow allBelow anyBelow grantable oldest grants update
+    codeBelow trackFor smallest largest
 ranWith s table journal inputs = run table s journal inputs
 
 -- a frame with a blank out buffer of 42 bytes

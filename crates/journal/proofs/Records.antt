@@ -1,5 +1,5 @@
--- A message is logged with the kind, train, from and to of its frame: each kind by computation. Its record has no track,
--- unless it is put on one.
+-- A message is logged with the kind, train, from and to of its frame: each kind by computation. Its record has no
+-- track, unless it is put on one.
 use mathlib.Core.Path.{_≡_, refl, sym, ap}
 use mathlib.Core.Logic.{_≢_}
 use Rattle.frame.specs.Frame.{FE, bytesOf}

@@ -24,7 +24,8 @@ use Rattle.completion.specs.Configuration.{moved, codeBelow}
 use Rattle.completion.specs.Table.{bitOf}
 use Rattle.rules.specs.Types.{Asked, Train, State}
 use Rattle.rules.specs.State.{isAsked, isRunning, askedAs, atEnd, nextOf, locatedAt, trackAt, trainOf, lineOf}
-use Rattle.rules.specs.State.{located, trackHeld, freeTrack, reached, withStatus, arrivedNext, withTrain, oneLogged}
+use Rattle.rules.specs.State.{located, trackHeld, freeTrack, reached, withStatus, arrivedNext, withTrain}
+use Rattle.rules.specs.State.{oneLogged}
 use Rattle.rules.specs.Granting.{grantable, granting}
 use Rattle.rules.proofs.Trains.{asked-idle, idle-ahead, in-fleet, changed, changed-own, changed-other}
 use Rattle.rules.proofs.Trains.{changed-each, changed-line, changed-count}
@@ -179,7 +180,8 @@ module _ (s : State) (d : Consistent s) (t : ℕ) (known : t < s .trains) where
       })
 
   -- "the train becomes Free at the post it ran to"
-  module _ (short : trainOf s t .at .0 ≢ trainOf s t .route .end .0) (runs : isRunning (trainOf s t .status) ≡ true) where
+  module _ (short : trainOf s t .at .0 ≢ trainOf s t .route .end .0)
+      (runs : isRunning (trainOf s t .status) ≡ true) where
     abbrev ran : Train
     ran = trainOf s t
 
@@ -202,7 +204,8 @@ module _ (s : State) (d : Consistent s) (t : ℕ) (known : t < s .trains) where
     held-before p h = rw (runs, eq-eqb _ _ (there p h .1)) (or-true (eqb (ran .at .0) p))
 
     -- "A train keeps its track while it holds the post"
-    pub arrival-track : (p : ℕ) → holdsPost (locatedAt (s .sidings) arrived) p ≡ true → trackAt arrived p ≡ trackAt ran p
+    pub arrival-track : (p : ℕ) → holdsPost (locatedAt (s .sidings) arrived) p ≡ true
+        → trackAt arrived p ≡ trackAt ran p
     arrival-track p h =
         let r = there p h in
         let other : ran .at .0 ≢ p = λ z. next-other _ _ _ (d .each t known .inside) short (r .1 ∙ sym z) in

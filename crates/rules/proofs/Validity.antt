@@ -93,7 +93,8 @@ train-tested x n d = (
 
 -- ---- the tests of two trains' numbers
 
-numbers-differ : (v w : Status) → not (sameNumber v w) ≡ true → isAsked v ≡ true → isAsked w ≡ true → askedAs v ≢ askedAs w
+numbers-differ : (v w : Status) → not (sameNumber v w) ≡ true → isAsked v ≡ true → isAsked w ≡ true
+    → askedAs v ≢ askedAs w
 numbers-differ Free w e p q = absurd (false≢true p)
 numbers-differ (Asked m) Free e p q = absurd (false≢true q)
 numbers-differ (Asked m) (Asked n) e p q = eqb-false m n (not-true (eqb m n) e)
