@@ -15,18 +15,18 @@ use Rattle.driver.proofs.History.{history}
 use Rattle.rules.proofs.Acceptance.{numbers-told}
 use Rattle.rules.proofs.Refusals.{refusals}
 use Rattle.assurance.proofs.WholeList.{whole-list}
-use Rattle.assurance.proofs.OneFrame.{valid-kept, refusals-change-nothing, at-most-six, bit-in-table}
-use Rattle.assurance.proofs.OneFrame.{track-found, exact-grant, oldest-first, right-grant}
-use Rattle.assurance.proofs.TrackKept.{track-kept}
-use Rattle.assurance.proofs.Unread.{unread, left-alone}
-use Rattle.assurance.proofs.Replies.{all-replies}
-use Rattle.assurance.proofs.NeverRefused.{never-refused-in-runs}
-use Rattle.assurance.proofs.Homecoming.{homecoming}
-use Rattle.assurance.proofs.Waiting.{no-needless-wait}
-use Rattle.assurance.proofs.Arrival.{arrival-of-all}
-use Rattle.assurance.proofs.Turns.{turn-by-turn}
-use Rattle.assurance.proofs.RightTrack.{right-track}
-use Rattle.assurance.proofs.Recorded.{journal-told}
+use Rattle.conduct.proofs.OneFrame.{valid-kept, refusals-change-nothing, at-most-six, bit-in-table}
+use Rattle.conduct.proofs.OneFrame.{track-found, exact-grant, oldest-first, right-grant}
+use Rattle.conduct.proofs.TrackKept.{track-kept}
+use Rattle.conduct.proofs.Unread.{unread, left-alone}
+use Rattle.conduct.proofs.Replies.{all-replies}
+use Rattle.conduct.proofs.NeverRefused.{never-refused-in-runs}
+use Rattle.conduct.proofs.Homecoming.{homecoming}
+use Rattle.conduct.proofs.Waiting.{no-needless-wait}
+use Rattle.conduct.proofs.Arrival.{arrival-of-all}
+use Rattle.conduct.proofs.Turns.{turn-by-turn}
+use Rattle.conduct.proofs.RightTrack.{right-track}
+use Rattle.conduct.proofs.Recorded.{journal-told}
 use Rattle.encoding.proofs.RoundTrip.{round-trip as bytes-read-back}
 use Rattle.calls.proofs.HandedOn.{handed-on}
 use Rattle.calls.proofs.CallRuns.{call-runs}

@@ -11,16 +11,16 @@ use Rattle.driver.specs.History.{History}
 use Rattle.rules.specs.Answer.{NumbersTold}
 use Rattle.rules.specs.Refusals.{Refusals}
 use Rattle.assurance.specs.WholeList.{WholeList}
-use Rattle.assurance.specs.OneFrame.{ValidKept, RefusalsChangeNothing, AtMostSix, BitInTable}
-use Rattle.assurance.specs.OneFrame.{TrackFound, TrackKept, ExactGrant, OldestFirst, RightGrant}
-use Rattle.assurance.specs.Unread.{Unread, LeftAlone}
-use Rattle.assurance.specs.Replies.{Replies}
-use Rattle.assurance.specs.Homecoming.{NeverRefused, Homecoming}
-use Rattle.assurance.specs.Waiting.{NoNeedlessWait}
-use Rattle.assurance.specs.Arrival.{Arrival}
-use Rattle.assurance.specs.Turns.{TurnByTurn}
-use Rattle.assurance.specs.RightTrack.{RightTrack}
-use Rattle.assurance.specs.Recorded.{JournalTold}
+use Rattle.conduct.specs.OneFrame.{ValidKept, RefusalsChangeNothing, AtMostSix, BitInTable}
+use Rattle.conduct.specs.OneFrame.{TrackFound, TrackKept, ExactGrant, OldestFirst, RightGrant}
+use Rattle.conduct.specs.Unread.{Unread, LeftAlone}
+use Rattle.conduct.specs.Replies.{Replies}
+use Rattle.conduct.specs.Homecoming.{NeverRefused, Homecoming}
+use Rattle.conduct.specs.Waiting.{NoNeedlessWait}
+use Rattle.conduct.specs.Arrival.{Arrival}
+use Rattle.conduct.specs.Turns.{TurnByTurn}
+use Rattle.conduct.specs.RightTrack.{RightTrack}
+use Rattle.conduct.specs.Recorded.{JournalTold}
 use Rattle.encoding.specs.RoundTrip.{BytesReadBack}
 use Rattle.calls.specs.HandedOn.{HandedOn}
 use Rattle.calls.specs.CallRuns.{CallRuns}

@@ -25,9 +25,9 @@ use Rattle.rules.proofs.Grants.{settled-next}
 use Rattle.rules.proofs.Settling.{settled-settles}
 use Rattle.rules.proofs.Acceptance.{by-verdict, refusal-leaves, paired, accepted-facts, accepted-valid}
 use Rattle.rules.proofs.Acceptance.{accepted-nobody}
 use Rattle.assurance.specs.Types.{Fe, Record, State, Sent}
-use Rattle.assurance.specs.OneFrame.{ValidKept, RefusalsChangeNothing, AtMostSix, BitInTable, TrackFound}
-use Rattle.assurance.specs.OneFrame.{NoneLeft, First, Granting, done, next, ExactGrant, OldestFirst, RightGrant}
+use Rattle.conduct.specs.OneFrame.{ValidKept, RefusalsChangeNothing, AtMostSix, BitInTable, TrackFound}
+use Rattle.conduct.specs.OneFrame.{NoneLeft, First, Granting, done, next, ExactGrant, OldestFirst, RightGrant}
 
 pub valid-kept : ValidKept
 valid-kept s table journal frame out e =

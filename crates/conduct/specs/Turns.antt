@@ -9,10 +9,10 @@ use Rattle.common.specs.Update.{update}
 use Rattle.line.specs.Book.{lineIn}
 use Rattle.frame.specs.Frame.{moveOf, readFrame}
 use Rattle.rules.specs.Opening.{opening}
 use Rattle.assurance.specs.Types.{Line, Move, Message, Fa, Fe, Afe, Am, Refused, Record, Verdict, Sent, RefusedBy}
 use Rattle.assurance.specs.Run.{Input, Exchange, run, answerAfter}
 use Rattle.assurance.specs.Observer.{Observer, atOpening, noteFrame, noteAnswers, answersOf, observe, nextTold}
-use Rattle.assurance.specs.Waiting.{CouldGo}
+use Rattle.conduct.specs.Waiting.{CouldGo}
 
 -- by train: the number in the list of its last accepted FA
 abbrev pub Turns : Type 0

@@ -16,14 +16,14 @@ use Rattle.rules.specs.State.{lineOf}
 use Rattle.rules.specs.Answer.{accepted, framesOf, answered, refused, answer}
 use Rattle.rules.specs.Opening.{Opening, openedState}
 use Rattle.rules.proofs.Acceptance.{Passed, by-verdict, accepted-facts, taken-space}
 use Rattle.assurance.specs.Types.{Line, Message, Record, State, Verdict}
 use Rattle.assurance.specs.Run.{Input, Exchange, newRecords, run}
 use Rattle.assurance.specs.Observer.{readFrames}
-use Rattle.assurance.specs.Replies.{loggedBy}
-use Rattle.assurance.specs.Recorded.{loggedIn, Recorded, JournalTold}
+use Rattle.conduct.specs.Replies.{loggedBy}
+use Rattle.conduct.specs.Recorded.{loggedIn, Recorded, JournalTold}
 use Rattle.assurance.proofs.Logging.{new-logged}
 use Rattle.assurance.proofs.Exchanged.{answers-back}
 use Rattle.assurance.proofs.Opened.{opening-accepted, opened-line}
 
 -- the records `new`, after those that were there
 pub record Adds (s : State) (j : List Record) (u : State) (k : List Record) (new : List Record) : Type 0 where

@@ -18,12 +18,12 @@ use Rattle.journal.specs.Journal.{journalLength}
 use Rattle.rules.specs.Answer.{mostLogged, hasRoom, frameChecks, answer}
 use Rattle.rules.specs.Opening.{opening}
 use Rattle.rules.proofs.Acceptance.{by-content, by-verdict}
 use Rattle.assurance.specs.Types.{Record, State, Verdict, RefusedBy}
 use Rattle.assurance.specs.Run.{Input, Exchange, run}
 use Rattle.assurance.specs.Observer.{Observer}
-use Rattle.assurance.specs.Homecoming.{NeverRefused}
+use Rattle.conduct.specs.Homecoming.{NeverRefused}
 use Rattle.assurance.proofs.Exchanged.{Settled, room-settled, valid-settled, answer-kept}
 use Rattle.assurance.proofs.Opened.{opening-accepted, opened-line, opened-settled}
 
 module _ (table : List ℕ) where
   module _ (s : State) (j : List Record) (o : Observer) (k : Settled table s j o) (frame out : List ℕ) where

@@ -26,20 +26,20 @@ use Rattle.rules.specs.Opening.{openedState}
 use Rattle.rules.proofs.Trains.{route-of, changed-line}
 use Rattle.rules.proofs.Grants.{Turn, grants-keep, granted-line}
 use Rattle.rules.proofs.Acceptance.{Taken, request, arrival, by-verdict, accepted-facts}
 use Rattle.assurance.specs.Types.{Line, Move, Message, Fa, Fe, Afe, Am, Record, State}
 use Rattle.assurance.specs.Run.{newRecords, run}
 use Rattle.assurance.specs.Observer.{Observer, atOpening, noteFrame, noteAnswers, answersOf, observe, locatedTold}
 use Rattle.assurance.specs.Tracks.{Tracks, tracksAtOpening, trackFrame, trackRecords, observeTracks}
-use Rattle.assurance.specs.RightTrack.{heldTold, dueRecord, OnTrack, RightTrack}
+use Rattle.conduct.specs.RightTrack.{heldTold, dueRecord, OnTrack, RightTrack}
 use Rattle.assurance.proofs.Invariant.{Invariant}
 use Rattle.assurance.proofs.Logging.{split-last, new-logged}
 use Rattle.assurance.proofs.Steps.{authorised, request-kept, arrival-kept}
 use Rattle.assurance.proofs.Accept.{Room, Worked, granted-worked, begun-worked}
 use Rattle.assurance.proofs.Exchanged.{answers-back}
 use Rattle.assurance.proofs.Tracking.{TracksAgree, Tells, granted-tells, asked-tells, arrived-tells}
 use Rattle.assurance.proofs.Opened.{opening-accepted, opened-line}
 use Rattle.assurance.proofs.Told.{told, track-as}
 use Rattle.assurance.proofs.WholeList.{opened-run, opened-told}
 
 -- ---- one record, as the observer tells it
 

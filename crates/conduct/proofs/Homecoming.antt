@@ -25,16 +25,16 @@ use Rattle.rules.specs.Opening.{openedState}
 use Rattle.rules.proofs.Trains.{route-of}
 use Rattle.rules.proofs.Acceptance.{NextMove, Taken, request, arrival}
 use Rattle.rules.proofs.Taking.{taken-accepted}
 use Rattle.assurance.specs.Types.{Line, Message, Fa, Am, Record, State}
 use Rattle.assurance.specs.Run.{Input, run}
 use Rattle.assurance.specs.Observer.{Observer, atOpening, observe}
-use Rattle.assurance.specs.Homecoming.{Homecoming}
+use Rattle.conduct.specs.Homecoming.{Homecoming}
 use Rattle.assurance.proofs.Standstill.{Short, goes-on}
 use Rattle.assurance.proofs.Exchanged.{Settled, room-settled, valid-settled, answer-kept}
 use Rattle.assurance.proofs.Records.{recordsIn, few-records, accepted-bounded}
 use Rattle.assurance.proofs.Opened.{opening-accepted, opened-line, opened-settled}
 use Rattle.assurance.proofs.Told.{at-post}
 use Rattle.assurance.proofs.Ran.{RunKept, run-kept}
 
 -- ---- one frame that is accepted
 

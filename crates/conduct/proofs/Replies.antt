@@ -20,14 +20,14 @@ use Rattle.rules.proofs.Trains.{changed-own, changed-other}
 use Rattle.rules.proofs.Changes.{short-place}
 use Rattle.rules.proofs.Frames.{frames-length}
 use Rattle.rules.proofs.Acceptance.{NextMove, Taken, request, arrival, by-verdict, accepted-facts}
 use Rattle.assurance.specs.Types.{Move, Message, Fa, Fe, Am, Record, State, Sent}
 use Rattle.assurance.specs.Run.{newRecords}
 use Rattle.assurance.specs.Observer.{readFrames}
-use Rattle.assurance.specs.Replies.{Awaited, Authorities, Reply, OnlyAdded, Replies}
-use Rattle.assurance.specs.Replies as replies
-use Rattle.assurance.proofs.Serving.{Serves, begins, settled-serves}
+use Rattle.conduct.specs.Replies.{Awaited, Authorities, Reply, OnlyAdded, Replies}
+use Rattle.conduct.specs.Replies as replies
+use Rattle.conduct.proofs.Serving.{Serves, begins, settled-serves}
 use Rattle.assurance.proofs.Exchanged.{answers-back}
-use Rattle.assurance.proofs.Recorded.{all-records, answer-adds, answer-logs}
+use Rattle.conduct.proofs.Recorded.{all-records, answer-adds, answer-logs}
 
 -- ---- from the state before the frame on
 

@@ -13,8 +13,8 @@ use Rattle.rules.specs.declared.state.Train.{Train}
 use Rattle.rules.specs.State.{isAsked, askedAs, trainOf, withStatus}
 use Rattle.rules.proofs.Trains.{changed, changed-own, changed-other}
 use Rattle.rules.proofs.Validity.{Consistent}
 use Rattle.assurance.specs.Types.{State}
-use Rattle.assurance.specs.Turns.{Turns}
+use Rattle.conduct.specs.Turns.{Turns}
 
 -- k has the number of each train's last accepted FA, and n is that of the next frame
 pub record InOrder (s : State) (n : ℕ) (k : Turns) : Type 0 where

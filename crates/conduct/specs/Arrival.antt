@@ -11,12 +11,12 @@ use Rattle.frame.specs.Frame.{moveOf, bytesOf}
 use Rattle.completion.specs.Configuration.{distanceOf}
 use Rattle.rules.specs.Answer.{outLength}
 use Rattle.rules.specs.Opening.{opening}
 use Rattle.assurance.specs.Types.{Line, Move, Message, Fa, Am, Record, Verdict, Sent, RefusedBy}
 use Rattle.assurance.specs.Run.{Input, Exchange, Ran, run, answerAfter}
 use Rattle.assurance.specs.Observer.{Claim, nothing, asked, authority, Observer, atOpening, observe, hasAsked}
 use Rattle.assurance.specs.Observer.{nextTold, travelledTold, reachedTold}
 use Rattle.assurance.specs.WholeList.{Unhindered}
-use Rattle.assurance.specs.Homecoming.{AllAtEnds}
+use Rattle.conduct.specs.Homecoming.{AllAtEnds}
 
 -- the frame that train t has before it: the AM of its authority, else the FA for its next section
 abbrev pub dueBy : Claim → Move → Message

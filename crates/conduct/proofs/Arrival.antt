@@ -23,19 +23,19 @@ use Rattle.rules.specs.Opening.{Opening, openedState}
 use Rattle.rules.proofs.Trains.{running-is, route-of}
 use Rattle.rules.proofs.Acceptance.{NextMove, Taken, request, arrival, by-verdict}
 use Rattle.rules.proofs.Taking.{taken-accepted}
 use Rattle.assurance.specs.Types.{Line, Message, Fa, Record, State, Sent, RefusedBy}
 use Rattle.assurance.specs.Run.{Input, Ran, run, answerAfter}
 use Rattle.assurance.specs.Observer.{Observer, atOpening, observe}
 use Rattle.assurance.specs.WholeList.{Unhindered}
-use Rattle.assurance.specs.Homecoming.{AllAtEnds}
-use Rattle.assurance.specs.Arrival.{dueBy, due, acceptedFrames, framesTold, Arrives, Arrival}
+use Rattle.conduct.specs.Homecoming.{AllAtEnds}
+use Rattle.conduct.specs.Arrival.{dueBy, due, acceptedFrames, framesTold, Arrives, Arrival}
 use Rattle.assurance.proofs.Invariant.{claimOf, Invariant}
 use Rattle.assurance.proofs.Exchanged.{Settled, valid-settled}
-use Rattle.assurance.proofs.Accepted.{framesIn, run-frames, frames-told, frames-within, few-frames}
+use Rattle.conduct.proofs.Accepted.{framesIn, run-frames, frames-told, frames-within, few-frames}
 use Rattle.assurance.proofs.Opened.{opening-accepted, opened-line, opened-settled}
 use Rattle.assurance.proofs.Ran.{run-kept}
 use Rattle.assurance.proofs.Told.{not-waiting, seen, at-post, asked-told, next-told}
-use Rattle.assurance.proofs.Homecoming.{next-move, taken-message, long-table}
+use Rattle.conduct.proofs.Homecoming.{next-move, taken-message, long-table}
 
 -- ---- the frame that a train has before it
 

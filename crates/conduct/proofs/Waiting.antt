@@ -18,15 +18,15 @@ use Rattle.rules.proofs.Validity.{next-post-below, asked-short}
 use Rattle.rules.proofs.FreeTrack.{free-fewer, fewer-free}
 use Rattle.rules.proofs.Changes.{grantable-facts, is-grantable}
 use Rattle.rules.proofs.Reached.{moved-within}
 use Rattle.assurance.specs.Types.{Line, Record, State}
 use Rattle.assurance.specs.Run.{run}
 use Rattle.assurance.specs.Observer.{Observer, atOpening, observe, reachedTold}
-use Rattle.assurance.specs.Waiting.{CouldGo, Waiting, NoNeedlessWait}
+use Rattle.conduct.specs.Waiting.{CouldGo, Waiting, NoNeedlessWait}
 use Rattle.assurance.proofs.Invariant.{Invariant}
 use Rattle.assurance.proofs.Exchanged.{Settled}
 use Rattle.assurance.proofs.Opened.{opening-accepted, opened-line}
 use Rattle.assurance.proofs.Told.{at-post, asked-told, next-told, reached-told, sections-told, posts-told}
 use Rattle.assurance.proofs.WholeList.{opened-run}
 
 -- ---- what the observer tells of a train that could go, and the test
 

@@ -25,20 +25,20 @@ use Rattle.rules.proofs.Changes.{grantable-facts, short-place}
 use Rattle.rules.proofs.Oldest.{earlier}
 use Rattle.rules.proofs.Grants.{Turn, grants-keep, granted-place, granted-line}
 use Rattle.rules.proofs.Acceptance.{Taken, request, arrival, by-verdict, accepted-facts}
 use Rattle.assurance.specs.Types.{Line, Move, Message, Fa, Fe, Afe, Am, Record, State}
 use Rattle.assurance.specs.Run.{Input, run}
 use Rattle.assurance.specs.Observer.{Observer, atOpening, noteFrame, noteAnswers, answersOf, observe}
-use Rattle.assurance.specs.Turns.{Turns, turnBy, turnIn, turnsFrom, turns, InTurn, TurnByTurn}
+use Rattle.conduct.specs.Turns.{Turns, turnBy, turnIn, turnsFrom, turns, InTurn, TurnByTurn}
 use Rattle.assurance.proofs.Invariant.{Invariant}
-use Rattle.assurance.proofs.Order.{InOrder, no-more-asked, asks-last}
+use Rattle.conduct.proofs.Order.{InOrder, no-more-asked, asks-last}
 use Rattle.assurance.proofs.Logging.{split-last}
 use Rattle.assurance.proofs.Steps.{request-kept, arrival-kept}
 use Rattle.assurance.proofs.Accept.{Room, Worked, granted-worked, begun-worked}
 use Rattle.assurance.proofs.Exchanged.{Settled, answers-back, answer-kept}
 use Rattle.assurance.proofs.Opened.{opening-accepted, opened-line, opened-settled}
 use Rattle.assurance.proofs.Told.{at-post, asked-told, next-told}
-use Rattle.assurance.proofs.Waiting.{could-granted, granted-could}
+use Rattle.conduct.proofs.Waiting.{could-granted, granted-could}
 use Rattle.assurance.proofs.WholeList.{opened-run}
 
 -- ---- the answers to one frame
 

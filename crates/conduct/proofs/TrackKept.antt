@@ -19,8 +19,8 @@ use Rattle.rules.proofs.Changes.{asker-stands}
 use Rattle.rules.proofs.Grants.{Turn, grants-keep, granted-place}
 use Rattle.rules.proofs.Settling.{settled-settles, granted-valid}
 use Rattle.rules.proofs.Acceptance.{Taken, request, arrival, by-verdict}
 use Rattle.assurance.specs.Types.{Line, Move, Message, Fa, Am, State}
-use Rattle.assurance.specs.OneFrame.{TrackKept}
+use Rattle.conduct.specs.OneFrame.{TrackKept}
 
 -- where a train of s and of v holds the same post, it is on the same track
 abbrev KeptFrom : State → State → Type 0

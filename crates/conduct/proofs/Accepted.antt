@@ -24,13 +24,13 @@ use Rattle.rules.proofs.Validity.{Consistent}
 use Rattle.rules.proofs.Changes.{grantable-facts, short-place}
 use Rattle.rules.proofs.Grants.{Turn, grants-keep, granted-place}
 use Rattle.rules.proofs.Acceptance.{Taken, request, arrival, by-verdict}
 use Rattle.assurance.specs.Types.{Move, Message, Fa, Am, Record, State}
 use Rattle.assurance.specs.Run.{Input, run}
 use Rattle.assurance.specs.Observer.{Observer}
-use Rattle.assurance.specs.Arrival.{isSent, acceptedFrames, framesTold, mostFrames}
+use Rattle.conduct.specs.Arrival.{isSent, acceptedFrames, framesTold, mostFrames}
 use Rattle.assurance.proofs.Invariant.{Invariant}
 use Rattle.assurance.proofs.Records.{changed-sum}
 use Rattle.assurance.proofs.Told.{at-post, asked-told, authority-told}
 
 abbrev framesOf : Train → ℕ
 framesOf x =

@@ -37,8 +37,8 @@ use Rattle.rules.proofs.Changes.{grantable-facts, is-grantable}
 use Rattle.rules.proofs.Oldest.{oldest-some}
 use Rattle.rules.proofs.Grants.{Turn, granted-place}
 use Rattle.rules.proofs.Settling.{granted-valid}
 use Rattle.assurance.specs.Types.{Message, Fa, Fe, Afe, Am, Refused, State}
-use Rattle.assurance.specs.Unread.{Alike}
+use Rattle.conduct.specs.Unread.{Alike}
 
 -- ---- checks that are the same where those before them pass
 

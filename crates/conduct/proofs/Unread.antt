@@ -21,9 +21,9 @@ use Rattle.rules.proofs.Changes.{short-place, valid-request, valid-arrival}
 use Rattle.rules.proofs.Grants.{grants-keep, granted-place}
 use Rattle.rules.proofs.Settling.{settled-settles}
 use Rattle.rules.proofs.Acceptance.{NextMove, Taken, request, arrival, frame-passed, by-verdict}
 use Rattle.assurance.specs.Types.{Line, Move, Message, Fa, Afe, Am, Record, State}
-use Rattle.assurance.specs.Unread.{Alike, SameAnswer, Unread, Kept, LeftAlone}
-use Rattle.assurance.proofs.Alike.{SameWork, refusal-same, changed-alike, logged-alike, grants-same}
+use Rattle.conduct.specs.Unread.{Alike, SameAnswer, Unread, Kept, LeftAlone}
+use Rattle.conduct.proofs.Alike.{SameWork, refusal-same, changed-alike, logged-alike, grants-same}
 
 -- ---- the places are not read
 
