@@ -1,5 +1,3 @@
--- The laws that the proofs of the functions cite: bytes copied, a buffer filled, numbers of enums, a journal written.
-pub mod Copying
-pub mod Filled
+-- The laws that the proofs of the functions cite: numbers of enums, a journal written.
 pub mod Numbers
 pub mod Writing

@@ -2,9 +2,9 @@
 ghost use mathlib.Core.Path.{_≡_};
 ghost use Rattle.journal.specs.Journal.{appended};
 ghost use Rattle.encoding.specs.JournalBytes.{recordBytes, recordsIn, withRecords};
-use crate::placing::put;
 use journal::Batch;
 use journal::Record;
+use placing::put;
 
 pub const RECORD_LENGTH: usize = 5;
 

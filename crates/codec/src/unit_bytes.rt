@@ -2,13 +2,13 @@
 ghost use mathlib.Core.Path.{_≡_};
 ghost use lib.ListN.{length};
 ghost use Rattle.encoding.specs.UnitBytes.{unitLength, phaseOf, buttonOf, encodesUnit, unitIn, unitBytes};
-use crate::placing::put;
 use driver::Button;
 use driver::Phase;
 use driver::Unit;
 use line::PostNo;
 use line::Route;
 use line::TrainNo;
+use placing::put;
 
 pub const UNIT_LENGTH: usize = 5;
 

@@ -3,17 +3,17 @@ ghost use mathlib.Core.Path.{_≡_};
 ghost use Rattle.calls.specs.BoxCalls.{bookCall, readBookCall, openCallOf, openCall};
 ghost use Rattle.calls.specs.BoxCalls.{answerCallOf, answerCall};
 use crate::word::word_of;
-use codec::LINE_LENGTH;
 use codec::RECORD_LENGTH;
-use codec::STATE_LENGTH;
 use codec::append;
-use codec::encodes_state;
-use codec::put_changes;
-use codec::put_line;
-use codec::put_state;
-use codec::state_in;
+use decoding::encodes_state;
+use decoding::state_in;
+use encoding::LINE_LENGTH;
+use encoding::STATE_LENGTH;
 use line::refusal::STRANGE_STATE;
+use placing::put_line;
 use rules::Verdict;
+use storing::put_changes;
+use storing::put_state;
 
 // Reads a book and writes the line that it describes.
 #[no_mangle]

@@ -1,5 +1,5 @@
 -- `put_unit` meets its contract: the five bytes are the whole buffer.
-use Rattle.codec.proofs.Copying.{is-put}
+use Rattle.placing.proofs.Copying.{is-put}
 use Rattle.encoding.specs.UnitBytes.{unitBytes}
 use borrow.Author.Needs.{needs}
 use Rattle.codec.proofs.unit_bytes.put_unit.Statement.{statement}

@@ -1,0 +1,28 @@
+-- Laws of statuses as numbers, and of a list that a loop has filled.
+use mathlib.Core.Path.{_≡_, sym}
+use mathlib.Core.Logic.{_≢_}
+use mathlib.Core.Bool.{and-true}
+use Prim.Native.Nat.{ℕ, _≤_}
+use native.Mathlib.Omega.{arith}
+use lib.Dec.{eqb, leb}
+use borrow.Author.Tests.{ne-eqb, lt-ltb}
+use Rattle.common.specs.Tabulate.{tabulate, padded}
+use Rattle.common.proofs.Tabulate.{tabulate-cong}
+use Rattle.encoding.specs.Types.{Running}
+use Rattle.encoding.specs.StateBytes.{encodesStatus, statusOf}
+
+-- a list with all its places filled
+pub padded-all : {A : Type 0} (n : ℕ) (f : ℕ → A) (d : A) → padded n n f d ≡ tabulate n f
+unfolding padded
+padded-all n f d = tabulate-cong n _ f (λ i h. rw (lt-ltb i n h))
+
+module _ (k n : ℕ) where
+  pub running : 2 ≤ k → Running (record { 0 = n }) ≡ statusOf k n
+  unfolding statusOf
+  running h = rw (ne-eqb k 0 (λ e. omega arith), ne-eqb k 1 (λ e. omega arith))
+
+  pub free-status : k ≡ 0 → eqb n 0 ≡ encodesStatus k n
+  free-status e = rw e
+
+  pub other-status : k ≢ 0 → leb k 2 ≡ encodesStatus k n
+  other-status h = rw (ne-eqb k 0 h) (sym (and-true (leb k 2)))
