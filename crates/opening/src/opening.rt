@@ -4,7 +4,6 @@ ghost use mathlib.Core.Bool.{true};
 ghost use Rattle.line.specs.Line.{wellFormed};
 ghost use Rattle.rules.specs.State.{noTrain};
 ghost use Rattle.rules.specs.Opening.{fresh, openedState, emptyState, openingOf, openingWith, opening};
-use crate::starting::start_tracks;
 use journal::JOURNAL_LENGTH;
 use journal::Log;
 use journal::Record;
@@ -21,6 +20,7 @@ use rules::Opened;
 use rules::State;
 use rules::Status;
 use rules::Train;
+use starting::start_tracks;
 use table::TABLE_LENGTH;
 
 // Opens a book. Of the journal only its length is looked at.

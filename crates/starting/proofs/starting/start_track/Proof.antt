@@ -6,8 +6,8 @@ use Rattle.common.specs.Bits.{bitAt}
 use Rattle.line.specs.Holding.{isStabled}
 use Rattle.tracks.specs.Tracks.{trackFor}
 use Rattle.tracks.specs.Answers.{trackNumber}
-use Rattle.opening.proofs.starting.start_track.Statement.{statement}
-use Rattle.opening.proofs.starting.start_track.Tie as tie
+use Rattle.starting.proofs.starting.start_track.Statement.{statement}
+use Rattle.starting.proofs.starting.start_track.Tie as tie
 
 returns : tie.Need-returns
 returns c = rw (sym (c .before .stabled .ensures) ∙ c .if1 .taken)

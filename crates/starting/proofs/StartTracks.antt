@@ -30,7 +30,7 @@ use Rattle.completion.specs.Configuration.{start, whereabouts}
 use Rattle.completion.proofs.Turns.{or-bit, no-bit}
 use Rattle.rules.specs.Opening.{startHeld, startTracks, openedTrack}
 use Rattle.rules.proofs.Starting.{start-length, start-track, stabled-start}
-use Rattle.opening.specs.Types.{Line}
+use Rattle.line.specs.declared.line.Line.{Line}
 
 -- ---- one track more in a set
 

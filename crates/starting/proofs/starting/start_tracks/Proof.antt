@@ -10,11 +10,11 @@ use Rattle.common.proofs.Tabulate.{padded-none, padded-more}
 use Rattle.line.specs.Line.{routeOf, wellFormed}
 use Rattle.line.proofs.WellFormed.{well-formed}
 use Rattle.rules.specs.Opening.{openedTrack}
-use Rattle.opening.specs.Types.{Line}
-use Rattle.opening.proofs.StartTracks.{six-tracks, HeldTracks, held-none, post-few, tracks-few}
-use Rattle.opening.proofs.StartTracks.{start-found, held-more}
-use Rattle.opening.proofs.starting.start_tracks.Statement.{statement}
-use Rattle.opening.proofs.starting.start_tracks.Tie as tie
+use Rattle.line.specs.declared.line.Line.{Line}
+use Rattle.starting.proofs.StartTracks.{six-tracks, HeldTracks, held-none, post-few, tracks-few}
+use Rattle.starting.proofs.StartTracks.{start-found, held-more}
+use Rattle.starting.proofs.starting.start_tracks.Statement.{statement}
+use Rattle.starting.proofs.starting.start_tracks.Tie as tie
 
 abbrev Inv-loop : tie.InvT-loop
 Inv-loop line starts₀ held₀ t₀ starts held t =
