@@ -1,4 +1,2 @@
 -- The further examples, evaluated.
 pub mod Further
-pub mod Sidings
-pub mod Tracks

@@ -1,5 +1,3 @@
 -- Further examples, beside the paper's own in `examples`: altered tables, stores that are not blank, full posts, which
--- number comes first; and sidings. Read in this order.
+-- number comes first.
 pub mod Further
-pub mod Sidings
-pub mod Tracks

@@ -34,8 +34,8 @@ use Rattle.console.proofs.Transcript.{transcribes}
 use Rattle.examples.proofs.Examples.{examples, printed-run}
 use Rattle.examples.proofs.Books.{books}
 use Rattle.cases.proofs.Further.{older-then, stores, full-post, parked, six-trains, both-home, precedence}
-use Rattle.cases.proofs.Sidings.{siding-byte, still-needs-a-track, put-away, siding-state}
-use Rattle.cases.proofs.Tracks.{opened-tracks, tracks-in-turn, tracks-seen, track-states}
+use Rattle.stabling.proofs.Sidings.{siding-byte, still-needs-a-track, put-away, siding-state}
+use Rattle.platforms.proofs.Tracks.{opened-tracks, tracks-in-turn, tracks-seen, track-states}
 use Rattle.promises.specs.Claims.{Parts, Cab, OneFrame, WholeLists, InUse, Evaluated}
 
 pub parts : Parts

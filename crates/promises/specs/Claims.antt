@@ -28,8 +28,8 @@ use Rattle.console.specs.Transcript.{Transcribes}
 use Rattle.examples.specs.Examples.{Examples, PrintedRun}
 use Rattle.examples.specs.Books.{Books}
 use Rattle.cases.specs.Further.{OlderThen, Stores, FullPost, Parked, SixTrains, BothHome, Precedence}
-use Rattle.cases.specs.Sidings.{SidingByte, StillNeedsATrack, PutAway, SidingState}
-use Rattle.cases.specs.Tracks.{OpenedTracks, TracksInTurn, TracksSeen, TrackStates}
+use Rattle.stabling.specs.Sidings.{SidingByte, StillNeedsATrack, PutAway, SidingState}
+use Rattle.platforms.specs.Tracks.{OpenedTracks, TracksInTurn, TracksSeen, TrackStates}
 
 -- any book, frame, record, table
 pub record Parts : Type 0 where

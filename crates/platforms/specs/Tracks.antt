@@ -22,7 +22,7 @@ use Rattle.assurance.specs.Tracks.{TracksTold, tracksAtOpening, trackRecords, o
 use Rattle.examples.specs.Reading.{fa, am, openedBlank, ranFrom, ran, verdictsOf, tracksGiven}
 use Rattle.examples.specs.Examples.{bookX, sentInTheRun}
 use Rattle.examples.specs.Books.{bookOf}
-use Rattle.cases.specs.Sidings.{bookTerminus, bothRun}
+use Rattle.stabling.specs.Sidings.{bookTerminus, bothRun}
 
 -- the tracks of the first trains at their posts, and those at the posts they run to
 abbrev pub tracksHere : State → List ℕ → List ℕ

@@ -9,7 +9,7 @@ use Rattle.line.specs.Holding.{standing}
 use Rattle.frame.specs.Frame.{bytesOf}
 use Rattle.completion.specs.Configuration.{within, fits, arrived, feasible}
 use Rattle.examples.specs.Reading.{readAlone, numbersOf, openedBlank, ranWith, repliesIn}
-use Rattle.cases.specs.Sidings.{SidingByte, StillNeedsATrack, PutAway, SidingState}
+use Rattle.stabling.specs.Sidings.{SidingByte, StillNeedsATrack, PutAway, SidingState}
 
 pub siding-byte : SidingByte
 unfolding readAlone numbersOf

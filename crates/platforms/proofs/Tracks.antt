@@ -2,7 +2,7 @@
 use mathlib.Core.Path.{refl}
 use Rattle.frame.specs.Frame.{bytesOf}
 use Rattle.examples.specs.Reading.{openedBlank, ranWith, tracksAmong}
-use Rattle.cases.specs.Tracks.{toldIn, OpenedTracks, TracksInTurn, TracksSeen, TrackStates}
+use Rattle.platforms.specs.Tracks.{toldIn, OpenedTracks, TracksInTurn, TracksSeen, TrackStates}
 
 pub opened-tracks : OpenedTracks
 unfolding openedBlank

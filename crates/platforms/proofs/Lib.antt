@@ -1,0 +1,2 @@
+-- The examples with tracks, evaluated.
+pub mod Tracks

@@ -1,0 +1,2 @@
+-- Examples of the tracks that trains have.
+pub mod Tracks

@@ -1,0 +1,2 @@
+-- The examples with sidings, evaluated.
+pub mod Sidings
