@@ -1,11 +1,11 @@
 -- Laws of statuses as numbers, and of a list that a loop has filled.
-use mathlib.Core.Path.{_≡_, sym}
+use mathlib.Core.Path.{_≡_}
 use mathlib.Core.Logic.{_≢_}
-use mathlib.Core.Bool.{and-true}
-use Prim.Native.Nat.{ℕ, _≤_}
+use mathlib.Core.Bool.{true, false}
+use Prim.Native.Nat.{ℕ, _≤_, _<_}
 use native.Mathlib.Omega.{arith}
-use lib.Dec.{eqb, leb}
-use borrow.Author.Tests.{ne-eqb, lt-ltb}
+use lib.Dec.{eqb}
+use borrow.Author.Tests.{ne-eqb, lt-ltb, le-leb, lt-leb}
 use Rattle.common.specs.Tabulate.{tabulate, padded}
 use Rattle.common.proofs.Tabulate.{tabulate-cong}
 use Rattle.encoding.specs.Types.{Running}
@@ -24,5 +24,8 @@ module _ (k n : ℕ) where
   pub free-status : k ≡ 0 → eqb n 0 ≡ encodesStatus k n
   free-status e = rw e
 
-  pub other-status : k ≢ 0 → leb k 2 ≡ encodesStatus k n
-  other-status h = rw (ne-eqb k 0 h) (sym (and-true (leb k 2)))
+  pub past-status : 2 < k → false ≡ encodesStatus k n
+  past-status h = rw (lt-leb k 2 h)
+
+  pub other-status : k ≤ 2 → k ≢ 0 → true ≡ encodesStatus k n
+  other-status l h = rw (le-leb k 2 l, ne-eqb k 0 h)

@@ -41,10 +41,13 @@ pub fn encodes_state(bytes: &[u8]) -> bool
 fn encodes_status(status: u8, detail: u8) -> bool
     ensures { λ r. ⌜ r ≡ encodesStatus status detail ⌝ }
 {
+    if 2 < status {
+        return false;
+    }
     if status == 0 {
         return detail == 0;
     }
-    status <= 2
+    true
 }
 
 // The state that they encode.
