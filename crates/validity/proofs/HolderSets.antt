@@ -2,13 +2,13 @@
 use mathlib.Core.Path.{_≡_, refl, sym, ap, _∙_}
 use mathlib.Core.Bool.{Bool, true, false, _||_}
 use mathlib.Core.List.{List}
-use Prim.Native.Nat.{ℕ, _+_, _*_, _%_, _^_, _<_}
+use Prim.Native.Nat.{ℕ, _+_, _*_, _^_, _<_}
 use native.Mathlib.Omega.{arith}
 use lib.Bits.{bitOr, or-shifted-r, or-block, or-self, or-zero-r}
 use lib.Count.{ones}
-use lib.Dec.{eqb, lit<}
+use lib.Dec.{eqb}
 use lib.ListN.{length, getD, set, replicate, getD-replicate, length-set}
-use lib.Pow.{pow-pos, shl-exact}
+use lib.Pow.{pow-lt, pow-add, pow-pos}
 use lib.Seq.{getD-set-same, getD-set-other}
 use borrow.Author.Tests.{eq-eqb, ne-eqb}
 use Rattle.common.specs.Bits.{setBelow}
@@ -48,19 +48,26 @@ module _ (n : ℕ) (f : ℕ → Bool) (x : ℕ) (e : x ≡ setBelow n f) where
   joined-more true p = set-more n f x e true _ p (ap (bitOr x) (omega arith) ∙ or-shifted-r 1 n x (set-low n f x e))
   joined-more false p = set-more n f x e false _ p (omega arith)
 
--- ---- eight sets, with train t in that of number i
+-- ---- the bit of train t
+
+pub bit-low : (t bit : ℕ) → bit ≡ 2 ^ t → t < 6 → bit < 64
+bit-low t bit e h = rw e (pow-lt h)
+
+pub bit-more : (t bit : ℕ) → bit ≡ 2 ^ t → 2 * bit ≡ 2 ^ (t + 1)
+bit-more t bit e = rw e (omega (arith, pow-add 2 t 1))
+
+-- ---- eight sets, with the train of this bit in that of number i
 
 abbrev pub stored : List ℕ → ℕ → ℕ → List ℕ
-stored sets i t = set sets i (bitOr (getD sets i 0) (1 * 2 ^ t % 2 ^ 8))
+stored sets i bit = set sets i (bitOr (getD sets i 0) bit)
 
-stored-size : (sets : List ℕ) (i t : ℕ) → length (stored sets i t) ≡ length sets
-stored-size sets i t = length-set sets i _
+stored-size : (sets : List ℕ) (i bit : ℕ) → length (stored sets i bit) ≡ length sets
+stored-size sets i bit = length-set sets i _
 
-stored-at : (sets : List ℕ) (i t : ℕ) → i < length sets → t < 6 → (k : ℕ)
-    → getD (stored sets i t) k 0 ≡ joined (eqb i k) t (getD sets k 0)
-stored-at sets i t h small k =
-    let bit : 1 * 2 ^ t % 2 ^ 8 ≡ 2 ^ t = shl-exact {a = 1} 1 t 8 (lit< tt) (omega arith) ∙ omega arith in
-    rw bit (by-equality i k
+stored-at : (sets : List ℕ) (i t bit : ℕ) → bit ≡ 2 ^ t → i < length sets → (k : ℕ)
+    → getD (stored sets i bit) k 0 ≡ joined (eqb i k) t (getD sets k 0)
+stored-at sets i t bit is h k =
+    rw is (by-equality i k
     (λ e. rw (eq-eqb i k e, ← e) (getD-set-same sets i _ 0 h))
     (λ e. rw (ne-eqb i k e) (getD-set-other sets i k _ 0 (λ z. e (sym z)))))
 
@@ -87,8 +94,8 @@ sets-none s = record {
   of-tracks = tracks-none s;
 }
 
-module _ (s : State) (n : ℕ) (small : n < 6) (posts sections tracks : List ℕ) (h : Sets s n posts sections tracks)
-    (placed : PlacedAt (trainOf s n)) where
+module _ (s : State) (n bit : ℕ) (is : bit ≡ 2 ^ n) (posts sections tracks : List ℕ)
+    (h : Sets s n posts sections tracks) (placed : PlacedAt (trainOf s n)) where
   abbrev here : ℕ
   here = trainOf s n .at .0
 
@@ -106,12 +113,12 @@ module _ (s : State) (n : ℕ) (small : n < 6) (posts sections tracks : List ℕ
 
     -- "Another train holds a track at its present post."
     pub sets-standing : isStabled (s .sidings) end here ≡ false → (w : ℕ) → w ≡ withTrack (getD tracks here 0) own
-        → Sets s (n + 1) (stored posts here n) sections (set tracks here w)
+        → Sets s (n + 1) (stored posts here bit) sections (set tracks here w)
     sets-standing away w more = record {
-      eight-posts = stored-size posts here n ∙ h .eight-posts;
+      eight-posts = stored-size posts here bit ∙ h .eight-posts;
       eight-sections = h .eight-sections;
       of-posts = λ p k.
-          stored-at posts here n (omega (arith, h .eight-posts, placed .here)) small p
+          stored-at posts here n bit is (omega (arith, h .eight-posts, placed .here)) p
           ∙ joined-more n (λ t. holdsPost (located s t) p) _ (h .of-posts p k) (eqb here p)
           (rw e (sym (standing-holds (s .sidings) end here p ∙ rw away)));
       of-sections = no-section;
@@ -134,19 +141,19 @@ module _ (s : State) (n : ℕ) (small : n < 6) (posts sections tracks : List ℕ
   pub sets-running : isRunning (trainOf s n .status) ≡ true → (q i k : ℕ) → q ≡ nextOf (trainOf s n)
       → i ≡ sectionOf here q → k ≡ trackAhead (trainOf s n .status)
       → (v w : ℕ) → v ≡ withTrack (getD tracks here 0) own → w ≡ withTrack (getD (set tracks here v) q 0) k
-      → Sets s (n + 1) (stored (stored posts here n) q n) (stored sections i n) (set (set tracks here v) q w)
+      → Sets s (n + 1) (stored (stored posts here bit) q bit) (stored sections i bit) (set (set tracks here v) q w)
   sets-running e q i k next between ahead v w first second = record {
-    eight-posts = stored-size (stored posts here n) q n ∙ stored-size posts here n ∙ h .eight-posts;
-    eight-sections = stored-size sections i n ∙ h .eight-sections;
+    eight-posts = stored-size (stored posts here bit) q bit ∙ stored-size posts here bit ∙ h .eight-posts;
+    eight-sections = stored-size sections i bit ∙ h .eight-sections;
     of-posts = λ p l.
-        stored-at (stored posts here n) q n
-        (omega (arith, stored-size posts here n, h .eight-posts, next, placed .next)) small p
-        ∙ ap (joined (eqb q p) n) (stored-at posts here n (omega (arith, h .eight-posts, placed .here)) small p)
+        stored-at (stored posts here bit) q n bit is
+        (omega (arith, stored-size posts here bit, h .eight-posts, next, placed .next)) p
+        ∙ ap (joined (eqb q p) n) (stored-at posts here n bit is (omega (arith, h .eight-posts, placed .here)) p)
         ∙ joined-twice n _ (set-low n _ _ (h .of-posts p l)) (eqb here p) (eqb q p)
         ∙ joined-more n (λ t. holdsPost (located s t) p) _ (h .of-posts p l) (eqb here p || eqb q p)
         (rw (e, next));
     of-sections = λ j l.
-        stored-at sections i n (omega (arith, h .eight-sections, between, placed .here)) small j
+        stored-at sections i n bit is (omega (arith, h .eight-sections, between, placed .here)) j
         ∙ joined-more n (λ t. holdsSection (located s t) j) _ (h .of-sections j l) (eqb i j)
         (rw (e, between, next));
     of-tracks =

@@ -34,10 +34,12 @@ pub fn holders_of(state: State) -> Holders
     let mut posts = [0u8; 8];
     let mut sections = [0u8; 8];
     let mut tracks = [0u8; 8];
+    let mut bit: u8 = 1;
     let mut t: usize = 0;
     while t < state.trains as usize {
         let train = fleet[t];
-        let own: u8 = 1 << t;
+        let own = bit;
+        bit = 2 * bit;
         t += 1;
         let status = train.status;
         let p = train.at.0 as usize;

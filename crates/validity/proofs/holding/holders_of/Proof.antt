@@ -1,29 +1,36 @@
--- `holders_of` meets its contract. The loop's invariant: the sets have the holders among the trains passed.
-use mathlib.Core.Path.{_≡_, sym, _∙_}
+-- `holders_of` meets its contract. The loop's invariant: the sets have the holders among the trains passed, and
+-- the bit is that of the next train.
+use mathlib.Core.Path.{_≡_, refl, sym, _∙_}
 use mathlib.Core.Bool.{false}
-use Prim.Native.Nat.{_≤_, _<_, _-_}
+use Prim.Native.Nat.{_≤_, _<_, _-_, _^_}
 use native.Mathlib.Omega.{arith}
 use borrow.Author.Needs.{needs}
 use borrow.Author.Tests.{not-true, not-false}
 use Rattle.rules.specs.State.{isRunning, trainOf}
 use Rattle.validity.specs.Types.{State, Train}
 use Rattle.validity.specs.Holders.{PlacedAt}
-use Rattle.validity.proofs.HolderSets.{Sets, sets-held, sets-none, sets-standing, sets-stabled, sets-running}
+use Rattle.validity.proofs.HolderSets.{bit-low, bit-more, Sets, sets-held, sets-none, sets-standing}
+use Rattle.validity.proofs.HolderSets.{sets-stabled, sets-running}
 use Rattle.validity.proofs.holding.holders_of.Statement.{statement}
 use Rattle.validity.proofs.holding.holders_of.Tie as tie
 
 abbrev Inv-loop : tie.InvT-loop
-Inv-loop state fleet sidings posts₀ sections₀ tracks₀ t₀ posts sections tracks t =
-    (t ≤ state .trains) × Sets state t posts sections tracks
+Inv-loop state fleet sidings posts₀ sections₀ tracks₀ bit₀ t₀ posts sections tracks bit t =
+    (t ≤ state .trains) × (bit ≡ 2 ^ t) × Sets state t posts sections tracks
 
 abbrev μ-loop : tie.MeasureT-loop
-μ-loop state fleet sidings posts₀ sections₀ tracks₀ t₀ posts sections tracks t = state .trains - t
+μ-loop state fleet sidings posts₀ sections₀ tracks₀ bit₀ t₀ posts sections tracks bit t = state .trains - t
 
 loop-holds : tie.Need-loop-holds Inv-loop μ-loop
-loop-holds c = (omega arith, sets-none _)
+loop-holds c = (omega arith, refl, sets-none _)
 
 array-copy-out-train : tie.Need-array-copy-out-train Inv-loop μ-loop
 array-copy-out-train c = omega arith
+
+mul-bit : tie.Need-mul-bit Inv-loop μ-loop
+mul-bit c =
+    let l = c .before .before .before in
+    omega (arith, bit-low _ _ (l .loop .inv .1) (omega (arith, l .before .before .pre .0)))
 
 add-t : tie.Need-add-t Inv-loop μ-loop
 add-t c = omega arith
@@ -39,8 +46,8 @@ module _ (c : tie.After-struct-known2 Inv-loop μ-loop) where
   abbrev train : Train
   train = trainOf given (turn .loop .t)
 
-  small : turn .loop .t < 6
-  small = omega (arith, turn .before .before .pre .0)
+  own-bit : turn .loop .bit ≡ 2 ^ turn .loop .t
+  own-bit = turn .loop .inv .1
 
   placed : PlacedAt train
   placed = turn .before .before .pre .1 (turn .loop .t) (omega arith)
@@ -99,8 +106,9 @@ loop-again c =
     let r = here .before in
     let o = own r in (
       omega arith,
-      sets-running (given o) (turn o .loop .t) (small o) (turn o .loop .posts) (turn o .loop .sections)
-          (turn o .loop .tracks) (turn o .loop .inv .1) (placed o)
+      bit-more _ _ (own-bit o),
+      sets-running (given o) (turn o .loop .t) _ (own-bit o) (turn o .loop .posts) (turn o .loop .sections)
+          (turn o .loop .tracks) (turn o .loop .inv .2) (placed o)
           (sym (runs r .before .is-running .ensures) ∙ runs r .if2 .taken) _ _ _
           (r .before .before .before .next-post .ensures) (r .before .section .ensures)
           (ahead .track-ahead .ensures) _ _ (here .with-track .ensures) (c .with-track2 .ensures),
@@ -134,8 +142,9 @@ loop-again-2 c =
     let there = c .before in
     let o = stands (there .before) in (
       omega arith,
-      sets-standing (given o) (turn o .loop .t) (small o) (turn o .loop .posts) (turn o .loop .sections)
-          (turn o .loop .tracks) (turn o .loop .inv .1) (placed o) (idle (there .before))
+      bit-more _ _ (own-bit o),
+      sets-standing (given o) (turn o .loop .t) _ (own-bit o) (turn o .loop .posts) (turn o .loop .sections)
+          (turn o .loop .tracks) (turn o .loop .inv .2) (placed o) (idle (there .before))
           (sym (there .before .stabled .ensures) ∙ not-true _ (there .if3 .taken)) _ (c .with-track3 .ensures),
     )
 
@@ -146,8 +155,9 @@ loop-again-3 : tie.Need-loop-again-3 Inv-loop μ-loop
 loop-again-3 c =
     let o = stands (c .before) in (
       omega arith,
-      sets-stabled (given o) (turn o .loop .t) (small o) (turn o .loop .posts) (turn o .loop .sections)
-          (turn o .loop .tracks) (turn o .loop .inv .1) (placed o) (idle (c .before))
+      bit-more _ _ (own-bit o),
+      sets-stabled (given o) (turn o .loop .t) _ (own-bit o) (turn o .loop .posts) (turn o .loop .sections)
+          (turn o .loop .tracks) (turn o .loop .inv .2) (placed o) (idle (c .before))
           (sym (c .before .stabled .ensures) ∙ not-false _ (c .if3 .left)),
     )
 
@@ -155,7 +165,7 @@ returns : tie.Need-returns Inv-loop μ-loop
 returns c =
     let a = c .before .before in
     let all : a .loop .t ≡ a .before .before .args .state .trains = omega arith in
-    rw all at (sets-held _ _ _ _ _ (a .loop .inv .1))
+    rw all at (sets-held _ _ _ _ _ (a .loop .inv .2))
 
 pub holders-of-spec : {M : Type 1} → statement M
 holders-of-spec =
@@ -167,8 +177,7 @@ holders-of-spec =
     (λ c. search needs)
     (λ c. search needs)
     array-copy-out-train
-    (λ c. search needs)
-    (λ c. search needs)
+    mul-bit
     add-t
     (λ c. search needs)
     (λ c κs. search needs)
