@@ -1,6 +1,6 @@
 -- A lent buffer that is filled from its beginning on, part by part.
-use mathlib.Core.Path.{_≡_, refl, sym, _∙_}
-use mathlib.Core.List.{List, _++_}
+use mathlib.Core.Path.{_≡_, refl, sym, subst, _∙_}
+use mathlib.Core.List.{List, [], _∷_, _++_}
 use Prim.Native.Nat.{ℕ, _+_, _-_, _≤_, _<_}
 use native.Mathlib.Nat.{not-suc-le-zero}
 use native.Mathlib.Omega.{arith}
@@ -97,6 +97,19 @@ module _ {s b to : List ℕ} {n : ℕ} (f : Filled s b to n) where
   -- all of it
   pub filled : length b ≤ n → to ≡ b
   filled h = ext-getD 0 to b (f .size) (λ k l. f .first k (omega (arith, f .size)))
+
+as-many : {s b to : List ℕ} {n m : ℕ} → Filled s b to n → m ≡ n → Filled s b to m
+as-many {s} {b} {to} f e = subst (Filled s b to) (sym e) f
+
+-- the next four bytes are put one by one
+pub four-more : {s b to : List ℕ} {n : ℕ} → Filled s b to n → (v₀ v₁ v₂ v₃ : ℕ) → At b n (v₀ ∷ v₁ ∷ v₂ ∷ v₃ ∷ [])
+    → n + 4 ≤ length b → (m : ℕ) → m ≡ n + 4
+    → Filled s b (set (set (set (set to n v₀) (n + 1) v₁) (n + 2) v₂) (n + 3) v₃) m
+four-more {b} {n} f v₀ v₁ v₂ v₃ y fits m q =
+    let one = byte-more f v₀ (y .byte 0 (omega arith) ∙ same-place b (omega arith)) (omega arith) in
+    let two = as-many {m = n + 2} (byte-more one v₁ (y .byte 1 (omega arith)) (omega arith)) (omega arith) in
+    let three = as-many {m = n + 3} (byte-more two v₂ (y .byte 2 (omega arith)) (omega arith)) (omega arith) in
+    as-many (byte-more three v₃ (y .byte 3 (omega arith)) (omega arith)) (omega arith)
 
 -- a buffer that begins with the first part of b
 pub begun : (e : List ℕ) {s b p : List ℕ} → length e ≡ length b → s ≡ replaced e 0 p → At b 0 p → length p ≤ length b

@@ -39,7 +39,11 @@ pub fn put_changes(state: State, to: &mut [u8])
     let mut t: usize = 0;
     while t < 6 {
         let bytes = standing_bytes(fleet[t]);
-        put(&bytes, to, HEAD_LENGTH + TRAIN_LENGTH * t + ROUTE_LENGTH);
+        let i = HEAD_LENGTH + TRAIN_LENGTH * t + ROUTE_LENGTH;
+        to[i] = bytes[0];
+        to[i + 1] = bytes[1];
+        to[i + 2] = bytes[2];
+        to[i + 3] = bytes[3];
         t += 1;
     }
     to[LOGGED_AT] = state.logged;

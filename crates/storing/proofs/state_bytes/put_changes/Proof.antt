@@ -1,17 +1,17 @@
 -- `put_changes` meets its contract. The loop's invariant: the line is there, the trains passed are in their places, and
 -- what comes after them is as it was.
 use mathlib.Core.Path.{_≡_, sym, _∙_}
-use Prim.Native.Nat.{_+_, _-_, _≤_}
+use Prim.Native.Nat.{_+_, _-_, _≤_, _<_}
 use native.Mathlib.Omega.{arith}
 use denote.Ref.{now}
-use lib.ListN.{length, length-map, set}
+use lib.ListN.{length, length-map, set, length-set}
 use borrow.Author.Needs.{needs}
 use Rattle.encoding.specs.Parts.{headLength}
 use Rattle.encoding.specs.LineBytes.{routeLength}
 use Rattle.encoding.specs.StateBytes.{trainAt, loggedAt, stateBytes}
 use Rattle.encoding.proofs.Fields.{head-length, state-length, state-head, at-ends, at-standing, at-logged}
 use Rattle.encoding.proofs.Reading.{head-kept, route-kept}
-use Rattle.placing.proofs.Filled.{Filled, none-filled, already, part-more, byte-more, filled}
+use Rattle.placing.proofs.Filled.{Filled, none-filled, already, byte-more, four-more, filled}
 use Rattle.storing.proofs.state_bytes.put_changes.Statement.{statement}
 use Rattle.storing.proofs.state_bytes.put_changes.Tie as tie
 
@@ -43,28 +43,28 @@ loop-holds c =
           (state-head v (eight s) (six s)) headLength (omega (arith, eleven)),
     )
 
-mul-put : tie.Need-mul-put Inv-loop μ-loop
-mul-put c = omega (arith, c .before .before .before .before .before .loop .inv .0)
+-- the bytes of this turn's train are made
+module _ (c : tie.After-standing-bytes Inv-loop μ-loop) where
+  abbrev turn : tie.At-loop Inv-loop μ-loop
+  turn = c .before .before .before
 
-add-put : tie.Need-add-put Inv-loop μ-loop
-add-put c = omega (arith, c .before .before .before .before .before .loop .inv .0)
+  abbrev start : tie.Start Inv-loop μ-loop
+  start = turn .before .before .before
 
-add-put-2 : tie.Need-add-put-2 Inv-loop μ-loop
-add-put-2 c = omega (arith, c .before .before .before .before .before .loop .inv .0)
+  room : trainAt (turn .loop .t + 1) < length (turn .loop .to)
+  room = omega (arith, turn .loop .inv .1 .size, size start)
 
 loop-again : tie.Need-loop-again Inv-loop μ-loop
 loop-again c =
-    let p = c .before .before in
-    let b = p .before .before .before in
-    let a = b .before .before .before in
-    let s = a .before .before .before in
+    let a = turn c in
+    let s = start c in
     let v = s .args .state in
     let t = a .loop .t in
     let route = already (a .loop .inv .1) (route-kept (now (s .args .to)) v (s .pre .1) t (omega arith))
     (at-ends v (eight s) (six s) t (omega arith)) (trainAt t + routeLength) (omega arith) in (
       omega arith,
-      part-more route (at-standing v (eight s) (six s) t (omega arith)) (b .standing-bytes .ensures)
-          (p .put .ensures) (omega (arith, size s)) (trainAt (t + 1)) (omega arith),
+      rw (c .standing-bytes .ensures) (four-more route _ _ _ _ (at-standing v (eight s) (six s) t (omega arith))
+          (omega (arith, size s)) (trainAt (t + 1)) (omega arith)),
     )
 
 -- the loop has put all trains, and the count comes last
@@ -79,8 +79,8 @@ module _ (c : tie.After-loop Inv-loop μ-loop) where
       filled (byte-more trains _ (sym (at-logged (from .args .state) (eight from) (six from)))
       (omega (arith, size from))) (omega (arith, size from))
 
-slice-write-to : tie.Need-slice-write-to Inv-loop μ-loop
-slice-write-to c = omega (arith, c .before .loop .inv .1 .size, size (from c))
+slice-write-to-5 : tie.Need-slice-write-to-5 Inv-loop μ-loop
+slice-write-to-5 c = omega (arith, c .before .loop .inv .1 .size, size (from c))
 
 same-length : tie.Need-same-length Inv-loop μ-loop
 same-length c = rw (written c) (size (from c) ∙ sym (from c .pre .0))
@@ -98,14 +98,23 @@ put-changes-spec =
     (λ c. omega arith)
     (λ c. omega arith)
     (λ c κs. search needs)
+    (λ c. omega (arith, room c))
+    (λ c. omega (arith, room c))
+    (λ c. omega (arith, room c))
     (λ c. search needs)
-    mul-put
-    add-put
-    add-put-2
-    (λ c κs. search needs)
+    (λ c. omega (arith, room c))
+    (λ c. search needs)
+    (λ c. omega (arith, room c))
+    (λ c. simp length-set (omega (arith, room c)))
+    (λ c. search needs)
+    (λ c. omega (arith, room c))
+    (λ c. simp length-set (omega (arith, room c)))
+    (λ c. search needs)
+    (λ c. omega (arith, room c))
+    (λ c. simp length-set (omega (arith, room c)))
     (λ c. omega arith)
     (λ c. omega arith)
     loop-again
-    slice-write-to
+    slice-write-to-5
     same-length
     returns)
