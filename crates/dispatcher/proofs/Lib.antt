@@ -1,5 +1,4 @@
 -- The definitions in the order in which the code goes through them.
-pub mod Declining
 pub mod Sent
 pub mod Batched
 pub mod Outcomes

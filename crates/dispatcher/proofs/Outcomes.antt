@@ -16,7 +16,8 @@ use Rattle.rules.specs.Granting.{Work}
 use Rattle.rules.specs.Answer.{frameChecks, accepted, framesOf, Answer, answerOf, answered, refused}
 use Rattle.rules.specs.Answer.{answer}
 use Rattle.authority.specs.Progress.{batchOf, progressOf}
-use Rattle.dispatcher.specs.Step.{Acceptable, framesIn, answersIn, outcomeOf, Stepped}
+use Rattle.accepting.specs.Acceptable.{Acceptable}
+use Rattle.dispatcher.specs.Step.{framesIn, answersIn, outcomeOf, Stepped}
 use Rattle.rules.proofs.Validity.{Consistent, is-consistent}
 use Rattle.rules.proofs.Changes.{valid-request, valid-arrival}
 use Rattle.rules.proofs.Acceptance.{Taken, request, arrival, taken-space, Passed, frame-passed, Accepted}

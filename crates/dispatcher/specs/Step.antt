@@ -1,33 +1,15 @@
--- Words of the functions below the entry points: what they hold by value where the definitions have lists, and what
--- they ask of a state. Of these only `Stepped`, the contract of the entry point `step`, is cited from above.
+-- Words of the functions below the entry points: what they hold by value where the definitions have lists. Of these
+-- only `Stepped`, the contract of the entry point `step`, is cited from above.
 use mathlib.Core.Path.{_≡_}
-use mathlib.Core.Bool.{true}
 use mathlib.Core.List.{List, [], _∷_, _++_}
-use Prim.Native.Nat.{ℕ, _+_, _-_, _≤_, _<_}
+use Prim.Native.Nat.{ℕ, _-_}
 use lib.ListN.{length, take, drop}
 use Rattle.common.specs.Check.{refusal, unlessRefused}
-use Rattle.frame.specs.Frame.{moveIn, readFrame}
-use Rattle.journal.specs.Journal.{journalLength, frameOf, emptyBatch, appended}
-use Rattle.dispatcher.specs.Types.{Message, Fa, Fe, Afe, Am, Refused, Record, Batch, Asked, Train, State, Verdict}
-use Rattle.dispatcher.specs.Types.{Sent, RefusedBy, Outcome}
+use Rattle.frame.specs.Frame.{readFrame}
+use Rattle.journal.specs.Journal.{frameOf, emptyBatch, appended}
+use Rattle.dispatcher.specs.Types.{Record, Batch, State, Verdict, Sent, RefusedBy, Outcome}
 use Rattle.authority.specs.Progress.{batchOf}
-use Rattle.rules.specs.State.{trainOf, withStatus, arrivedNext}
-use Rattle.rules.specs.Valid.{consistent}
-use Rattle.rules.specs.Answer.{mostLogged, frameChecks, taken, accepted, answerOf, answer}
-
--- ---- a frame
-
--- what the frame a and the new record x of its train must meet for the granting
-abbrev pub Ready : State → Message → Train → Type 0
-Ready s a x = (moveIn a .train .0 < s .trains) × (s .logged + mostLogged ≤ journalLength)
-    × (consistent (taken s a x .state) ≡ true)
-
-abbrev pub Acceptable : State → Message → Type 0
-Acceptable s (Fa m) = Ready s (Fa m) (withStatus (trainOf s (m .train .0)) (Asked (s .logged)))
-Acceptable s (Am m) = Ready s (Am m) (arrivedNext (s .sidings) (trainOf s (m .train .0)))
-Acceptable s (Fe m) = Unit {0}
-Acceptable s (Afe m) = Unit {0}
-Acceptable s (Refused n) = Unit {0}
+use Rattle.rules.specs.Answer.{frameChecks, accepted, answerOf, answer}
 
 -- ---- the answers' frames
 

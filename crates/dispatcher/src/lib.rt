@@ -1,5 +1,4 @@
 // The dispatcher's box: the answer to a frame.
-mod accepting;
 mod answering;
 mod sending;
 mod stepping;

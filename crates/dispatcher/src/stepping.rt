@@ -3,8 +3,8 @@
 ghost use mathlib.Core.Path.{_≡_};
 ghost use Rattle.journal.specs.Journal.{emptyBatch};
 ghost use Rattle.dispatcher.specs.Step.{outcomeOf, Stepped};
-use crate::accepting::accept;
 use crate::sending::send;
+use accepting::accept;
 use checks::refusal_of;
 use journal::Batch;
 use rules::Reply;

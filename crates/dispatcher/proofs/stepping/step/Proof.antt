@@ -11,7 +11,7 @@ use Rattle.journal.specs.Journal.{blank}
 use Rattle.dispatcher.specs.Types.{Message, State}
 use Rattle.rules.specs.Answer.{frameChecks, accepted}
 use Rattle.authority.specs.Progress.{progressOf}
-use Rattle.dispatcher.specs.Step.{Acceptable}
+use Rattle.accepting.specs.Acceptable.{Acceptable}
 use Rattle.rules.proofs.Acceptance.{Passed}
 use Rattle.dispatcher.proofs.Outcomes.{taken-acceptable, step-refused, step-passed, step-some, step-few}
 use Rattle.dispatcher.proofs.Outcomes.{step-accepted}

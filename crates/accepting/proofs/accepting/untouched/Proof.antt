@@ -1,8 +1,8 @@
 -- `untouched` meets its contract.
 use borrow.Author.Needs.{needs}
 use Rattle.authority.specs.Progress.{addRecords}
-use Rattle.dispatcher.proofs.accepting.untouched.Statement.{statement}
-use Rattle.dispatcher.proofs.accepting.untouched.Tie as tie
+use Rattle.accepting.proofs.accepting.untouched.Statement.{statement}
+use Rattle.accepting.proofs.accepting.untouched.Tie as tie
 
 returns : tie.Need-returns
 unfolding addRecords

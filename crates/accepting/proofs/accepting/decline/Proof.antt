@@ -1,12 +1,12 @@
 -- `decline` meets its contract: the asker is still Asked, or it was granted.
 use mathlib.Core.Path.{_≡_, sym, ap, _∙_}
 use borrow.Author.Needs.{needs}
-use Rattle.dispatcher.specs.Types.{Status}
+use Rattle.accepting.specs.Types.{Status}
 use Rattle.rules.specs.State.{isAsked, trainOf}
 use Rattle.authority.specs.Progress.{progressWith}
-use Rattle.dispatcher.proofs.Declining.{declined-asker, granted-asker}
-use Rattle.dispatcher.proofs.accepting.decline.Statement.{statement}
-use Rattle.dispatcher.proofs.accepting.decline.Tie as tie
+use Rattle.accepting.proofs.Declining.{declined-asker, granted-asker}
+use Rattle.accepting.proofs.accepting.decline.Statement.{statement}
+use Rattle.accepting.proofs.accepting.decline.Tie as tie
 
 -- the test of the asker's status
 module _ (c : tie.After-is-asked) where

@@ -5,14 +5,14 @@ use Prim.Native.Nat.{_+_, _≤_}
 use denote.Ref.{now}
 use borrow.Author.Needs.{needs}
 use Rattle.journal.specs.Journal.{journalLength, recordOf}
-use Rattle.dispatcher.specs.Types.{State}
+use Rattle.accepting.specs.Types.{State}
 use Rattle.rules.specs.State.{oneLogged}
 use Rattle.rules.specs.Valid.{consistent}
 use Rattle.rules.specs.Granting.{begun, settled}
 use Rattle.rules.specs.Answer.{mostLogged}
 use Rattle.authority.specs.Progress.{progressOf}
-use Rattle.dispatcher.proofs.accepting.take.Statement.{statement}
-use Rattle.dispatcher.proofs.accepting.take.Tie as tie
+use Rattle.accepting.proofs.accepting.take.Statement.{statement}
+use Rattle.accepting.proofs.accepting.take.Tie as tie
 
 settle-requires : tie.Need-settle-requires
 settle-requires c κs =

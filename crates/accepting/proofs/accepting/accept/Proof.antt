@@ -2,12 +2,12 @@
 use mathlib.Core.Path.{_≡_, sym, ap, subst, _∙_}
 use denote.Ref.{now}
 use borrow.Author.Needs.{needs}
-use Rattle.dispatcher.specs.Types.{Message}
+use Rattle.accepting.specs.Types.{Message}
 use Rattle.rules.specs.Answer.{accepted}
 use Rattle.authority.specs.Progress.{progressOf}
-use Rattle.dispatcher.specs.Step.{Acceptable}
-use Rattle.dispatcher.proofs.accepting.accept.Statement.{statement}
-use Rattle.dispatcher.proofs.accepting.accept.Tie as tie
+use Rattle.accepting.specs.Acceptable.{Acceptable}
+use Rattle.accepting.proofs.accepting.accept.Statement.{statement}
+use Rattle.accepting.proofs.accepting.accept.Tie as tie
 
 request-requires : tie.Need-request-requires
 request-requires c κs = let start = c .before .before .before .before in subst

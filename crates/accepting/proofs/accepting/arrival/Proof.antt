@@ -2,12 +2,12 @@
 use mathlib.Core.Path.{_≡_, ap, _∙_}
 use denote.Ref.{now}
 use borrow.Author.Needs.{needs}
-use Rattle.dispatcher.specs.Types.{Am, Train}
+use Rattle.accepting.specs.Types.{Am, Train}
 use Rattle.rules.specs.State.{trainOf, arrivedNext}
 use Rattle.rules.specs.Answer.{accepted}
-use Rattle.dispatcher.proofs.Declining.{ready-train, ready-take, taken-with}
-use Rattle.dispatcher.proofs.accepting.arrival.Statement.{statement}
-use Rattle.dispatcher.proofs.accepting.arrival.Tie as tie
+use Rattle.accepting.proofs.Declining.{ready-train, ready-take, taken-with}
+use Rattle.accepting.proofs.accepting.arrival.Statement.{statement}
+use Rattle.accepting.proofs.accepting.arrival.Tie as tie
 
 train-of-requires : tie.Need-train-of-requires
 train-of-requires c κs = let a = c .before .args in ready-train (a .state) (Am (a .m)) _ (c .before .pre)

@@ -14,8 +14,8 @@ use Rattle.rules.proofs.Validity.{consistent-facts}
 use Rattle.rules.proofs.Settling.{settled-roomy}
 use Rattle.authority.specs.Progress.{batchOf, progressOf, progressWith}
 use Rattle.authority.proofs.Working.{begun-roomy, sent-more}
-use Rattle.dispatcher.specs.Types.{Move, Message, Afe, Train, State, Progress}
-use Rattle.dispatcher.specs.Step.{Ready}
+use Rattle.accepting.specs.Types.{Move, Message, Afe, Train, State, Progress}
+use Rattle.accepting.specs.Acceptable.{Ready}
 
 module _ (s : State) (a : Message) (x : Train) (r : Ready s a x) where
   pub ready-train : moveIn a .train .0 < 6

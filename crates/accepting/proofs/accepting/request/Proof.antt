@@ -4,14 +4,14 @@ use Prim.Native.Nat.{_≤_}
 use denote.Ref.{now}
 use borrow.Author.Needs.{needs}
 use Rattle.journal.specs.Journal.{journalLength}
-use Rattle.dispatcher.specs.Types.{Fa, Asked, Train, Progress}
+use Rattle.accepting.specs.Types.{Fa, Asked, Train, Progress}
 use Rattle.rules.specs.State.{trainOf, withStatus}
 use Rattle.rules.specs.Granting.{Work, settled}
 use Rattle.rules.specs.Answer.{taken, accepted}
 use Rattle.authority.specs.Progress.{progressOf}
-use Rattle.dispatcher.proofs.Declining.{ready-train, ready-take, taken-with, ready-logged}
-use Rattle.dispatcher.proofs.accepting.request.Statement.{statement}
-use Rattle.dispatcher.proofs.accepting.request.Tie as tie
+use Rattle.accepting.proofs.Declining.{ready-train, ready-take, taken-with, ready-logged}
+use Rattle.accepting.proofs.accepting.request.Statement.{statement}
+use Rattle.accepting.proofs.accepting.request.Tie as tie
 
 train-of-requires : tie.Need-train-of-requires
 train-of-requires c κs = let a = c .before .args in ready-train (a .state) (Fa (a .m)) _ (c .before .pre)

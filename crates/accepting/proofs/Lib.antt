@@ -1,0 +1,2 @@
+-- The laws of an accepted frame, as the code works on it.
+pub mod Declining
