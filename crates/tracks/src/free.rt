@@ -15,15 +15,17 @@ pub enum FreeTrack {
 }
 
 // 02, card 2: "An up train (end above start) gets the smallest unheld track, a down train the
-// largest." Of a post with so many tracks.
+// largest." Of a post with so many tracks: the remainder is the number itself, and shows the compiler
+// that a search has few turns.
 pub fn free_track(route: Route, held: u8, tracks: u8) -> FreeTrack
     requires { ⌜ tracks < 8 ⌝ }
     ensures { λ r. ⌜ (trackNumber r ≡ trackFor route (bitAt held) tracks) × NamesTrack r ⌝ }
 {
+    let last = tracks % 8;
     if route.start.0 <= route.end.0 {
-        return smallest(held, tracks);
+        return smallest(held, last);
     }
-    largest(held, tracks)
+    largest(held, last)
 }
 
 fn smallest(held: u8, tracks: u8) -> FreeTrack
