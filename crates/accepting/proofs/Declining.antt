@@ -14,21 +14,21 @@ use Rattle.rules.proofs.Validity.{consistent-facts}
 use Rattle.rules.proofs.Settling.{settled-roomy}
 use Rattle.authority.specs.Progress.{batchOf, progressOf, progressWith}
 use Rattle.authority.proofs.Working.{begun-roomy, sent-more}
-use Rattle.accepting.specs.Types.{Move, Message, Afe, Train, State, Progress}
+use Rattle.accepting.specs.Types.{Move, Message, Afe, Record, Train, State, Progress}
 use Rattle.accepting.specs.Acceptable.{Ready}
 
 module _ (s : State) (a : Message) (x : Train) (r : Ready s a x) where
   pub ready-train : moveIn a .train .0 < 6
   ready-train = omega (arith, r .0, consistent-facts (taken s a x .state) (r .2) .line .few-trains)
 
-  -- with another word for the new record, as the code has it
+  -- with other words for the new record of the train and for that of the frame, as the code has them
   pub ready-take : (y : Train) → y ≡ x → consistent (oneLogged (withTrain s (moveIn a .train .0) y)) ≡ true
   ready-take y e = rw e (r .2)
 
-  pub taken-with : (table : List ℕ) (y : Train) → y ≡ x
-      → progressOf (settled table (begun (withTrain s (moveIn a .train .0) y) (recordOf a)))
+  pub taken-with : (table : List ℕ) (y : Train) → y ≡ x → (entry : Record) → entry ≡ recordOf a
+      → progressOf (settled table (begun (withTrain s (moveIn a .train .0) y) entry))
       ≡ progressOf (settled table (taken s a x))
-  taken-with table y e = rw e
+  taken-with table y e entry is = rw (e, is)
 
   pub ready-logged : (table : List ℕ) → settled table (taken s a x) .state .logged ≤ journalLength
   ready-logged table =

@@ -2,7 +2,7 @@
 ghost use mathlib.Core.Path.{_≡_};
 ghost use mathlib.Core.Bool.{true};
 ghost use Prim.Native.Nat.{_+_, _≤_, _<_};
-ghost use Rattle.journal.specs.Journal.{journalLength, recordOf};
+ghost use Rattle.journal.specs.Journal.{journalLength};
 ghost use Rattle.accepting.specs.Types.{Fa, Am, Asked};
 ghost use Rattle.rules.specs.State.{trainOf, withStatus, arrivedNext, withTrain, oneLogged};
 ghost use Rattle.rules.specs.Valid.{consistent};
@@ -15,6 +15,7 @@ use authority::logged;
 use authority::settle;
 use frame::Message;
 use frame::Move;
+use journal::Record;
 use line::TrainNo;
 use logging::record_of;
 use rules::State;
@@ -48,7 +49,7 @@ fn request(state: State, table: &[u8], m: Move) -> Progress
     ensures { λ r. ⌜ r ≡ progressOf (accepted (now (table .entry)) state (Fa m)) ⌝ }
 {
     let asked = with_status(train_of(state, m.train), Status::Asked(state.logged));
-    let work = take(state, table, Message::Fa(m), m.train, asked);
+    let work = take(state, table, record_of(Message::Fa(m)), m.train, asked);
     decline(work, m)
 }
 
@@ -58,17 +59,17 @@ fn arrival(state: State, table: &[u8], m: Move) -> Progress
     ensures { λ r. ⌜ r ≡ progressOf (accepted (now (table .entry)) state (Am m)) ⌝ }
 {
     let free = arrived(state.sidings, train_of(state, m.train));
-    take(state, table, Message::Am(m), m.train, free)
+    take(state, table, record_of(Message::Am(m)), m.train, free)
 }
 
 // The frame is logged with the new record of train `t`, and then the granting goes on.
-fn take(state: State, table: &[u8], message: Message, t: TrainNo, train: Train) -> Progress
+fn take(state: State, table: &[u8], entry: Record, t: TrainNo, train: Train) -> Progress
     requires { ⌜ (t .0 < 6) × (state .logged + mostLogged ≤ journalLength) ⌝ }
     requires { ⌜ consistent (oneLogged (withTrain state (t .0) train)) ≡ true ⌝ }
     ensures { λ r. ⌜ r ≡ progressOf (settled (now (table .entry))
-        (begun (withTrain state (t .0) train) (recordOf message))) ⌝ }
+        (begun (withTrain state (t .0) train) entry)) ⌝ }
 {
-    settle(with_train(state, t, train), table, message)
+    settle(with_train(state, t, train), table, entry)
 }
 
 // If the asker was not granted, its AFE is logged.

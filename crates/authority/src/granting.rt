@@ -3,7 +3,7 @@
 ghost use mathlib.Core.Path.{_≡_};
 ghost use mathlib.Core.Bool.{true};
 ghost use Prim.Native.Nat.{_+_, _≤_, _<_};
-ghost use Rattle.journal.specs.Journal.{journalLength, recordOf};
+ghost use Rattle.journal.specs.Journal.{journalLength};
 ghost use Rattle.rules.specs.State.{nextOf, trainOf, freeTrack, oneLogged};
 ghost use Rattle.rules.specs.Valid.{consistent};
 ghost use Rattle.rules.specs.Granting.{begun, settled};
@@ -17,7 +17,6 @@ use journal::Batch;
 use journal::Record;
 use line::TrackNo;
 use line::TrainNo;
-use logging::record_of;
 use logging::record_on;
 use rules::State;
 use rules::Status;
@@ -34,12 +33,12 @@ pub struct Progress {
     pub batch: Batch,
 }
 
-// The granting, after `message` is logged.
-pub fn settle(state: State, table: &[u8], message: Message) -> Progress
+// The granting, after `entry` is logged.
+pub fn settle(state: State, table: &[u8], entry: Record) -> Progress
     requires { ⌜ (consistent (oneLogged state) ≡ true) × (state .logged + mostLogged ≤ journalLength) ⌝ }
-    ensures { λ r. ⌜ r ≡ progressOf (settled (now (table .entry)) (begun state (recordOf message))) ⌝ }
+    ensures { λ r. ⌜ r ≡ progressOf (settled (now (table .entry)) (begun state entry)) ⌝ }
 {
-    let mut work = logged(state, logging::empty(), record_of(message));
+    let mut work = logged(state, logging::empty(), entry);
     'again: loop {
         let mut from: u8 = 0;
         loop {

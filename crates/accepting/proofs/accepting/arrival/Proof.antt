@@ -23,18 +23,20 @@ record-made c =
 
 take-requires : tie.Need-take-requires
 take-requires c κs =
-    let s = c .before .before .before in
+    let s = c .before .before .before .before in
     let ready = s .pre in (
       (ready-train (s .args .state) (Am (s .args .m)) _ ready, ready .1),
-      ready-take (s .args .state) (Am (s .args .m)) _ ready _ (record-made c),
+      ready-take (s .args .state) (Am (s .args .m)) _ ready _ (record-made (c .before)),
     )
 
 returns : tie.Need-returns
 unfolding accepted
 returns c =
-    let s = c .before .before .before .before in
+    let s = c .before .before .before .before .before in
     c .take .ensures
-    ∙ taken-with (s .args .state) (Am (s .args .m)) _ (s .pre) (now (s .args .table)) _ (record-made (c .before))
+    ∙ taken-with (s .args .state) (Am (s .args .m)) _ (s .pre) (now (s .args .table)) _
+    (record-made (c .before .before)) _ (c .before .record-of .ensures)
 
 pub arrival-spec : {M : Type 1} → statement M
-arrival-spec = tie.close (tie.spec train-of-requires (λ c κs. search needs) take-requires returns)
+arrival-spec =
+    tie.close (tie.spec train-of-requires (λ c κs. search needs) (λ c κs. search needs) take-requires returns)

@@ -28,16 +28,16 @@ record-made c =
 
 take-requires : tie.Need-take-requires
 take-requires c κs =
-    let s = c .before .before .before in
+    let s = c .before .before .before .before in
     let ready = s .pre in (
       (ready-train (s .args .state) (Fa (s .args .m)) _ ready, ready .1),
-      ready-take (s .args .state) (Fa (s .args .m)) _ ready _ (record-made c),
+      ready-take (s .args .state) (Fa (s .args .m)) _ ready _ (record-made (c .before)),
     )
 
 -- what the granting leaves
 module _ (c : tie.After-take) where
   abbrev start : tie.Start
-  start = c .before .before .before .before
+  start = c .before .before .before .before .before
 
   abbrev work : Work
   work = settled (now (start .args .table)) (taken (start .args .state) (Fa (start .args .m)) (asked start))
@@ -45,7 +45,7 @@ module _ (c : tie.After-take) where
   settles : c .take .result ≡ progressOf work
   settles = c .take .ensures
       ∙ taken-with (start .args .state) (Fa (start .args .m)) _ (start .pre) (now (start .args .table)) _
-      (record-made (c .before))
+      (record-made (c .before .before)) _ (c .before .record-of .ensures)
 
 decline-requires : tie.Need-decline-requires
 decline-requires c κs =
@@ -62,4 +62,4 @@ returns c = c .decline .ensures (work (c .before)) (settles (c .before))
 pub request-spec : {M : Type 1} → statement M
 request-spec =
     tie.close
-    (tie.spec train-of-requires (λ c κs. search needs) take-requires decline-requires returns)
+    (tie.spec train-of-requires (λ c κs. search needs) (λ c κs. search needs) take-requires decline-requires returns)

@@ -4,7 +4,7 @@ use mathlib.Core.Bool.{true}
 use Prim.Native.Nat.{_+_, _≤_}
 use denote.Ref.{now}
 use borrow.Author.Needs.{needs}
-use Rattle.journal.specs.Journal.{journalLength, recordOf}
+use Rattle.journal.specs.Journal.{journalLength}
 use Rattle.accepting.specs.Types.{State}
 use Rattle.rules.specs.State.{oneLogged}
 use Rattle.rules.specs.Valid.{consistent}
@@ -23,7 +23,7 @@ returns : tie.Need-returns
 returns c =
     let a = c .before .before .before .args in
     c .settle .ensures
-    ∙ ap (λ (s : State). progressOf (settled (now (a .table)) (begun s (recordOf (a .message)))))
+    ∙ ap (λ (s : State). progressOf (settled (now (a .table)) (begun s (a .entry))))
     (c .before .with-train .ensures)
 
 pub take-spec : {M : Type 1} → statement M

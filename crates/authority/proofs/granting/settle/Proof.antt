@@ -7,7 +7,7 @@ use Prim.Native.Nat.{ℕ, _-_, _≤_, _<_}
 use native.Mathlib.Omega.{arith}
 use denote.Ref.{now}
 use borrow.Author.Needs.{needs}
-use Rattle.journal.specs.Journal.{journalLength, recordOf, emptyBatch}
+use Rattle.journal.specs.Journal.{journalLength}
 use Rattle.tracks.specs.Answers.{trackNumber, NamesTrack}
 use Rattle.authority.specs.Types.{TrainNo, TrackNo, Batch, Asker, State, Progress}
 use Rattle.rules.specs.Valid.{consistent}
@@ -38,7 +38,7 @@ abbrev μ-again : tie.MeasureT-again
 μ-again table work₀ work = askedCount (work .state)
 
 logged-requires : tie.Need-logged-requires Inv-loop μ-loop Inv-again μ-again
-logged-requires c κs = omega (arith, c .before .before .before .pre .1)
+logged-requires c κs = omega (arith, c .before .before .pre .1)
 
 again-holds : tie.Need-again-holds Inv-loop μ-loop Inv-again μ-again
 again-holds c = λ w g. g
@@ -49,7 +49,7 @@ loop-holds c = (refl, tried-none _ _)
 -- a turn of the inner loop
 module _ (c : tie.At-loop Inv-loop μ-loop Inv-again μ-again) where
   abbrev start : tie.Start Inv-loop μ-loop Inv-again μ-again
-  start = c .before .before .before .before .before .before
+  start = c .before .before .before .before .before
 
   abbrev table : List ℕ
   table = now (start .args .table)
@@ -59,15 +59,14 @@ module _ (c : tie.At-loop Inv-loop μ-loop Inv-again μ-again) where
 
   -- the work that the granting begins with
   abbrev first : Work
-  first = begun (start .args .state) (recordOf (start .args .message))
+  first = begun (start .args .state) (start .args .entry)
 
   starts : Working table first (c .before .before .logged .result)
   starts =
       working-start table (start .args .state) _ _ (start .pre .0) (start .pre .1)
       (c .before .before .logged .ensures
-      ∙ ap (λ (b : Batch). progressWith (start .args .state) b (c .before .before .before .record-of .result))
-      (c .before .before .before .before .empty .ensures)
-      ∙ ap (progressWith (start .args .state) emptyBatch) (c .before .before .before .record-of .ensures))
+      ∙ ap (λ (b : Batch). progressWith (start .args .state) b (start .args .entry))
+      (c .before .before .before .empty .ensures))
 
   -- the inner loop has changed nothing
   kept : (w : Work) → Working table w (c .before .before .logged .result) → Working table w (c .loop .work)
@@ -186,7 +185,6 @@ settle-spec =
     μ-loop
     Inv-again
     μ-again
-    (λ c κs. search needs)
     (λ c κs. search needs)
     logged-requires
     again-holds
