@@ -129,15 +129,12 @@ fn places_valid(state: State) -> bool
 {
     let holders = holders_of(state);
     let tracks = state.tracks;
-    let posts = holders.posts;
-    let sections = holders.sections;
-    let held = holders.tracks;
     let mut p: usize = 0;
     while p < state.posts as usize {
-        if !held_within(tracks[p], posts[p], sections[p]) {
+        if !held_within(tracks[p], holders.posts[p], holders.sections[p]) {
             return false;
         }
-        if !own_tracks(tracks[p], posts[p], held[p]) {
+        if !own_tracks(tracks[p], holders.posts[p], holders.tracks[p]) {
             return false;
         }
         p += 1;

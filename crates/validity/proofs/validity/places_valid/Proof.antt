@@ -14,10 +14,10 @@ use Rattle.validity.proofs.validity.places_valid.Statement.{statement}
 use Rattle.validity.proofs.validity.places_valid.Tie as tie
 
 abbrev Inv-loop : tie.InvT-loop
-Inv-loop state tracks posts sections held p₀ p = Passing (state .posts) (placeValid state) p
+Inv-loop state holders tracks p₀ p = Passing (state .posts) (placeValid state) p
 
 abbrev μ-loop : tie.MeasureT-loop
-μ-loop state tracks posts sections held p₀ p = state .posts - p
+μ-loop state holders tracks p₀ p = state .posts - p
 
 holders-of-requires : tie.Need-holders-of-requires Inv-loop μ-loop
 holders-of-requires c κs = (c .pre .1, c .pre .2)
@@ -31,7 +31,7 @@ module _ (c : tie.Then1 Inv-loop μ-loop) where
   here = c .before .before
 
   abbrev held : tie.After-holders-of Inv-loop μ-loop
-  held = here .before .before .before .before .before
+  held = here .before .before
 
   abbrev given : State
   given = held .before .args .state
@@ -45,15 +45,15 @@ module _ (c : tie.Then1 Inv-loop μ-loop) where
 array-read-held-within : tie.Need-array-read-held-within Inv-loop μ-loop
 array-read-held-within c = low c
 
-array-read-held-within-2 : tie.Need-array-read-held-within-2 Inv-loop μ-loop
-array-read-held-within-2 c = low c
+element-copy-out-held-within : tie.Need-element-copy-out-held-within Inv-loop μ-loop
+element-copy-out-held-within c = low c
 
-array-read-held-within-3 : tie.Need-array-read-held-within-3 Inv-loop μ-loop
-array-read-held-within-3 c = low c
+element-copy-out-held-within-2 : tie.Need-element-copy-out-held-within-2 Inv-loop μ-loop
+element-copy-out-held-within-2 c = low (c .before)
 
 returns : tie.Need-returns Inv-loop μ-loop
 returns c =
-    let turn = c .before .before in
+    let turn = c .before .before .before .before in
     passing-fails (here turn .loop .inv) (omega arith)
     (beyond (given turn) (sets turn) (held turn .holders-of .ensures) (here turn .loop .p) (low turn)
     (sym (c .before .held-within .ensures) ∙ not-true _ (c .if2 .taken)))
@@ -61,7 +61,7 @@ returns c =
 -- the post and the section have no more holders than they may
 module _ (c : tie.Else2 Inv-loop μ-loop) where
   abbrev turn : tie.Then1 Inv-loop μ-loop
-  turn = c .before .before
+  turn = c .before .before .before .before
 
   few : getD (given turn .tracks) (here turn .loop .p) 0 < 8
   few = few-tracks (given turn) (sets turn) (held turn .holders-of .ensures) (here turn .loop .p) (low turn)
@@ -70,24 +70,27 @@ module _ (c : tie.Else2 Inv-loop μ-loop) where
 array-read-own-tracks : tie.Need-array-read-own-tracks Inv-loop μ-loop
 array-read-own-tracks c = low (turn c)
 
-array-read-own-tracks-2 : tie.Need-array-read-own-tracks-2 Inv-loop μ-loop
-array-read-own-tracks-2 c = low (turn c)
+element-copy-out-own-tracks : tie.Need-element-copy-out-own-tracks Inv-loop μ-loop
+element-copy-out-own-tracks c = low (turn c)
 
-array-read-own-tracks-3 : tie.Need-array-read-own-tracks-3 Inv-loop μ-loop
-array-read-own-tracks-3 c = low (turn c)
+element-copy-out-own-tracks-2 : tie.Need-element-copy-out-own-tracks-2 Inv-loop μ-loop
+element-copy-out-own-tracks-2 c = low (turn (c .before))
 
 own-tracks-requires : tie.Need-own-tracks-requires Inv-loop μ-loop
-own-tracks-requires c κs = few c
+own-tracks-requires c κs = few (c .before .before)
 
 -- what the test of their tracks says
 module _ (c : tie.After-own-tracks Inv-loop μ-loop) where
+  abbrev within : tie.Else2 Inv-loop μ-loop
+  within = c .before .before .before
+
   abbrev now : tie.Then1 Inv-loop μ-loop
-  now = turn (c .before)
+  now = turn within
 
   tested : placeValid (given now) (here now .loop .p) ≡ c .own-tracks .result
   tested =
       place-tested (given now) (sets now) (held now .holders-of .ensures) (here now .loop .p) (low now)
-      (sym (c .before .before .held-within .ensures) ∙ not-false _ (c .before .if2 .left)) _ (c .own-tracks .ensures)
+      (sym (within .before .held-within .ensures) ∙ not-false _ (within .if2 .left)) _ (c .own-tracks .ensures)
 
 returns-2 : tie.Need-returns-2 Inv-loop μ-loop
 returns-2 c =
@@ -116,13 +119,13 @@ places-valid-spec =
     loop-holds
     (λ c. search needs)
     array-read-held-within
-    array-read-held-within-2
-    array-read-held-within-3
+    element-copy-out-held-within
+    element-copy-out-held-within-2
     (λ c κs. search needs)
     returns
     array-read-own-tracks
-    array-read-own-tracks-2
-    array-read-own-tracks-3
+    element-copy-out-own-tracks
+    element-copy-out-own-tracks-2
     own-tracks-requires
     returns-2
     add-p
