@@ -6,7 +6,7 @@ use Prim.Native.Nat.{ℕ}
 use lib.Dec.{eqb}
 use Rattle.common.specs.Update.{update}
 use Rattle.line.specs.Line.{routeOf}
-use Rattle.line.specs.Holding.{isStabled}
+use Rattle.tracks.specs.Tracks.{unlessAway}
 use Rattle.frame.specs.Frame.{FE, readFrame}
 use Rattle.rules.specs.Opening.{openedTrack}
 use Rattle.assurance.specs.Types.{Line, Message, Fa, Fe, Afe, Am, Refused, Record, Verdict, Sent, RefusedBy}
@@ -32,7 +32,7 @@ trackFrame l o k (Am m) =
     let t = m .train .0 in
     cond (isFor (o t .claim) (m .from .0) (m .to .0))
     (update k t (record {
-      here = cond (isStabled (l .sidings) (routeOf l t .end .0) (m .to .0)) 0 (k t .ahead);
+      here = unlessAway (l .sidings) (routeOf l t .end .0) (m .to .0) (k t .ahead);
       ahead = 0;
     }))
     k

@@ -1,16 +1,14 @@
 -- Which track an FE's record has, told by the tally: "An up train (end above start) gets the smallest unheld track, a
 -- down train the largest."
 use mathlib.Core.Path.{_≡_}
-use mathlib.Core.Bool.{Bool, _&&_}
+use mathlib.Core.Bool.{Bool}
 use mathlib.Core.List.{List, _∷_, _++_}
 use Prim.Native.Nat.{ℕ, _+_}
-use lib.Dec.{eqb}
 use lib.ListN.{length}
 use Rattle.common.specs.Below.{anyBelow}
 use Rattle.line.specs.Line.{routeOf, tracksAt}
-use Rattle.line.specs.Holding.{holdsPost}
 use Rattle.line.specs.Book.{lineIn}
-use Rattle.tracks.specs.Tracks.{trackFor}
+use Rattle.tracks.specs.Tracks.{hasTrack, trackFor}
 use Rattle.frame.specs.Frame.{readFrame}
 use Rattle.journal.specs.Journal.{recordOn}
 use Rattle.rules.specs.Opening.{opening}
@@ -21,7 +19,7 @@ use Rattle.assurance.specs.Tracks.{Tracks, tracksAtOpening, trackFrame, trackRe
 
 -- some train holds track j of post p
 abbrev pub heldTold : Line → Observer → Tracks → ℕ → ℕ → Bool
-heldTold l o k p j = anyBelow (l .trains) (λ u. holdsPost (locatedTold l o u) p && eqb (trackTold o k u p) j)
+heldTold l o k p j = anyBelow (l .trains) (λ u. hasTrack (locatedTold l o u) p (trackTold o k u p) j)
 
 -- the record of the FE for the move m
 abbrev pub dueRecord : Line → Observer → Tracks → Move → Record

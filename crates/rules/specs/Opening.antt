@@ -10,9 +10,8 @@ use Rattle.common.specs.Check.{Check, check, refusal, unlessRefused}
 use Rattle.common.specs.Tabulate.{tabulate}
 use Rattle.line.specs.Refusal.{shortStore, overfull, noWayThrough}
 use Rattle.line.specs.Line.{routeOf, tracksAt}
-use Rattle.line.specs.Holding.{isStabled, holdsPost}
 use Rattle.line.specs.Book.{lineIn, bookChecks, emptyLine}
-use Rattle.tracks.specs.Tracks.{trackFor}
+use Rattle.tracks.specs.Tracks.{hasTrack, unlessAway, trackFor}
 use Rattle.journal.specs.Journal.{journalLength}
 use Rattle.completion.specs.Configuration.{start, whereabouts, code, feasible}
 use Rattle.completion.specs.Table.{tableLength, bitOf, filled}
@@ -33,14 +32,14 @@ openingChecks book table records =
 
 -- some of the first n trains, whose tracks are ks, has track k at post p
 abbrev pub startHeld : Line → List ℕ → ℕ → ℕ → ℕ → Bool
-startHeld l ks n p k = anyBelow n (λ u. holdsPost (whereabouts l start u) p && eqb (getD ks u 0) k)
+startHeld l ks n p k = anyBelow n (λ u. hasTrack (whereabouts l start u) p (getD ks u 0) k)
 
 -- the track of train t, after those of the trains below it; "one put away in a siding has none"
 abbrev pub startTrack : Line → List ℕ → ℕ → ℕ
 startTrack l ks t =
     let r = routeOf l t in
     let p = r .start .0 in
-    cond (isStabled (l .sidings) (r .end .0) p) 0 (trackFor r (startHeld l ks t p) (tracksAt l p))
+    unlessAway (l .sidings) (r .end .0) p (trackFor r (startHeld l ks t p) (tracksAt l p))
 
 -- those of the first n trains
 unfoldable pub startTracks : Line → ℕ → List ℕ

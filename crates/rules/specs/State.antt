@@ -1,5 +1,5 @@
 -- One train's record and the state, read: the next post, where the train is and on which track, what it has travelled.
-use mathlib.Core.Bool.{Bool, true, false, cond, _&&_}
+use mathlib.Core.Bool.{Bool, true, false, cond}
 use mathlib.Core.List.{List, map}
 use Prim.Native.Nat.{ℕ, _+_}
 use lib.Dec.{eqb}
@@ -7,8 +7,8 @@ use lib.ListN.{getD, set}
 use Rattle.common.specs.Below.{ofBool, anyBelow}
 use Rattle.line.specs.Route.{nextPost, distance}
 use Rattle.line.specs.Line.{noRoute}
-use Rattle.line.specs.Holding.{Whereabouts, moving, isStabled, standing, holdsPost}
-use Rattle.tracks.specs.Tracks.{trackFor}
+use Rattle.line.specs.Holding.{Whereabouts, moving, standing}
+use Rattle.tracks.specs.Tracks.{hasTrack, unlessAway, trackFor}
 use Rattle.frame.specs.Frame.{moveOf}
 use Rattle.completion.specs.Configuration.{Configuration}
 use Rattle.rules.specs.Types.{Line, Move, Status, Free, Asked, Running, Train, State}
@@ -87,7 +87,7 @@ located s t = locatedAt (s .sidings) (trainOf s t)
 
 -- train t holds post p, on its track k; some train does
 abbrev pub holdsTrack : State → ℕ → ℕ → ℕ → Bool
-holdsTrack s p k t = holdsPost (located s t) p && eqb (trackAt (trainOf s t) p) k
+holdsTrack s p k t = hasTrack (located s t) p (trackAt (trainOf s t) p) k
 
 abbrev pub trackHeld : State → ℕ → ℕ → Bool
 trackHeld s p k = anyBelow (s .trains) (holdsTrack s p k)
@@ -115,7 +115,7 @@ abbrev pub arrivedNext : ℕ → Train → Train
 arrivedNext sidings x = record {
   route = x .route;
   at = record { 0 = nextOf x };
-  track = record { 0 = cond (isStabled sidings (x .route .end .0) (nextOf x)) 0 (trackAhead (x .status)) };
+  track = record { 0 = unlessAway sidings (x .route .end .0) (nextOf x) (trackAhead (x .status)) };
   status = Free;
 }
 

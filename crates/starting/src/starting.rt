@@ -1,13 +1,12 @@
 // 02, card 2: "At opening, trains take tracks by the same rule in number order; parked trains count
 // as up."
 ghost use mathlib.Core.Path.{_≡_};
-ghost use mathlib.Core.Bool.{true, cond};
+ghost use mathlib.Core.Bool.{true};
 ghost use Prim.Native.Nat.{_<_};
 ghost use Rattle.common.specs.Bits.{bitAt};
 ghost use Rattle.common.specs.Tabulate.{tabulate};
 ghost use Rattle.line.specs.Line.{wellFormed};
-ghost use Rattle.line.specs.Holding.{isStabled};
-ghost use Rattle.tracks.specs.Tracks.{trackFor};
+ghost use Rattle.tracks.specs.Tracks.{unlessAway, trackFor};
 ghost use Rattle.rules.specs.Opening.{openedTrack};
 use line::Line;
 use line::Route;
@@ -39,7 +38,7 @@ pub fn start_tracks(line: Line) -> [u8; 6]
 // away in a siding has none". After check 19 any other finds a free one.
 fn start_track(route: Route, sidings: u8, held: u8, tracks: u8) -> TrackNo
     requires { ⌜ tracks < 8 ⌝ }
-    ensures { λ r. ⌜ r .0 ≡ cond (isStabled sidings (route .end .0) (route .start .0)) 0
+    ensures { λ r. ⌜ r .0 ≡ unlessAway sidings (route .end .0) (route .start .0)
         (trackFor route (bitAt held) tracks) ⌝ }
 {
     if line::stabled(sidings, route.end, route.start) {

@@ -1,10 +1,21 @@
--- 02, card 2: which track a train gets. Tracks are numbered from 1; 0 stands for none.
+-- 02, card 2: which track a train gets, and who holds one, in words for the opening, the state and the observer alike.
+-- Tracks are numbered from 1; 0 stands for none.
 use mathlib.Core.Path.{_≡_}
 use mathlib.Core.Logic.{_≢_}
-use mathlib.Core.Bool.{Bool, true, false, cond}
+use mathlib.Core.Bool.{Bool, true, false, cond, _&&_}
 use Prim.Native.Nat.{ℕ, zero, suc, _≤_, _<_}
 use lib.Dec.{leb, eqb}
 use Rattle.line.specs.declared.route.Route.{Route}
+use Rattle.line.specs.Holding.{Whereabouts, isStabled, holdsPost}
+
+-- a train that is at w, and has track j at post p, holds track k of that post
+abbrev pub hasTrack : Whereabouts → ℕ → ℕ → ℕ → Bool
+hasTrack w p j k = holdsPost w p && eqb j k
+
+-- "one put away in a siding has none": the track of a train that stands at post p and has its end at e, where it would
+-- have k
+abbrev pub unlessAway : ℕ → ℕ → ℕ → ℕ → ℕ
+unlessAway sidings e p k = cond (isStabled sidings e p) 0 k
 
 -- the smallest of tracks 1 to n that is not held, and the largest; 0 where all are
 unfoldable pub smallest : (ℕ → Bool) → ℕ → ℕ

@@ -6,26 +6,29 @@ use Prim.Native.Nat.{ℕ, _≤_, _<_}
 use native.Mathlib.Omega.{arith}
 use Rattle.common.proofs.Tests.{by-equality, by-order}
 use Rattle.line.specs.Holding.{isStabled}
+use Rattle.tracks.specs.Tracks.{unlessAway}
 use Rattle.line.proofs.Travel.{next-up, next-down, next-end}
 use Rattle.validity.specs.Types.{TrainNo, PostNo, TrackNo, Move, Free, Train, State}
-use Rattle.validity.specs.Arrival.{trackThere}
 use Rattle.validity.specs.Holders.{PlacedAt}
 use Rattle.rules.specs.State.{isRunning, trackAhead, nextOf, trainOf, nextMove, arrivedNext}
 
 -- the track of one that arrives at post p: none where it is stabled there, and else that ahead of it
 module _ (sidings : ℕ) (x : Train) (p : ℕ) where
-  pub no-track-there : isStabled sidings (x .route .end .0) p ≡ true → 0 ≡ trackThere sidings x p
+  abbrev there : ℕ
+  there = unlessAway sidings (x .route .end .0) p (trackAhead (x .status))
+
+  pub no-track-there : isStabled sidings (x .route .end .0) p ≡ true → 0 ≡ there
   no-track-there e = rw e
 
   pub track-there : isStabled sidings (x .route .end .0) p ≡ false → (k : ℕ) → k ≡ trackAhead (x .status)
-      → k ≡ trackThere sidings x p
+      → k ≡ there
   track-there e k f = f ∙ rw e
 
 -- it has arrived at q, on its track k there
 pub arrived-at : (sidings : ℕ) (x : Train) (q : PostNo) (k : TrackNo)
-    → q .0 ≡ nextOf x → k .0 ≡ trackThere sidings x (q .0)
+    → q .0 ≡ nextOf x → k .0 ≡ there sidings x (q .0)
     → record { route = x .route; at = q; track = k; status = Free } ≡ arrivedNext sidings x
-arrived-at sidings x q k e f = ap (arrivedOn (q .0)) f ∙ ap (λ (n : ℕ). arrivedOn n (trackThere sidings x n)) e
+arrived-at sidings x q k e f = ap (arrivedOn (q .0)) f ∙ ap (λ (n : ℕ). arrivedOn n (there sidings x n)) e
   where
     arrivedOn : ℕ → ℕ → Train
     arrivedOn n j = record { route = x .route; at = record { 0 = n }; track = record { 0 = j }; status = Free }

@@ -3,9 +3,9 @@
 ghost use mathlib.Core.Path.{_≡_};
 ghost use Prim.Native.Nat.{_<_};
 ghost use Rattle.line.specs.Route.{distance};
+ghost use Rattle.tracks.specs.Tracks.{unlessAway};
 ghost use Rattle.rules.specs.State.{isFree, isAsked, isRunning, trackAhead, atEnd, nextOf, reachedBy};
 ghost use Rattle.rules.specs.State.{nextMove, withStatus, arrivedNext};
-ghost use Rattle.validity.specs.Arrival.{trackThere};
 use crate::fleet::train_of;
 use frame::Move;
 use line::PostNo;
@@ -126,7 +126,7 @@ pub fn arrived(sidings: u8, train: Train) -> Train
 
 // Its track at the post it ran to. 02, card 2: "one put away in a siding has none".
 fn track_there(sidings: u8, train: Train, at: PostNo) -> TrackNo
-    ensures { λ r. ⌜ r .0 ≡ trackThere sidings train (at .0) ⌝ }
+    ensures { λ r. ⌜ r .0 ≡ unlessAway sidings (train .route .end .0) (at .0) (trackAhead (train .status)) ⌝ }
 {
     let status = train.status;
     if line::stabled(sidings, train.route.end, at) {
