@@ -3,9 +3,8 @@
 // eight, that of value 2 ^ k track k's.
 ghost use mathlib.Core.Path.{_≡_};
 ghost use Prim.Native.Nat.{_≤_, _<_};
-ghost use Rattle.common.specs.Bits.{setBelow};
-ghost use Rattle.line.specs.Holding.{sectionHolders};
-ghost use Rattle.rules.specs.State.{located, trackHeld};
+ghost use lib.Count.{ones};
+ghost use lib.ListN.{getD};
 ghost use Rattle.validity.specs.Holders.{Placed, Held};
 use crate::train::is_running;
 use crate::train::next_post;
@@ -67,7 +66,7 @@ pub fn holders_of(state: State) -> Holders
 // How many trains hold section `i`.
 pub fn section_holders(holders: Holders, i: SectionNo) -> u32
     requires { ⌜ i .0 < 8 ⌝ }
-    ensures { λ r. ⌜ ((s : State) → Held s holders → r ≡ sectionHolders (s .trains) (located s) (i .0)) ⌝ }
+    ensures { λ r. ⌜ r ≡ ones (getD (holders .sections) (i .0) 0) ⌝ }
 {
     let k = i.0 as usize;
     u32::count_ones(holders.sections[k] as u32)
@@ -76,7 +75,7 @@ pub fn section_holders(holders: Holders, i: SectionNo) -> u32
 // The set of the tracks that are held at post `p`.
 pub fn tracks_held(holders: Holders, p: PostNo) -> u8
     requires { ⌜ p .0 < 8 ⌝ }
-    ensures { λ r. ⌜ ((s : State) → Held s holders → r ≡ setBelow 8 (trackHeld s (p .0))) ⌝ }
+    ensures { λ r. ⌜ r ≡ getD (holders .tracks) (p .0) 0 ⌝ }
 {
     let k = p.0 as usize;
     holders.tracks[k]

@@ -9,6 +9,7 @@ use borrow.Author.Tests.{not-true, not-false}
 use Rattle.completion.specs.Configuration.{moved, codeBelow}
 use Rattle.completion.proofs.Codes.{code-cong}
 use Rattle.line.specs.Holding.{sectionHolders}
+use Rattle.validity.proofs.HolderSets.{sections-counted}
 use Rattle.tracks.specs.Answers.{trackNumber, NamesTrack}
 use Rattle.authority.specs.Types.{TrackNo, Train}
 use Rattle.rules.specs.State.{isAsked, nextOf, trainOf, located, freeTrack, reached}
@@ -61,8 +62,11 @@ module _ (c : tie.After-section) where
         to-on-line _ (s .pre .0) _ (s .pre .1) (asks asked) _ next,
       )
 
+  section-number : c .section .result .0 < 8
+  section-number = omega (arith, on-line .0, c .section .ensures)
+
 section-holders-requires : tie.Need-section-holders-requires
-section-holders-requires c κs = omega (arith, on-line c .0, c .section .ensures)
+section-holders-requires c κs = section-number c
 
 -- how many hold the next section
 module _ (c : tie.After-section-holders) where
@@ -71,7 +75,9 @@ module _ (c : tie.After-section-holders) where
 
   section-counted : c .section-holders .result
       ≡ sectionHolders (given .args .state .trains) (located (given .args .state)) (c .before .section .result .0)
-  section-counted = c .section-holders .ensures (given .args .state) (c .before .before .holders-of .ensures)
+  section-counted =
+      sections-counted (given .args .state) _ (c .before .before .holders-of .ensures) _ _ (section-number (c .before))
+      (c .section-holders .ensures)
 
 returns-2 : tie.Need-returns-2
 returns-2 c =
@@ -122,7 +128,7 @@ module _ (c : tie.After-free-track) where
       let i = at unheld in
       free-there _ (start-of .pre .0) _ (start-of .pre .1) (asks (asked i)) _ (i .before .before .next-move .ensures)
       _ (c .before .tracks-at .ensures) _ (asked i .before .before .train-of .ensures) _
-      (c .before .before .tracks-held .ensures (start-of .args .state) (i .before .holders-of .ensures)) _
+      (c .before .before .tracks-held .ensures ∙ i .before .holders-of .ensures .tracks _ (on-line i .1)) _
       (c .free-track .ensures .0)
 
 returns-3 : tie.Need-returns-3
