@@ -101,6 +101,11 @@ module _ {s b to : List ℕ} {n : ℕ} (f : Filled s b to n) where
 as-many : {s b to : List ℕ} {n m : ℕ} → Filled s b to n → m ≡ n → Filled s b to m
 as-many {s} {b} {to} f e = subst (Filled s b to) (sym e) f
 
+-- the last byte is put, at place m
+pub last-byte : {s b to : List ℕ} {n : ℕ} → Filled s b to n → (m v : ℕ) → m ≡ n → v ≡ getD b m 0
+    → length b ≡ m + 1 → set to m v ≡ b
+last-byte f m v e same size = filled (byte-more (as-many f e) v same (omega arith)) (omega arith)
+
 -- the next four bytes are put one by one
 pub four-more : {s b to : List ℕ} {n : ℕ} → Filled s b to n → (v₀ v₁ v₂ v₃ : ℕ) → At b n (v₀ ∷ v₁ ∷ v₂ ∷ v₃ ∷ [])
     → n + 4 ≤ length b → (m : ℕ) → m ≡ n + 4
@@ -110,14 +115,6 @@ four-more {b} {n} f v₀ v₁ v₂ v₃ y fits m q =
     let two = as-many {m = n + 2} (byte-more one v₁ (y .byte 1 (omega arith)) (omega arith)) (omega arith) in
     let three = as-many {m = n + 3} (byte-more two v₂ (y .byte 2 (omega arith)) (omega arith)) (omega arith) in
     as-many (byte-more three v₃ (y .byte 3 (omega arith)) (omega arith)) (omega arith)
-
--- a buffer that begins with the first part of b
-pub begun : (e : List ℕ) {s b p : List ℕ} → length e ≡ length b → s ≡ replaced e 0 p → At b 0 p → length p ≤ length b
-    → (n : ℕ) → n ≡ length p → Filled s b s n
-begun e {s} {b} {p} size is y h n q =
-    let room : 0 + length p ≤ length e = omega arith in
-    let same : length s ≡ length b = rw is (length-replaced e 0 p room ∙ size) in
-    already (none-filled same) (rw is (replaced-at e 0 p room)) y n (omega arith)
 
 -- ---- the head
 
@@ -144,3 +141,14 @@ module _ (posts : ℕ) (tracks : List ℕ) (sidings trains : ℕ) (eight : lengt
       ext-getD 0 (set (set after sidingsByte sidings) trainsByte trains) b (all .size)
       (λ k h. by-order k headLength (all .first k)
       (λ l. all .rest k l ∙ sym (replaced-after s 0 head (omega arith) k (omega arith))))
+
+  -- a buffer that begins with the head of b
+  pub head-begun : (e : List ℕ) {s b : List ℕ} → length e ≡ length b → headLength ≤ length b
+      → s ≡ replaced e 0 (headBytes posts tracks sidings trains) → At b 0 (headBytes posts tracks sidings trains)
+      → Filled s b s headLength
+  head-begun e {s} {b} size long is y =
+      let head = headBytes posts tracks sidings trains in
+      let eleven = head-length posts tracks sidings trains eight in
+      let room : 0 + length head ≤ length e = omega arith in
+      let same : length s ≡ length b = rw is (length-replaced e 0 head room ∙ size) in
+      already (none-filled same) (rw is (replaced-at e 0 head room)) y headLength (omega arith)

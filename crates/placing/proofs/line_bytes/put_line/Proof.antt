@@ -2,13 +2,11 @@
 use mathlib.Core.Path.{_≡_, _∙_, sym}
 use Prim.Native.Nat.{_+_, _-_, _≤_}
 use native.Mathlib.Omega.{arith}
-use denote.Ref.{now}
 use lib.ListN.{length, length-map}
 use borrow.Author.Needs.{needs}
-use Rattle.encoding.specs.Parts.{headBytes, headLength}
-use Rattle.encoding.specs.LineBytes.{routeAt, lineBytes}
-use Rattle.encoding.proofs.Fields.{head-length, line-length, line-head, at-route}
-use Rattle.placing.proofs.Filled.{Filled, begun, part-more, filled}
+use Rattle.encoding.specs.LineBytes.{lineLength, routeAt, lineBytes}
+use Rattle.encoding.proofs.Fields.{line-length, line-head, at-route}
+use Rattle.placing.proofs.Filled.{Filled, part-more, filled, head-begun}
 use Rattle.placing.proofs.line_bytes.put_line.Statement.{statement}
 use Rattle.placing.proofs.line_bytes.put_line.Tie as tie
 
@@ -17,15 +15,6 @@ Inv-loop to₀ line t₀ to t = (t ≤ 6) × Filled to₀ (lineBytes line) to (r
 
 abbrev μ-loop : tie.MeasureT-loop
 μ-loop to₀ line t₀ to t = 6 - t
-
-put-head-requires : tie.Need-put-head-requires Inv-loop μ-loop
-put-head-requires c κs = omega (arith, c .before .before .before .pre)
-
-mul-put : tie.Need-mul-put Inv-loop μ-loop
-mul-put c = omega (arith, c .before .before .before .before .before .loop .inv .0)
-
-add-put : tie.Need-add-put Inv-loop μ-loop
-add-put c = omega (arith, c .before .before .before .before .before .loop .inv .0)
 
 -- the line, whose lists have the lengths that its type gives them
 module _ (c : tie.Start Inv-loop μ-loop) where
@@ -36,16 +25,15 @@ module _ (c : tie.Start Inv-loop μ-loop) where
   six : length (c .args .t1 .routes) ≡ 6
   six = simp length-map at (c .good .0 .1 .1 .1 .1 .1 .1 .0 .1 .0 .1)
 
+  size : length (lineBytes (c .args .t1)) ≡ lineLength
+  size = line-length (c .args .t1) eight six
+
 loop-holds : tie.Need-loop-holds Inv-loop μ-loop
 loop-holds c =
-    let s = c .before .before .before .before .before .before in
-    let l = s .args .t1 in
-    let eleven = head-length (l .posts) (l .tracks) (l .sidings) (l .trains) (eight s) in
-    let size = line-length l (eight s) (six s) in (
+    let s = c .before .before .before .before .before .before in (
       omega arith,
-      begun (now (s .args .to)) {p = headBytes (l .posts) (l .tracks) (l .sidings) (l .trains)}
-          (s .pre ∙ sym size) (c .before .before .put-head .ensures) (line-head l (eight s) (six s))
-          (omega arith) headLength (sym eleven),
+      head-begun _ _ _ _ (eight s) _ (s .pre ∙ sym (size s)) (omega (arith, size s))
+          (c .before .before .put-head .ensures) (line-head (s .args .t1) (eight s) (six s)),
     )
 
 loop-again : tie.Need-loop-again Inv-loop μ-loop
@@ -58,7 +46,7 @@ loop-again c =
     let t = a .loop .t in (
       omega arith,
       part-more (a .loop .inv .1) (at-route l (eight s) (six s) t (omega arith)) (b .route-ends .ensures)
-          (p .put .ensures) (omega (arith, line-length l (eight s) (six s))) (routeAt (t + 1)) (omega arith),
+          (p .put .ensures) (omega (arith, size s)) (routeAt (t + 1)) (omega arith),
     )
 
 -- the loop has put all of them
@@ -67,10 +55,10 @@ module _ (c : tie.After-loop Inv-loop μ-loop) where
   from = c .before .before .before .before .before .before .before .before
 
   written : c .before .loop .to ≡ lineBytes (from .args .t1)
-  written = filled (c .before .loop .inv .1) (omega (arith, line-length (from .args .t1) (eight from) (six from)))
+  written = filled (c .before .loop .inv .1) (omega (arith, size from))
 
 same-length : tie.Need-same-length Inv-loop μ-loop
-same-length c = rw (written c) (line-length (from c .args .t1) (eight (from c)) (six (from c)) ∙ sym (from c .pre))
+same-length c = rw (written c) (size (from c) ∙ sym (from c .pre))
 
 returns : tie.Need-returns Inv-loop μ-loop
 returns c = written c
@@ -81,14 +69,14 @@ put-line-spec =
     (tie.spec
     Inv-loop
     μ-loop
-    put-head-requires
+    (λ c κs. omega arith)
     loop-holds
     (λ c. omega arith)
     (λ c. omega arith)
     (λ c κs. search needs)
     (λ c. search needs)
-    mul-put
-    add-put
+    (λ c. omega arith)
+    (λ c. omega arith)
     (λ c κs. search needs)
     (λ c. omega arith)
     (λ c. omega arith)

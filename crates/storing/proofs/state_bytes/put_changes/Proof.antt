@@ -8,10 +8,10 @@ use lib.ListN.{length, length-map, set, length-set}
 use borrow.Author.Needs.{needs}
 use Rattle.encoding.specs.Parts.{headLength}
 use Rattle.encoding.specs.LineBytes.{routeLength}
-use Rattle.encoding.specs.StateBytes.{trainAt, loggedAt, stateBytes}
-use Rattle.encoding.proofs.Fields.{head-length, state-length, state-head, at-ends, at-standing, at-logged}
+use Rattle.encoding.specs.StateBytes.{stateLength, trainAt, loggedAt, stateBytes}
+use Rattle.encoding.proofs.Fields.{state-head-length, state-length, state-head, at-ends, at-standing, at-logged}
 use Rattle.encoding.proofs.Reading.{head-kept, route-kept}
-use Rattle.placing.proofs.Filled.{Filled, none-filled, already, byte-more, four-more, filled}
+use Rattle.placing.proofs.Filled.{Filled, none-filled, already, last-byte, four-more}
 use Rattle.storing.proofs.state_bytes.put_changes.Statement.{statement}
 use Rattle.storing.proofs.state_bytes.put_changes.Tie as tie
 
@@ -30,14 +30,14 @@ module _ (c : tie.Start Inv-loop μ-loop) where
   six : length (c .args .state .fleet) ≡ 6
   six = simp length-map at (c .good .0 .1 .1 .1 .1 .1 .1 .0 .1 .0 .1)
 
-  size : length (stateBytes (c .args .state)) ≡ loggedAt + 1
+  size : length (stateBytes (c .args .state)) ≡ stateLength
   size = state-length (c .args .state) eight six
 
 loop-holds : tie.Need-loop-holds Inv-loop μ-loop
 loop-holds c =
     let s = c .before .before in
     let v = s .args .state in
-    let eleven = head-length (v .posts) (v .tracks) (v .sidings) (v .trains) (eight s) in (
+    let eleven = state-head-length v (eight s) (six s) in (
       omega arith,
       already (none-filled (s .pre .0 ∙ sym (size s))) (head-kept (now (s .args .to)) v (s .pre .1))
           (state-head v (eight s) (six s)) headLength (omega (arith, eleven)),
@@ -74,10 +74,8 @@ module _ (c : tie.After-loop Inv-loop μ-loop) where
 
   written : set (c .before .loop .to) loggedAt (from .args .state .logged) ≡ stateBytes (from .args .state)
   written =
-      let all : c .before .loop .t ≡ 6 = omega (arith, c .before .loop .inv .0, c .loop-test .left) in
-      let trains = rw all at (c .before .loop .inv .1) in
-      filled (byte-more trains _ (sym (at-logged (from .args .state) (eight from) (six from)))
-      (omega (arith, size from))) (omega (arith, size from))
+      last-byte (c .before .loop .inv .1) loggedAt _ (omega (arith, c .before .loop .inv .0, c .loop-test .left))
+      (sym (at-logged (from .args .state) (eight from) (six from))) (size from)
 
 slice-write-to-5 : tie.Need-slice-write-to-5 Inv-loop μ-loop
 slice-write-to-5 c = omega (arith, c .before .loop .inv .1 .size, size (from c))
