@@ -2,24 +2,25 @@
 use mathlib.Core.Path.{_≡_, refl, sym, ap, _∙_}
 use mathlib.Core.Logic.{_≢_}
 use mathlib.Core.Bool.{Bool, true, false, not, _&&_}
-use mathlib.Core.List.{List, _∷_, _++_}
+use mathlib.Core.List.{List, [], _∷_, _++_}
 use Prim.Native.Nat.{ℕ, _≤_, _<_}
 use native.Mathlib.Omega.{arith}
 use lib.Dec.{leb}
 use borrow.Author.Tests.{lt-ltb, le-ltb, eq-eqb, ne-eqb}
 use Rattle.common.specs.Check.{Check, check, refusal}
 use Rattle.common.proofs.Check.{Refuses, none, stop, pass, refusal-is, check-passes, check-fails, first-part}
-use Rattle.common.proofs.Check.{second-part, stop-within, pass-all}
+use Rattle.common.proofs.Check.{second-part, refuses-of, stop-within, pass-all}
 use Rattle.line.specs.Refusal.{strangeState, shortStore, wrongEnd, unknownTrain, atItsEnd, wrongPost}
+use Rattle.line.specs.Refusal.{alreadyAsked, underAuthority, noAuthority, journalFull}
 use Rattle.frame.specs.Frame.{readChecks, readFrame}
 use Rattle.frame.specs.RoundTrip.{IsMessage}
 use Rattle.frame.proofs.Outcome.{read-passed, read-refused}
 use Rattle.journal.specs.Journal.{journalLength}
 use Rattle.completion.specs.Table.{tableLength}
-use Rattle.checks.specs.Types.{Move, Message, Fa, Fe, Afe, Am, Refused, Train, State}
-use Rattle.rules.specs.State.{atEnd, nextOf, trainOf}
+use Rattle.checks.specs.Types.{Move, Message, Fa, Fe, Afe, Am, Refused, Status, Train, State}
+use Rattle.rules.specs.State.{atEnd, nextOf, isAsked, isRunning, trainOf}
 use Rattle.rules.specs.Valid.{valid}
-use Rattle.rules.specs.Answer.{outLength, forBox, knows, moveChecks, contentChecks, frameChecks}
+use Rattle.rules.specs.Answer.{outLength, forBox, knows, moveChecks, hasRoom, contentChecks, frameChecks}
 use Rattle.checks.specs.Messages.{messageRefusal}
 
 -- ---- the checks of a move
@@ -56,16 +57,43 @@ module _ (s : State) (m : Move) (cs : List Check) where
   pub no-train : s .trains ≤ m .train .0 → unknownTrain ≡ refusal said
   no-train h = sym (refusal-is (stop (le-ltb _ _ h)))
 
-  module _ (known : m .train .0 < s .trains) (n : ℕ) (moves : n ≡ refusal (moveChecks s m)) where
-    pub move-refuses : n ≢ 0 → n ≡ refusal said
-    move-refuses h =
-        let some : 0 < refusal (moveChecks s m) = omega arith in
-        moves ∙ sym (refusal-is (pass (lt-ltb _ _ known) (stop-within (moveChecks s m) cs some)))
+-- the train is known, and n is what the checks of the move give
+pub record Moved (s : State) (m : Move) (n : ℕ) : Type 0 where
+  pub known : m .train .0 < s .trains
+  pub number : n ≡ refusal (moveChecks s m)
 
-    -- 7, 8 and 9 pass
-    pub after-move : n ≡ 0 → {k : ℕ} → Refuses cs k → k ≡ refusal said
-    after-move zero r =
-        sym (refusal-is (pass (lt-ltb _ _ known) (pass-all (moveChecks s m) refl (sym moves ∙ zero) r)))
+module _ {s : State} {m : Move} {n : ℕ} (x : Moved s m n) where
+  pub move-refuses : (cs : List Check) → n ≢ 0 → n ≡ refusal (said s m cs)
+  move-refuses cs h =
+      let some : 0 < refusal (moveChecks s m) = omega (arith, x .number) in
+      x .number ∙ sym (refusal-is (pass (lt-ltb _ _ (x .known)) (stop-within (moveChecks s m) cs some)))
+
+  -- 7, 8 and 9 pass, and w is the train's status
+  module _ (zero : n ≡ 0) {w : Status} (own : w ≡ trainOf s (m .train .0) .status) where
+    after-move : {cs : List Check} {k : ℕ} → Refuses cs k → k ≡ refusal (said s m cs)
+    after-move r =
+        let passed = pass-all (moveChecks s m) refl (sym (x .number) ∙ zero) r in
+        sym (refusal-is (pass (lt-ltb _ _ (x .known)) passed))
+
+    -- of an FA 10, 11 and 13 are left
+    pub already-asked : isAsked w ≡ true → alreadyAsked ≡ refusal (contentChecks s (Fa m))
+    already-asked e = after-move (stop (rw (← own, e)))
+
+    module _ (unasked : isAsked w ≡ false) where
+      pub under-authority : isRunning w ≡ true → underAuthority ≡ refusal (contentChecks s (Fa m))
+      under-authority e = after-move (pass (rw (← own, unasked)) (stop (rw (← own, e))))
+
+      pub request-room : isRunning w ≡ false → {k : ℕ} → k ≡ refusal (check journalFull (hasRoom s) ∷ [])
+          → k ≡ refusal (contentChecks s (Fa m))
+      request-room e r = after-move (pass (rw (← own, unasked)) (pass (rw (← own, e)) (refuses-of _ (sym r))))
+
+    -- of an AM 12 and 13 are left
+    pub no-authority : isRunning w ≡ false → noAuthority ≡ refusal (contentChecks s (Am m))
+    no-authority e = after-move (stop (rw (← own, e)))
+
+    pub arrival-room : isRunning w ≡ true → {k : ℕ} → k ≡ refusal (check journalFull (hasRoom s) ∷ [])
+        → k ≡ refusal (contentChecks s (Am m))
+    arrival-room e r = after-move (pass (rw (← own, e)) (refuses-of _ (sym r)))
 
 -- ---- all checks of a frame
 

@@ -1,12 +1,7 @@
 -- `request_refusal` meets its contract: 7, then the checks of the move, then 10, 11 and 13.
-use mathlib.Core.Path.{_≡_, sym, ap, _∙_}
-use mathlib.Core.Bool.{false, not}
+use mathlib.Core.Path.{sym, _∙_}
 use borrow.Author.Needs.{needs}
-use Rattle.common.proofs.Tests.{not-of-false}
-use Rattle.common.proofs.Check.{stop, pass, refuses-of}
-use Rattle.checks.specs.Types.{Move, Status, State}
-use Rattle.rules.specs.State.{isAsked, isRunning, trainOf}
-use Rattle.checks.proofs.Refusals.{no-train, move-refuses, after-move}
+use Rattle.checks.proofs.Refusals.{no-train, Moved, move-refuses, already-asked, under-authority, request-room}
 use Rattle.checks.proofs.checks.request_refusal.Statement.{statement}
 use Rattle.checks.proofs.checks.request_refusal.Tie as tie
 
@@ -15,58 +10,37 @@ returns c = let a = c .before .before .before .args in no-train (a .state) (a .m
 
 -- the train is known, and its move was checked
 module _ (c : tie.After-move-refusal) where
-  abbrev s : State
-  s = c .before .before .before .before .args .state
+  abbrev start : tie.Start
+  start = c .before .before .before .before
 
-  abbrev m : Move
-  m = c .before .before .before .before .args .m
+  moved : Moved (start .args .state) (start .args .m) (c .move-refusal .result)
+  moved = record { known = c .before .if1 .left; number = c .move-refusal .ensures }
 
 returns-2 : tie.Need-returns-2
-returns-2 c =
-    let e = c .before in
-    move-refuses (s e) (m e) _ (e .before .if1 .left) _ (e .move-refusal .ensures) (c .if2 .taken)
-
--- the move is its next one, and it was looked whether it has asked
-module _ (c : tie.After-is-asked) where
-  abbrev on : tie.Else2
-  on = c .before .before
-
-  asked : isAsked (trainOf (s (on .before)) (m (on .before) .train .0) .status) ≡ c .is-asked .result
-  asked = ap (λ (w : Status). isAsked w) (sym (c .before .status-of .ensures)) ∙ sym (c .is-asked .ensures)
+returns-2 c = move-refuses (moved (c .before)) _ (c .if2 .taken)
 
 returns-3 : tie.Need-returns-3
 returns-3 c =
-    let e = on (c .before) in
-    let f = e .before in
-    after-move (s f) (m f) _ (f .before .if1 .left) _ (f .move-refusal .ensures) (e .if2 .left)
-    (stop (ap not (asked (c .before) ∙ c .if3 .taken)))
-
--- it has not, and it was looked whether it is under authority
-module _ (c : tie.After-is-running) where
-  abbrev tested : tie.After-is-asked
-  tested = c .before .before
-
-  unasked : isAsked (trainOf (s (on tested .before)) (m (on tested .before) .train .0) .status) ≡ false
-  unasked = asked tested ∙ c .before .if3 .left
-
-  runs : isRunning (trainOf (s (on tested .before)) (m (on tested .before) .train .0) .status) ≡ c .is-running .result
-  runs = ap (λ (w : Status). isRunning w) (sym (tested .before .status-of .ensures)) ∙ sym (c .is-running .ensures)
+    let w = c .before .before in
+    already-asked (moved (w .before .before)) (w .before .if2 .left) (w .status-of .ensures)
+    (sym (c .before .is-asked .ensures) ∙ c .if3 .taken)
 
 returns-4 : tie.Need-returns-4
 returns-4 c =
-    let e = on (tested (c .before)) in
-    let f = e .before in
-    after-move (s f) (m f) _ (f .before .if1 .left) _ (f .move-refusal .ensures) (e .if2 .left)
-    (pass (not-of-false _ (unasked (c .before))) (stop (ap not (runs (c .before) ∙ c .if4 .taken))))
+    let r = c .before in
+    let q = r .before .before in
+    let w = q .before in
+    under-authority (moved (w .before .before)) (w .before .if2 .left) (w .status-of .ensures)
+    (sym (q .is-asked .ensures) ∙ r .before .if3 .left) (sym (r .is-running .ensures) ∙ c .if4 .taken)
 
 returns-5 : tie.Need-returns-5
 returns-5 c =
     let r = c .before .before in
-    let e = on (tested r) in
-    let f = e .before in
-    after-move (s f) (m f) _ (f .before .if1 .left) _ (f .move-refusal .ensures) (e .if2 .left)
-    (pass (not-of-false _ (unasked r)) (pass (not-of-false _ (runs r ∙ c .before .if4 .left))
-    (refuses-of _ (sym (c .room-refusal .ensures)))))
+    let q = r .before .before in
+    let w = q .before in
+    request-room (moved (w .before .before)) (w .before .if2 .left) (w .status-of .ensures)
+    (sym (q .is-asked .ensures) ∙ r .before .if3 .left) (sym (r .is-running .ensures) ∙ c .before .if4 .left)
+    (c .room-refusal .ensures)
 
 pub request-refusal-spec : {M : Type 1} → statement M
 request-refusal-spec =
