@@ -1,5 +1,6 @@
 -- The claims on calls that follow one another. A caller keeps the bytes that a call left, and the next call reads from
--- them just what the rules gave: so a run of calls is a run of the rules, of which crate `assurance` shows the rest.
+-- them just what the rules gave: so a run of calls is a run of the rules, of which crates `assurance` and `conduct`
+-- show the rest.
 use mathlib.Core.Path.{_≡_}
 use mathlib.Core.Logic.{_≢_}
 use mathlib.Core.Bool.{true}
