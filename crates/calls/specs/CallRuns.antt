@@ -1,7 +1,8 @@
 -- The claims on a list of calls: quangevit_open, then quangevit_answer for each frame, with the bytes and the table
--- that the call before left. What the outside sees are the words and the out buffers. After an opening that answers 0
--- such a list is a run of the rules, so that demand 3, and all else that crates `assurance` and `conduct` show of runs,
--- holds of it; after one that is refused every frame is refused by 1.
+-- that the call before left. What the outside sees are the words and the out buffers, and for the tracks alone the
+-- records that a call added. After an opening that answers 0 such a list is a run of the rules, so that demand 3, and
+-- all else that crates `assurance` and `conduct` show of runs, holds of it; after one that is refused every frame is
+-- refused by 1.
 use mathlib.Core.Path.{_≡_}
 use mathlib.Core.Logic.{_≢_}
 use mathlib.Core.Bool.{true, cond}
