@@ -1,5 +1,5 @@
 -- What ties the state, the journal and the observer together, and one law for every change of one train's record with
--- one message logged.
+-- one record logged.
 use mathlib.Core.Path.{_≡_, refl, sym, ap, subst, _∙_}
 use mathlib.Core.Logic.{_≢_}
 use mathlib.Core.Bool.{true, false}

@@ -1,4 +1,4 @@
--- A request, an arrival, a grant and an AFE keep the invariant: each is a change of one train's record with one message
+-- A request, an arrival, a grant and an AFE keep the invariant: each is a change of one train's record with one record
 -- logged.
 use mathlib.Core.Path.{_≡_, refl, sym, ap, subst, _∙_}
 use mathlib.Core.Bool.{true, false, false≢true}
