@@ -7,10 +7,10 @@ use inputs::sizes::LONGEST_BOOK;
 /// A well formed book. It may still be overfull or have no way through.
 pub fn well_formed(random: &mut Random) -> Vec<u8> {
     let parts = parts(random);
-    if random.one_in(4) {
-        put_away(parts, random)
-    } else {
-        parts.bytes()
+    match random.below(16) {
+        0 => end_to_end(random),
+        1..=4 => put_away(parts, random),
+        _ => parts.bytes(),
     }
 }
 
@@ -162,6 +162,13 @@ fn head_on(random: &mut Random) -> Vec<u8> {
     let last = posts - 1;
     let tracks = vec![1; usize::from(posts)];
     Parts::new(&tracks, sidings(posts, random), &[[0, last], [last, 0]]).bytes()
+}
+
+/// Six trains go all the way on the longest line: at their ends their code is the largest.
+fn end_to_end(random: &mut Random) -> Vec<u8> {
+    let tracks = [(); 8].map(|()| random.between(2, 4));
+    let routes = [(); 6].map(|()| random.pick(&[[0, 7], [7, 0]]));
+    Parts::new(&tracks, sidings(8, random), &routes).bytes()
 }
 
 /// Most trains end at one post with few tracks and a siding, and some are parked there.

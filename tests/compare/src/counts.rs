@@ -106,6 +106,20 @@ const TRACKS: [&str; 20] = [
     "arrived and put away, no track",
 ];
 
+/// By which code the last authority of an answer was given, in the order of the names.
+#[derive(Debug, Clone, Copy, PartialEq, Eq)]
+pub enum CodeCase {
+    In16Bits,
+    Past16Bits,
+    Largest,
+}
+
+const CODES: [&str; 3] = [
+    "authority by a code up to 65,535",
+    "authority by a code above, below the largest",
+    "authority by the largest code, 262,143",
+];
+
 /// Kinds of inputs that a run must have had, beside what must have come of inputs.
 const DUE_INPUTS: [&str; 9] = [
     "state: valid",
@@ -132,6 +146,7 @@ pub struct Counts {
     phases: [u64; PHASES.len()],
     sidings: [u64; SIDINGS.len()],
     tracks: [u64; TRACKS.len()],
+    codes: [u64; CODES.len()],
 }
 
 impl Counts {
@@ -144,6 +159,7 @@ impl Counts {
             phases: [0; PHASES.len()],
             sidings: [0; SIDINGS.len()],
             tracks: [0; TRACKS.len()],
+            codes: [0; CODES.len()],
         }
     }
 
@@ -186,6 +202,12 @@ impl Counts {
         }
     }
 
+    pub fn codes(&mut self, cases: impl IntoIterator<Item = CodeCase>) {
+        for case in cases {
+            self.codes[case as usize] += 1;
+        }
+    }
+
     /// Frames put to the box, accepted and refused.
     pub fn frames(&self) -> u64 {
         self.refusals[Entry::Answer as usize].iter().sum()
@@ -214,6 +236,7 @@ impl Counts {
         failings.extend(never("phase", &PHASES, &self.phases));
         failings.extend(never("case of sidings:", &SIDINGS, &self.sidings));
         failings.extend(never("case of tracks:", &TRACKS, &self.tracks));
+        failings.extend(never("case of codes:", &CODES, &self.codes));
         let had = DUE_INPUTS.map(|kind| self.inputs.get(kind).copied().unwrap_or(0));
         failings.extend(never("input", &DUE_INPUTS, &had));
         failings
@@ -241,6 +264,7 @@ impl Counts {
         );
         print_names("what came of sidings", &SIDINGS, &self.sidings);
         print_names("what came of tracks", &TRACKS, &self.tracks);
+        print_names("codes of authorities", &CODES, &self.codes);
         let accepted = self.refusals[Entry::Answer as usize][0];
         println!("frames answered: {}, accepted: {accepted}", self.frames());
     }

@@ -6,6 +6,7 @@
 //! outputs, with status 1; so it does if anything that a run is to reach was never reached.
 
 mod books;
+mod codes;
 mod counts;
 mod desk;
 mod frames;
@@ -23,6 +24,10 @@ mod tables;
 mod tests;
 mod tracks;
 mod units;
+#[cfg(test)]
+mod wrong_boxes;
+#[cfg(test)]
+mod wrong_codes;
 #[cfg(test)]
 mod wrong_tracks;
 

@@ -2,7 +2,7 @@
 
 use crate::counts::{Counts, Entry};
 use crate::lent::{Lent, Side};
-use crate::{sidings, tracks};
+use crate::{codes, sidings, tracks};
 use boundary::Ends;
 use inputs::encoding::{train_at, trains_in, PHASE_AT};
 use inputs::sizes::FRAME_BYTES;
@@ -111,6 +111,7 @@ impl Pair {
             let cases = sidings::of_answer(state.bytes(), table.bytes(), sent);
             self.counts.sent(reply.sent);
             self.counts.sidings(cases);
+            self.counts.codes(codes::of_answer(state.bytes(), sent));
             self.count_trains(state, journal);
         } else if reply.refusal == 1 {
             self.counts.sidings(sidings::of_strange(state.bytes()));

@@ -1,11 +1,11 @@
 //! What sidings brought about, by the model: how an opening would have gone without them, and why a train waits.
 
 use crate::counts::SidingCase;
-use crate::state_tracks;
+use crate::{codes, state_tracks};
 use inputs::encoding::state_of;
 use inputs::frames::{AFE, KIND_AT, TO_AT, TRAIN_AT};
 use inputs::sizes::{FRAME_BYTES, JOURNAL_RECORDS, TABLE_BYTES};
-use model::{Line, Record, Standing, State, Train};
+use model::{Line, Record, State};
 use std::cmp::Ordering;
 use std::collections::HashSet;
 
@@ -115,16 +115,7 @@ fn lacks_a_track(state: &State, table: &[u8], afe: &[u8]) -> bool {
         && state.sidings >> to & 1 == 1
         && state.holders_of_section(train.at.min(to)) == 0
         && state.holders_of_post(to) == tracks
-        && model::table::bit(table, code_ahead(state, t))
-}
-
-/// The code of the placing in which this train and all Running ones have reached their next posts.
-fn code_ahead(state: &State, mover: usize) -> u64 {
-    let digit = |(t, train): (usize, &Train)| {
-        let ahead = t == mover || matches!(train.standing, Standing::Running(_));
-        u64::from(train.start.abs_diff(train.at) + u8::from(ahead)) << (3 * t)
-    };
-    state.present().iter().enumerate().map(digit).sum()
+        && model::table::bit(table, codes::ahead(state, Some(t)))
 }
 
 /// Of a state that was refused by 1: whatever tracks its trains had, it would be sound with other sidings alone.

@@ -278,11 +278,17 @@ fn runs() -> Vec<Input> {
         0x81,
         &[[0, 7], [7, 0], [1, 7], [6, 0], [2, 7], [5, 0]],
     );
+    // Six trains go all the way: at their ends their code is the largest.
+    let end_to_end = book(
+        &[3, 2, 2, 2, 2, 2, 2, 3],
+        &[[0, 7], [7, 0], [0, 7], [7, 0], [0, 7], [7, 0]],
+    );
     for (name, book) in [
         ("x", X.to_vec()),
         ("y", Y.to_vec()),
         ("largest", largest()),
         ("sidings", put_away),
+        ("end-to-end", end_to_end),
     ] {
         for seed in 1..=6 {
             let random = &mut Random::of_stored_runs(seed * 7919);

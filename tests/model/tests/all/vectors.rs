@@ -405,6 +405,23 @@ fn the_bit_asked_for() {
     assert_eq!(b.put(&frame(FA, 2, 6, 5)), Ok(vec![[AFE, 2, 6, 5]]));
 }
 
+/// The code "never exceeds 262,143": six trains have travelled seven posts each.
+#[test]
+fn the_largest_code() {
+    let [up, down] = [(0, 7, Standing::Free), (7, 0, Standing::Free)];
+    let mut s = state(&[4; 8], &[up, down, up, down, up, down], 1);
+    for train in &mut s.train {
+        train.at = train.end;
+    }
+    s.train[5].at = 1;
+    let mut b = boxed(s, bits(&[262_143]));
+    assert_eq!(b.put(&frame(FA, 5, 1, 0)), Ok(vec![[FE, 5, 1, 0]]));
+    let mut table = vec![255; TABLE_BYTES];
+    table[32_767] = 127;
+    let mut b = boxed(s, table);
+    assert_eq!(b.put(&frame(FA, 5, 1, 0)), Ok(vec![[AFE, 5, 1, 0]]));
+}
+
 /// Six FEs, or five and an AFE, and 169 records before them.
 #[test]
 fn six_frames_out() {
