@@ -36,8 +36,8 @@
 extern "C" {
 #endif
 
-/* 100 times the edition (what the ends answer) plus the revision: 300 is version 3.00. */
-#define QUANGEVIT_VERSION 300
+/* 100 times the edition (what the ends answer) plus the revision: 301 is version 3.01. */
+#define QUANGEVIT_VERSION 301
 
 #define QUANGEVIT_REFUSAL(answer) ((answer) & 255u)
 #define QUANGEVIT_SENT(answer) ((answer) >> 8)
