@@ -15,14 +15,14 @@ use Rattle.common.specs.Bits.{setBelow}
 use Rattle.common.proofs.Bits.{ones-set, set-none, set-low, set-more}
 use Rattle.common.proofs.Tests.{by-equality}
 use Rattle.line.specs.Route.{sectionOf}
-use Rattle.line.specs.Holding.{isStabled, holdsPost, holdsSection, postHolders, sectionHolders}
-use Rattle.line.proofs.Holding.{standing-holds, standing-section}
+use Rattle.line.specs.Holding.{holdsPost, holdsSection, postHolders, sectionHolders}
+use Rattle.line.proofs.Holding.{standing-section}
 use Rattle.tracks.specs.Answers.{withTrack}
 use Rattle.validity.specs.Types.{State, Holders}
 use Rattle.rules.specs.State.{isRunning, trackAhead, nextOf, trainOf, located}
 use Rattle.validity.specs.Holders.{PlacedAt, HeldBy, Held}
-use Rattle.validity.proofs.TrackSets.{TracksIn, heldAmong, tracks-none, tracks-standing, tracks-stabled}
-use Rattle.validity.proofs.TrackSets.{tracks-running}
+use Rattle.validity.proofs.TrackSets.{TracksIn, heldAmong, away, standing-at, tracks-none, tracks-standing}
+use Rattle.validity.proofs.TrackSets.{tracks-stabled, tracks-running}
 
 -- ---- one train more in a set
 
@@ -99,9 +99,6 @@ module _ (s : State) (n bit : ℕ) (is : bit ≡ 2 ^ n) (posts sections tracks :
   abbrev here : ℕ
   here = trainOf s n .at .0
 
-  abbrev end : ℕ
-  end = trainOf s n .route .end .0
-
   abbrev own : ℕ
   own = trainOf s n .track .0
 
@@ -109,32 +106,32 @@ module _ (s : State) (n bit : ℕ) (is : bit ≡ 2 ^ n) (posts sections tracks :
     no-section : (i : ℕ) → i < 8 → getD sections i 0 ≡ setBelow (n + 1) (λ t. holdsSection (located s t) i)
     no-section i k =
         joined-more n (λ t. holdsSection (located s t) i) _ (h .of-sections i k) false
-        (rw e (sym (standing-section (s .sidings) end here i)))
+        (rw e (sym (standing-section (s .sidings) (trainOf s n .route .end .0) here i)))
 
     -- "Another train holds a track at its present post."
-    pub sets-standing : isStabled (s .sidings) end here ≡ false → (w : ℕ) → w ≡ withTrack (getD tracks here 0) own
+    pub sets-standing : away s n ≡ false → (w : ℕ) → w ≡ withTrack (getD tracks here 0) own
         → Sets s (n + 1) (stored posts here bit) sections (set tracks here w)
-    sets-standing away w more = record {
+    sets-standing a w more = record {
       eight-posts = stored-size posts here bit ∙ h .eight-posts;
       eight-sections = h .eight-sections;
       of-posts = λ p k.
           stored-at posts here n bit is (omega (arith, h .eight-posts, placed .here)) p
           ∙ joined-more n (λ t. holdsPost (located s t) p) _ (h .of-posts p k) (eqb here p)
-          (rw e (sym (standing-holds (s .sidings) end here p ∙ rw away)));
+          (sym (standing-at s n e p ∙ rw a));
       of-sections = no-section;
-      of-tracks = tracks-standing s n tracks (h .of-tracks) e (placed .here) away w more;
+      of-tracks = tracks-standing s n tracks (h .of-tracks) e (placed .here) a w more;
     }
 
     -- one that is stabled holds none
-    pub sets-stabled : isStabled (s .sidings) end here ≡ true → Sets s (n + 1) posts sections tracks
-    sets-stabled away = record {
+    pub sets-stabled : away s n ≡ true → Sets s (n + 1) posts sections tracks
+    sets-stabled a = record {
       eight-posts = h .eight-posts;
       eight-sections = h .eight-sections;
       of-posts = λ p k.
           joined-more n (λ t. holdsPost (located s t) p) _ (h .of-posts p k) false
-          (rw e (sym (standing-holds (s .sidings) end here p ∙ rw away)));
+          (sym (standing-at s n e p ∙ rw a));
       of-sections = no-section;
-      of-tracks = tracks-stabled s n tracks (h .of-tracks) e away;
+      of-tracks = tracks-stabled s n tracks (h .of-tracks) e a;
     }
 
   -- "A Running train, from its present post p to q, holds the section between them and a track at each of p and q."

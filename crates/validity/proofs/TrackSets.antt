@@ -1,7 +1,7 @@
 -- The sets of the tracks that are held: one train's track more in them.
 use mathlib.Core.Path.{_≡_, refl, sym, ap, _∙_}
 use mathlib.Core.Logic.{_≢_}
-use mathlib.Core.Bool.{Bool, true, false, _&&_, _||_, or-false, or-comm}
+use mathlib.Core.Bool.{Bool, true, false, not, _&&_, _||_, or-false, or-comm}
 use mathlib.Core.List.{List}
 use Prim.Native.Nat.{ℕ, _+_, _<_}
 use native.Mathlib.Numerals.{add-one}
@@ -69,6 +69,15 @@ module _ (x : Train) (p k : ℕ) (b : Bool) where
       rw (e, eq-eqb (x .at .0) p y, other) (or-false (c || eqb (x .track .0) k)))
       (λ y. rw (e, ne-eqb (x .at .0) p y, or-false c, ahead))
 
+-- train n is at its end, where there is a siding
+abbrev pub away : State → ℕ → Bool
+away s n = isStabled (s .sidings) (trainOf s n .route .end .0) (trainOf s n .at .0)
+
+-- a train that is not Running holds its own post, or none where it is put away
+pub standing-at : (s : State) (n : ℕ) → isRunning (trainOf s n .status) ≡ false → (p : ℕ)
+    → holdsPost (located s n) p ≡ not (away s n) && eqb (trainOf s n .at .0) p
+standing-at s n e p = rw e (standing-holds (s .sidings) (trainOf s n .route .end .0) (trainOf s n .at .0) p)
+
 module _ (s : State) (n : ℕ) (sets : List ℕ) (h : TracksIn (heldAmong s n) sets) where
   among-more : (p k : ℕ) → heldAmong s n p k || holdsTrack s p k n ≡ heldAmong s (n + 1) p k
   unfolding anyBelow
@@ -77,25 +86,21 @@ module _ (s : State) (n : ℕ) (sets : List ℕ) (h : TracksIn (heldAmong s n) s
   abbrev here : ℕ
   here = trainOf s n .at .0
 
-  abbrev end : ℕ
-  end = trainOf s n .route .end .0
-
   abbrev own : ℕ
   own = trainOf s n .track .0
 
   module _ (e : isRunning (trainOf s n .status) ≡ false) where
     -- a train that stands holds its own track at its own post
-    pub tracks-standing : here < 8 → isStabled (s .sidings) end here ≡ false
+    pub tracks-standing : here < 8 → away s n ≡ false
         → (w : ℕ) → w ≡ withTrack (getD sets here 0) own → TracksIn (heldAmong s (n + 1)) (set sets here w)
-    tracks-standing small away w more = retested (mark h here own w small more) (heldAmong s (n + 1)) (λ p k.
-        let holds : holdsPost (located s n) p ≡ eqb here p =
-        rw e (standing-holds (s .sidings) end here p ∙ rw away) in
+    tracks-standing small a w more = retested (mark h here own w small more) (heldAmong s (n + 1)) (λ p k.
+        let holds : holdsPost (located s n) p ≡ eqb here p = standing-at s n e p ∙ rw a in
         ap (λ (b : Bool). heldAmong s n p k || b) (one-post (trainOf s n) p k _ holds) ∙ among-more p k)
 
     -- or none where it is stabled
-    pub tracks-stabled : isStabled (s .sidings) end here ≡ true → TracksIn (heldAmong s (n + 1)) sets
-    tracks-stabled away = retested h (heldAmong s (n + 1)) (λ p k.
-        let none : holdsPost (located s n) p ≡ false = rw e (standing-holds (s .sidings) end here p ∙ rw away) in
+    pub tracks-stabled : away s n ≡ true → TracksIn (heldAmong s (n + 1)) sets
+    tracks-stabled a = retested h (heldAmong s (n + 1)) (λ p k.
+        let none : holdsPost (located s n) p ≡ false = standing-at s n e p ∙ rw a in
         sym (or-false (heldAmong s n p k))
         ∙ ap (λ (b : Bool). heldAmong s n p k || (b && eqb (trackAt (trainOf s n) p) k)) (sym none)
         ∙ among-more p k)
