@@ -1,7 +1,8 @@
 -- A line and a state part by part: the length, and what stands where, for every train at once.
 use mathlib.Core.Path.{_≡_, refl, sym, ap, _∙_}
 use mathlib.Core.List.{List, [], _∷_}
-use Prim.Native.Nat.{ℕ, _+_, _*_, _<_}
+use Prim.Native.Nat.{ℕ, _+_, _*_, _≤_, _<_}
+use native.Mathlib.Nat.{mul-suc, mul-le-mul-left}
 use native.Mathlib.Omega.{arith}
 use lib.ListN.{length, getD, length-append}
 use Rattle.line.specs.Line.{routeOf, noRoute}
@@ -9,10 +10,10 @@ use Rattle.rules.specs.State.{trainOf, noTrain}
 use Rattle.encoding.specs.Types.{Line, State}
 use Rattle.encoding.specs.Parts.{joined, each, headParts, headBytes, postsByte, tracksByte, sidingsByte}
 use Rattle.encoding.specs.Parts.{trainsByte, headLength}
-use Rattle.encoding.specs.LineBytes.{lineLength, routeLength, routeEnds, routeAt, lineParts, lineBytes}
+use Rattle.encoding.specs.LineBytes.{lineLength, routeLength, routeEnds, routeAt, lineBytes}
 use Rattle.encoding.specs.StateBytes.{stateLength, trainLength, standingBytes, trainBytes, trainAt, loggedAt}
-use Rattle.encoding.specs.StateBytes.{stateParts, stateBytes}
-use Rattle.encoding.proofs.Parts.{At, AllAt, same-place, bytes-at, within, joined-at, length-each, each-at}
+use Rattle.encoding.specs.StateBytes.{stateBytes}
+use Rattle.encoding.proofs.Parts.{At, AllAt, bytes-at, within, joined-at, length-each, each-at}
 
 -- ---- the head
 
@@ -42,30 +43,53 @@ module _ (posts : ℕ) (tracks : List ℕ) (sidings trains : ℕ) (eight : lengt
     pub trains-at : At b trainsByte (trains ∷ [])
     trains-at = within a (head-parts .1 .1 .1 .0) (omega (arith, head-length)) (omega arith)
 
+-- ---- what a line and a state have in common
+
+-- b is a head, six things of w bytes each, and the rest
+record Laid {A : Type 0} (f : A → List ℕ) (w : ℕ) (head : List ℕ) (l : List A) (rest : List (List ℕ)) (b : List ℕ)
+    : Type 0 where
+  pub begins : At b 0 head
+  pub things : length (each f l) ≡ w * 6
+  pub thing : (t : ℕ) (d : A) → t < 6 → At b (headLength + w * t) (f (getD l t d))
+  pub ends : AllAt b (headLength + w * 6) rest
+  pub size : length b ≡ headLength + w * 6 + length (joined rest)
+
+laid : {A : Type 0} (f : A → List ℕ) (w : ℕ) → ((x : A) → length (f x) ≡ w) → (head : List ℕ)
+    → length head ≡ headLength → (l : List A) → length l ≡ 6 → (rest : List (List ℕ))
+    → Laid f w head l rest (joined (head ∷ each f l ∷ rest))
+unfolding joined
+laid f w wide head eleven l six rest =
+    let at = joined-at (head ∷ each f l ∷ rest) in
+    let all : length (each f l) ≡ w * 6 = length-each f w wide l ∙ ap (λ (n : ℕ). w * n) six in
+    record {
+      begins = at .0;
+      things = all;
+      thing = λ t d h.
+          let fits : w * t + length (f (getD l t d)) ≤ length (each f l) =
+          rw (wide (getD l t d), all, ← mul-suc) (mul-le-mul-left w h) in
+          within (at .1 .0) (each-at f w wide l t d (omega (arith, six))) fits (omega (arith, eleven));
+      ends = rw (eleven, all) at (at .1 .1);
+      size = simp length-append (omega (arith, eleven, all));
+    }
+
 -- ---- a line
 
 module _ (l : Line) (eight : length (l .tracks) ≡ 8) (six : length (l .routes) ≡ 6) where
-  line-head-length : length (headBytes (l .posts) (l .tracks) (l .sidings) (l .trains)) ≡ headLength
-  line-head-length = head-length (l .posts) (l .tracks) (l .sidings) (l .trains) eight
-
-  routes-length : length (each routeEnds (l .routes)) ≡ routeLength * 6
-  routes-length = length-each routeEnds routeLength (λ r. refl) (l .routes) ∙ ap (λ (n : ℕ). routeLength * n) six
-
-  line-parts : AllAt (lineBytes l) 0 (lineParts l)
+  line-laid : Laid routeEnds routeLength (headBytes (l .posts) (l .tracks) (l .sidings) (l .trains)) (l .routes) []
+      (lineBytes l)
   unfolding lineBytes
-  line-parts = joined-at (lineParts l)
+  line-laid = laid routeEnds routeLength (λ r. refl) _
+      (head-length (l .posts) (l .tracks) (l .sidings) (l .trains) eight) (l .routes) six []
 
   pub line-length : length (lineBytes l) ≡ lineLength
-  unfolding lineBytes joined
-  line-length = simp length-append (omega (arith, line-head-length, routes-length))
+  unfolding joined
+  line-length = line-laid .size
 
   pub line-head : At (lineBytes l) 0 (headBytes (l .posts) (l .tracks) (l .sidings) (l .trains))
-  line-head = line-parts .0
+  line-head = line-laid .begins
 
   pub at-route : (t : ℕ) → t < 6 → At (lineBytes l) (routeAt t) (routeEnds (routeOf l t))
-  at-route t h =
-      within (line-parts .1 .0) (each-at routeEnds routeLength (λ r. refl) (l .routes) t noRoute (omega arith))
-      (omega (arith, routes-length)) (omega (arith, line-head-length))
+  at-route t h = line-laid .thing t noRoute h
 
 -- ---- a state
 
@@ -73,24 +97,23 @@ module _ (s : State) (eight : length (s .tracks) ≡ 8) (six : length (s .fleet)
   pub state-head-length : length (headBytes (s .posts) (s .tracks) (s .sidings) (s .trains)) ≡ headLength
   state-head-length = head-length (s .posts) (s .tracks) (s .sidings) (s .trains) eight
 
-  pub fleet-length : length (each trainBytes (s .fleet)) ≡ trainLength * 6
-  fleet-length = length-each trainBytes trainLength (λ x. refl) (s .fleet) ∙ ap (λ (n : ℕ). trainLength * n) six
-
-  state-parts : AllAt (stateBytes s) 0 (stateParts s)
+  state-laid : Laid trainBytes trainLength (headBytes (s .posts) (s .tracks) (s .sidings) (s .trains)) (s .fleet)
+      ((s .logged ∷ []) ∷ []) (stateBytes s)
   unfolding stateBytes
-  state-parts = joined-at (stateParts s)
+  state-laid = laid trainBytes trainLength (λ x. refl) _ state-head-length (s .fleet) six ((s .logged ∷ []) ∷ [])
+
+  pub fleet-length : length (each trainBytes (s .fleet)) ≡ trainLength * 6
+  fleet-length = state-laid .things
 
   pub state-length : length (stateBytes s) ≡ stateLength
-  unfolding stateBytes joined
-  state-length = simp length-append (omega (arith, state-head-length, fleet-length))
+  unfolding joined
+  state-length = state-laid .size
 
   pub state-head : At (stateBytes s) 0 (headBytes (s .posts) (s .tracks) (s .sidings) (s .trains))
-  state-head = state-parts .0
+  state-head = state-laid .begins
 
   pub at-train : (t : ℕ) → t < 6 → At (stateBytes s) (trainAt t) (trainBytes (trainOf s t))
-  at-train t h =
-      within (state-parts .1 .0) (each-at trainBytes trainLength (λ x. refl) (s .fleet) t noTrain (omega arith))
-      (omega (arith, fleet-length)) (omega (arith, state-head-length))
+  at-train t h = state-laid .thing t noTrain h
 
   -- its route, and what a frame can change of it
   pub at-ends : (t : ℕ) → t < 6 → At (stateBytes s) (trainAt t) (routeEnds (trainOf s t .route))
@@ -101,6 +124,4 @@ module _ (s : State) (eight : length (s .tracks) ≡ 8) (six : length (s .fleet)
       within (at-train t h) (bytes-at {n = routeLength} (refl, (refl, (refl, (refl, tt))))) (omega arith) (omega arith)
 
   pub at-logged : getD (stateBytes s) loggedAt 0 ≡ s .logged
-  at-logged =
-      same-place (stateBytes s) (omega (arith, state-head-length, fleet-length))
-      ∙ sym (state-parts .1 .1 .0 .byte 0 (omega arith))
+  at-logged = sym (state-laid .ends .0 .byte 0 (omega arith))
