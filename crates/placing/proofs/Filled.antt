@@ -98,13 +98,13 @@ module _ {s b to : List ℕ} {n : ℕ} (f : Filled s b to n) where
   pub filled : length b ≤ n → to ≡ b
   filled h = ext-getD 0 to b (f .size) (λ k l. f .first k (omega (arith, f .size)))
 
-as-many : {s b to : List ℕ} {n m : ℕ} → Filled s b to n → m ≡ n → Filled s b to m
-as-many {s} {b} {to} f e = subst (Filled s b to) (sym e) f
+same-filled : {s b to : List ℕ} {n m : ℕ} → Filled s b to n → m ≡ n → Filled s b to m
+same-filled {s} {b} {to} f e = subst (Filled s b to) (sym e) f
 
 -- the last byte is put, at place m
 pub last-byte : {s b to : List ℕ} {n : ℕ} → Filled s b to n → (m v : ℕ) → m ≡ n → v ≡ getD b m 0
     → length b ≡ m + 1 → set to m v ≡ b
-last-byte f m v e same size = filled (byte-more (as-many f e) v same (omega arith)) (omega arith)
+last-byte f m v e same size = filled (byte-more (same-filled f e) v same (omega arith)) (omega arith)
 
 -- the next four bytes are put one by one
 pub four-more : {s b to : List ℕ} {n : ℕ} → Filled s b to n → (v₀ v₁ v₂ v₃ : ℕ) → At b n (v₀ ∷ v₁ ∷ v₂ ∷ v₃ ∷ [])
@@ -112,9 +112,9 @@ pub four-more : {s b to : List ℕ} {n : ℕ} → Filled s b to n → (v₀ v₁
     → Filled s b (set (set (set (set to n v₀) (n + 1) v₁) (n + 2) v₂) (n + 3) v₃) m
 four-more {b} {n} f v₀ v₁ v₂ v₃ y fits m q =
     let one = byte-more f v₀ (y .byte 0 (omega arith) ∙ same-place b (omega arith)) (omega arith) in
-    let two = as-many {m = n + 2} (byte-more one v₁ (y .byte 1 (omega arith)) (omega arith)) (omega arith) in
-    let three = as-many {m = n + 3} (byte-more two v₂ (y .byte 2 (omega arith)) (omega arith)) (omega arith) in
-    as-many (byte-more three v₃ (y .byte 3 (omega arith)) (omega arith)) (omega arith)
+    let two = same-filled {m = n + 2} (byte-more one v₁ (y .byte 1 (omega arith)) (omega arith)) (omega arith) in
+    let three = same-filled {m = n + 3} (byte-more two v₂ (y .byte 2 (omega arith)) (omega arith)) (omega arith) in
+    same-filled (byte-more three v₃ (y .byte 3 (omega arith)) (omega arith)) (omega arith)
 
 -- ---- the head
 
