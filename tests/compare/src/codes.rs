@@ -21,12 +21,12 @@ pub fn ahead(state: &State, mover: Option<usize>) -> u64 {
 /// Of an accepted frame: the state after it, and the frames sent. The last FE was given by the placing in which all trains
 /// that are Running now have reached their next posts.
 pub fn of_answer(state: &[u8], sent: &[u8]) -> Option<CodeCase> {
-    let state = state_of(state)?;
-    let granted = sent.chunks_exact(FRAME_BYTES).any(|f| f[KIND_AT] == FE);
-    match ahead(&state, None) {
-        _ if !granted => None,
-        LARGEST => Some(CodeCase::Largest),
-        code if code > u64::from(u16::MAX) => Some(CodeCase::Past16Bits),
-        _ => Some(CodeCase::In16Bits),
+    if sent.chunks_exact(FRAME_BYTES).all(|f| f[KIND_AT] != FE) {
+        return None;
     }
+    Some(match ahead(&state_of(state)?, None) {
+        0..=65_535 => CodeCase::In16Bits,
+        LARGEST => CodeCase::Largest,
+        _ => CodeCase::Past16Bits,
+    })
 }

@@ -1,14 +1,14 @@
 //! The comparison can fail: whatever one side answers or writes otherwise is seen.
 
-use crate::counts::{Entry, SidingCase, TrackCase};
+use crate::counts::{CodeCase, Entry, SidingCase, TrackCase};
 use crate::model_ends::Model;
 use crate::pair::Pair;
-use crate::{all, sidings, state_tracks, states, tracks, Options};
+use crate::{all, codes, sidings, state_tracks, states, tracks, Options};
 use boundary::Ends;
 use inputs::books::{book, book_2, X};
 use inputs::crews;
 use inputs::encoding::{put_records, state_bytes, state_of};
-use inputs::frames::{AM, FA, FE};
+use inputs::frames::{frame, AFE, AM, FA, FE};
 use inputs::random::Random;
 use inputs::sizes::JOURNAL_BYTES;
 use model::{Record, Standing, State};
@@ -157,6 +157,7 @@ fn what_is_never_reached_fails() {
         "status Running never reached",
         "case of sidings: a train put away never reached",
         "case of tracks: authority to track 4 never reached",
+        "case of codes: authority by the largest code, 262,143 never reached",
         "input table: all ones never reached",
     ] {
         assert!(failings.contains(&due.to_string()), "{failings:?}");
@@ -295,4 +296,25 @@ fn tracks_of_an_answer_are_told() {
         TrackCase::Unread,
     ];
     assert_eq!(told, expected);
+}
+
+/// Six trains that go all the way, and so many posts travelled by each; the last of them is Running, one post short of that.
+#[test]
+fn codes_of_an_answer_are_told() {
+    let line = book(&[4; 8], &[[0, 7], [7, 0], [0, 7], [7, 0], [0, 7], [7, 0]]);
+    let opened = crews::open(&line).unwrap().state;
+    let told = |travelled: [u8; 6], kind| {
+        let mut state = opened;
+        for (train, posts) in state.train.iter_mut().zip(travelled) {
+            train.at = if train.is_up() { posts } else { 7 - posts };
+        }
+        let to = state.train[5].at;
+        (state.train[5].at, state.train[5].standing) = (to + 1, Standing::Running(1));
+        codes::of_answer(&state_bytes(&state), &frame(kind, 5, to + 1, to))
+    };
+    assert_eq!(told([7; 6], FE), Some(CodeCase::Largest));
+    assert_eq!(told([6, 7, 7, 7, 7, 7], FE), Some(CodeCase::Past16Bits));
+    assert_eq!(told([0, 0, 0, 0, 0, 2], FE), Some(CodeCase::Past16Bits));
+    assert_eq!(told([7, 7, 7, 7, 7, 1], FE), Some(CodeCase::In16Bits));
+    assert_eq!(told([7; 6], AFE), None);
 }
