@@ -1,13 +1,16 @@
 //! The dispatcher: its state, what makes a state sound, the opening of a
-//! book, and the answer to a frame (refusals 1 to 13, 19, 20).
+//! book, and the answer to a frame (refusals 1 to 13, 19, 20, 24 to 26).
 
-use crate::frame::{read_frame, write_frame, Message, Move, FRAME_BYTES};
+use crate::frame::{read_frame, write_frame, Message, Move, FRAME_BYTES, GANG};
 use crate::journal::{log, Record, JOURNAL_RECORDS, RECORDS_A_FRAME};
 use crate::line::{has_siding, on_the_line, read_book, Line};
 use crate::table::{bit, code, fill, lawful, TABLE_BYTES};
 
 /// Bytes an out buffer must have: six frames.
 pub const OUT_BYTES: usize = 6 * FRAME_BYTES;
+
+/// Local runs that are given from an opening on, at the most.
+pub const LOCAL_RUNS: u8 = 20;
 
 /// What a train is about; an Asked train has the journal number of its FA, a
 /// Running train its track at the post it runs to.
@@ -29,8 +32,8 @@ pub struct Train {
     pub standing: Standing,
 }
 
-/// The dispatcher's state. Places for posts from `posts` on and trains from
-/// `trains` on are not read.
+/// The dispatcher's state. Places for posts from `posts` on, trains from
+/// `trains` on and sections from `posts` - 1 on are not read.
 #[derive(Debug, Clone, Copy, PartialEq, Eq)]
 pub struct State {
     pub posts: u8,
@@ -39,6 +42,10 @@ pub struct State {
     pub sidings: u8,
     pub trains: u8,
     pub train: [Train; 6],
+    /// A track gang has section i.
+    pub possessions: [bool; 7],
+    /// Local runs given since the opening.
+    pub given: u8,
     pub journal: u8,
 }
 
@@ -108,6 +115,8 @@ impl State {
         sidings: 0,
         trains: 0,
         train: [Train::EMPTY; 6],
+        possessions: [false; 7],
+        given: 0,
         journal: 0,
     };
 
@@ -144,10 +153,23 @@ impl State {
         }
     }
 
-    /// How many trains hold the section.
+    /// The line has the section: both its posts are below P.
+    fn has_section(&self, section: u8) -> bool {
+        section < self.posts.saturating_sub(1)
+    }
+
+    /// A gang holds the section. Places of sections that the line has not are
+    /// not read.
+    pub fn gang_holds(&self, section: u8) -> bool {
+        let place = self.possessions.get(usize::from(section));
+        self.has_section(section) && place == Some(&true)
+    }
+
+    /// How many hold the section, trains and a gang counted together.
     pub fn holders_of_section(&self, section: u8) -> usize {
         let holds = |t: &&Train| t.held_section() == Some(section);
-        self.present().iter().filter(holds).count()
+        let trains = self.present().iter().filter(holds).count();
+        trains + usize::from(self.gang_holds(section))
     }
 }
 
@@ -161,6 +183,7 @@ pub fn sound(state: &State) -> bool {
     let ranges = (2..=8).contains(&state.posts)
         && (1..=6).contains(&state.trains)
         && on_the_line(state.sidings, state.posts)
+        && state.given <= LOCAL_RUNS
         && usize::from(state.journal) <= JOURNAL_RECORDS;
     if !ranges {
         return false;
@@ -256,14 +279,24 @@ fn place(line: &Line) -> State {
     state
 }
 
-/// The checks 3 to 13 on a frame put to a sound state: what passes is an FA or
-/// an AM of one of its trains.
+/// The checks from 3 on of a frame put to a sound state: what passes is an FA
+/// or an AM of one of its trains, or an LA or an LB for one of its sections.
 fn accept(state: &State, frame: &[u8]) -> Result<Message, u8> {
     let message = read_frame(frame)?;
-    let m = message.movement();
-    if matches!(message, Message::Fe(_) | Message::Afe(_)) {
-        return Err(6);
+    match message {
+        Message::Fe(_) | Message::Afe(_) | Message::Le(_) => return Err(6),
+        Message::Fa(_) | Message::Am(_) => check_train(state, message)?,
+        Message::La(_) | Message::Lb(_) => check_gang(state, message)?,
     }
+    if JOURNAL_RECORDS - usize::from(state.journal) < RECORDS_A_FRAME {
+        return Err(13);
+    }
+    Ok(message)
+}
+
+/// The checks 7 to 12 of an FA or an AM.
+fn check_train(state: &State, message: Message) -> Result<(), u8> {
+    let m = message.movement();
     let Some(train) = state.present().get(usize::from(m.train)) else {
         return Err(7);
     };
@@ -274,15 +307,29 @@ fn accept(state: &State, frame: &[u8]) -> Result<Message, u8> {
         return Err(9);
     }
     match (message, train.standing) {
-        (Message::Fa(_), Standing::Asked(_)) => return Err(10),
-        (Message::Fa(_), Standing::Running(_)) => return Err(11),
-        (Message::Fa(_), Standing::Free) | (_, Standing::Running(_)) => {}
-        (_, _) => return Err(12),
+        (Message::Fa(_), Standing::Asked(_)) => Err(10),
+        (Message::Fa(_), Standing::Running(_)) => Err(11),
+        (Message::Fa(_), Standing::Free) | (_, Standing::Running(_)) => Ok(()),
+        (_, _) => Err(12),
     }
-    if JOURNAL_RECORDS - usize::from(state.journal) < RECORDS_A_FRAME {
-        return Err(13);
+}
+
+/// The checks 7, 9 and 24 to 26 of an LA or an LB. It names its section by the
+/// two neighbouring posts, the lower first.
+fn check_gang(state: &State, message: Message) -> Result<(), u8> {
+    let m = message.movement();
+    if m.train != GANG {
+        return Err(7);
     }
-    Ok(message)
+    if !state.has_section(m.from) || m.to != m.from + 1 {
+        return Err(9);
+    }
+    match message {
+        Message::La(_) if state.holders_of_section(m.from) > 0 => Err(24),
+        Message::La(_) if state.given >= LOCAL_RUNS => Err(26),
+        Message::Lb(_) if !state.gang_holds(m.from) => Err(25),
+        _ => Ok(()),
+    }
 }
 
 /// The move a train of the state is about to make or makes.
@@ -334,9 +381,21 @@ fn oldest_grantable(state: &State, table: &[u8]) -> Option<(usize, u8)> {
         .find_map(|(_, t)| Some((t, grantable_on(state, table, t)?)))
 }
 
-/// The effect of an accepted frame itself. At the post it ran to a train has
-/// the track that it ran to, or none where it is put away.
+/// The effect of an accepted frame itself.
 fn take(state: &mut State, message: Message) {
+    match message {
+        Message::La(m) => {
+            state.possessions[usize::from(m.from)] = true;
+            state.given += 1;
+        }
+        Message::Lb(m) => state.possessions[usize::from(m.from)] = false,
+        _ => take_of_train(state, message),
+    }
+}
+
+/// The effect of an accepted FA or AM itself. At the post it ran to a train
+/// has the track that it ran to, or none where it is put away.
+fn take_of_train(state: &mut State, message: Message) {
     let m = message.movement();
     let train = &mut state.train[usize::from(m.train)];
     match (message, train.standing) {
@@ -390,7 +449,11 @@ pub fn answer(
 
     let mut after = *state;
     take(&mut after, message);
-    let answers = grant(&mut after, table, message);
+    let answers = match message {
+        // A gang that asks is given its section, and nobody else is looked at.
+        Message::La(m) => vec![(Message::Le(m), 0)],
+        _ => grant(&mut after, table, message),
+    };
     after.journal = log(journal, after.journal, Record::of(message, 0));
     for ((sent, track), place) in answers.iter().zip(out.chunks_exact_mut(FRAME_BYTES)) {
         after.journal = log(journal, after.journal, Record::of(*sent, *track));

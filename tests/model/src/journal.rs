@@ -4,7 +4,7 @@
 use crate::frame::Message;
 
 /// Records a journal must have; more may be lent and stay untouched.
-pub const JOURNAL_RECORDS: usize = 176;
+pub const JOURNAL_RECORDS: usize = 236;
 
 /// Records that a frame adds at the most: its own and six answers.
 pub const RECORDS_A_FRAME: usize = 7;
@@ -49,13 +49,16 @@ impl Record {
             2 => "FE",
             3 => "AFE",
             4 => "AM",
+            5 => "LA",
+            6 => "LE",
+            7 => "LB",
             _ => "?",
         }
     }
 }
 
 /// Writes a record at the count and gives the new count. With no place left,
-/// by the paper's 176 or by the slice, nothing changes.
+/// by the card's 236 or by the slice, nothing changes.
 pub fn log(journal: &mut [Record], count: u8, record: Record) -> u8 {
     let at = usize::from(count);
     if at < JOURNAL_RECORDS && at < journal.len() {

@@ -125,6 +125,7 @@ pub fn hear(unit: &Unit, frame: &[u8]) -> (Unit, u8) {
     };
     match message {
         Message::Fa(_) | Message::Am(_) => (*unit, 6),
+        Message::La(_) | Message::Le(_) | Message::Lb(_) => (*unit, 0),
         Message::Fe(m) if m.train != unit.train => (*unit, 0),
         Message::Fe(m) => {
             let awaited = matches!(unit.state, UnitState::Asked | UnitState::Declined);

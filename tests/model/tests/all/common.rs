@@ -11,6 +11,9 @@ pub const FA: u8 = 1;
 pub const FE: u8 = 2;
 pub const AFE: u8 = 3;
 pub const AM: u8 = 4;
+pub const LA: u8 = 5;
+pub const LE: u8 = 6;
+pub const LB: u8 = 7;
 
 /// What a unit can be in, and what can be pressed.
 pub const STATES: [UnitState; 6] = [
@@ -27,7 +30,7 @@ pub fn frame(kind: u8, train: u8, from: u8, to: u8) -> [u8; FRAME_BYTES] {
     [0, 5, 1, kind, train, from, to]
 }
 
-/// The record of an FA, AFE or AM: it has no track.
+/// The record of anything but an FE: it has no track.
 pub fn record(kind: u8, train: u8, from: u8, to: u8) -> Record {
     Record {
         kind,
@@ -75,6 +78,36 @@ pub fn book(tracks: &[u8], trains: &[(u8, u8)]) -> Vec<u8> {
     book_of(tracks, None, trains)
 }
 
+/// A table with only these bits set.
+pub fn bits(codes: &[u64]) -> Vec<u8> {
+    let mut table = vec![0; TABLE_BYTES];
+    for c in codes {
+        table[(c / 8) as usize] |= 1 << (c % 8);
+    }
+    table
+}
+
+/// A state of the line with each train at its start, there on the first track that none before
+/// it has.
+pub fn state(tracks: &[u8], trains: &[(u8, u8, Standing)], journal: u8) -> State {
+    let mut s = State::EMPTY;
+    s.posts = tracks.len() as u8;
+    s.tracks[..tracks.len()].copy_from_slice(tracks);
+    s.trains = trains.len() as u8;
+    for (t, (start, end, standing)) in trains.iter().enumerate() {
+        let before = trains[..t].iter().filter(|other| other.0 == *start);
+        s.train[t] = Train {
+            start: *start,
+            end: *end,
+            at: *start,
+            track: before.count() as u8 + 1,
+            standing: *standing,
+        };
+    }
+    s.journal = journal;
+    s
+}
+
 /// A box with its stores, as a run needs them.
 pub struct Box {
     pub state: State,
@@ -99,11 +132,13 @@ impl Box {
     /// Puts a frame; gives the frames sent (kind, train, from, to) or the refusal.
     pub fn put(&mut self, frame: &[u8]) -> Result<Vec<[u8; 4]>, u8> {
         let mut out = [0xEE; OUT_BYTES];
+        let journal = self.journal.clone();
         let (state, verdict) = answer(&self.state, &self.table, &mut self.journal, frame, &mut out);
         match verdict {
             Verdict::Refused(number) => {
                 assert_eq!(state, self.state);
                 assert_eq!(out, [0xEE; OUT_BYTES]);
+                assert_eq!(self.journal, journal);
                 Err(number)
             }
             Verdict::Sent(count) => {
@@ -119,6 +154,15 @@ impl Box {
                     .collect())
             }
         }
+    }
+}
+
+/// A box with this state and table, and a blank journal.
+pub fn boxed(state: State, table: Vec<u8>) -> Box {
+    Box {
+        state,
+        table,
+        journal: vec![Record::BLANK; JOURNAL_RECORDS],
     }
 }
 

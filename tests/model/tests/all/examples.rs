@@ -22,6 +22,8 @@ fn a_x_opens() {
         sidings: 0,
         trains: 2,
         train,
+        possessions: [false; 7],
+        given: 0,
         journal: 0,
     };
     assert_eq!(b.state, expected);

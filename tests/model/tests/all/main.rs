@@ -2,6 +2,7 @@
 
 mod common;
 mod examples;
+mod local_runs;
 mod runs;
 mod sidings;
 mod table;

@@ -1,5 +1,6 @@
 //! Random runs: demand 3 told by a tally that reads book, frames, answers and
 //! refusals only; each refusal and each answer against the tally as well.
+//! Crews and track gangs send the frames.
 
 use crate::common::*;
 use crate::tally::{Has, Tally};
@@ -14,9 +15,15 @@ pub struct Run {
     /// The record of every FE that went out, in order.
     pub authorities: Vec<Record>,
     pub right_table: bool,
-    refused: [u64; 24],
+    /// Of a hundred random frames so many are a gang's.
+    gangs: u64,
+    refused: [u64; 27],
     accepted: u64,
     most_sent: usize,
+    /// LBs that let several trains go.
+    several_back: u64,
+    /// Frames after which all trains short of their ends waited.
+    stuck: u64,
 }
 
 impl Run {
@@ -30,15 +37,7 @@ impl Run {
             if tracks.len() + trains.len() < 10 && rng.chance(90) {
                 continue;
             }
-            let mut table = rng.bytes(TABLE_BYTES.min(64));
-            table.resize(TABLE_BYTES + rng.below(3) as usize, 0x5A);
-            let extra = rng.below(3) as usize;
-            let journal: Vec<Record> = (0..JOURNAL_RECORDS + extra)
-                .map(|_| Record {
-                    track: rng.byte(),
-                    ..record(rng.byte(), rng.byte(), rng.byte(), rng.byte())
-                })
-                .collect();
+            let (mut table, journal) = Run::stores(rng);
             let before = journal.clone();
             let book = book_of(&tracks, sidings, &trains);
             let (state, refusal) = open(&book, &mut table, &journal);
@@ -52,14 +51,30 @@ impl Run {
                     tally: Tally::new(&tracks, sidings.unwrap_or(0), &trains),
                     authorities: vec![],
                     right_table: true,
-                    refused: [0; 24],
+                    gangs: [0, 0, 10, 70][rng.below(4) as usize],
+                    refused: [0; 27],
                     accepted: 0,
                     most_sent: 0,
+                    several_back: 0,
+                    stuck: 0,
                 };
             }
             assert!(matches!(refusal, 19 | 20));
             assert_eq!(state, State::EMPTY);
         }
+    }
+
+    /// A table and a journal with anything in them, some longer than they need to be.
+    fn stores(rng: &mut Rng) -> (Vec<u8>, Vec<Record>) {
+        let mut table = rng.bytes(TABLE_BYTES.min(64));
+        table.resize(TABLE_BYTES + rng.below(3) as usize, 0x5A);
+        let extra = rng.below(3) as usize;
+        let some = |_| Record {
+            track: rng.byte(),
+            ..record(rng.byte(), rng.byte(), rng.byte(), rng.byte())
+        };
+        let journal = (0..JOURNAL_RECORDS + extra).map(some).collect();
+        (table, journal)
     }
 
     /// Puts a frame with an out buffer and checks all that is due. Gives the answers.
@@ -82,6 +97,7 @@ impl Run {
             self.refused[usize::from(due)] += 1;
         }
         self.check();
+        self.stuck += u64::from(self.tally.standstill());
         answers.to_vec()
     }
 
@@ -100,6 +116,7 @@ impl Run {
         assert_eq!(self.journal, journal);
         assert_eq!(usize::from(after.journal), count + 1 + due.len());
         self.most_sent = self.most_sent.max(due.len());
+        self.several_back += u64::from(taken[3] == LB && due.len() > 1);
         self.authorities.extend(due.iter().filter(|r| r.kind == FE));
         self.state = after;
         self.accepted += 1;
@@ -114,6 +131,7 @@ impl Run {
         }
         assert!(sound(&self.state));
         self.check_free_tracks();
+        self.check_gangs();
 
         // Every authority written has its logged request.
         let log = self.log();
@@ -142,6 +160,16 @@ impl Run {
         }
     }
 
+    /// State and tally tell the same of gangs; of sections that the line has not nothing is told.
+    /// The LE records number the local runs given.
+    fn check_gangs(&self) {
+        let out = |section| self.tally.gangs.get(section).is_some_and(|n| *n > 0);
+        assert_eq!(self.state.possessions, std::array::from_fn(out));
+        assert_eq!(self.state.given, self.tally.given);
+        let les = self.log().iter().filter(|r| r.kind == LE).count();
+        assert_eq!(les, usize::from(self.tally.given));
+    }
+
     /// State and tally tell the same of a train, and its FEs number its posts travelled, plus one
     /// while it is Running.
     fn check_train(&self, t: usize) {
@@ -166,8 +194,19 @@ impl Run {
         assert_eq!(fes, usize::from(train.at.abs_diff(train.start)) + running);
     }
 
-    /// A frame as crews might send it, sensible or not.
-    pub fn random_frame(&self, rng: &mut Rng) -> Vec<u8> {
+    /// A gang's frame: mostly it asks where none is out and gives back where one is.
+    fn gang_frame(&self, rng: &mut Rng) -> [u8; FRAME_BYTES] {
+        let section = rng.below(self.tally.gangs.len() as u64) as u8;
+        let kind = match self.tally.gangs[usize::from(section)] {
+            _ if rng.chance(30) => rng.within(LA, LB),
+            0 => LA,
+            _ => LB,
+        };
+        frame(kind, GANG, section, section + 1)
+    }
+
+    /// A train's frame: mostly it asks, or reports where it has an authority.
+    fn crew_frame(&self, rng: &mut Rng) -> [u8; FRAME_BYTES] {
         let t = rng.below(self.tally.trains() as u64) as usize;
         let sensible = match self.tally.has[t] {
             Has::Authority(_, _) => 4,
@@ -176,9 +215,18 @@ impl Run {
         let kind = if rng.chance(90) {
             sensible
         } else {
-            rng.within(0, 5)
+            rng.within(0, 8)
         };
-        let mut f = frame(kind, t as u8, self.tally.post[t], self.tally.next(t)).to_vec();
+        frame(kind, t as u8, self.tally.post[t], self.tally.next(t))
+    }
+
+    /// A frame as crews and gangs might send it, sensible or not.
+    pub fn random_frame(&self, rng: &mut Rng) -> Vec<u8> {
+        let mut f = if rng.chance(self.gangs) {
+            self.gang_frame(rng).to_vec()
+        } else {
+            self.crew_frame(rng).to_vec()
+        };
         match rng.below(40) {
             0 => {
                 let length = rng.below(20) as usize;
@@ -214,9 +262,9 @@ impl Run {
 #[test]
 fn demand_three() {
     let mut rng = Rng(0xD3);
-    let mut refused = [0u64; 24];
+    let mut refused = [0u64; 27];
     let mut accepted = 0;
-    let (mut home, mut crowded) = (0, 0);
+    let (mut home, mut crowded, mut stuck) = (0, 0, 0);
     for _ in 0..3000 {
         let mut run = Run::open(&mut rng);
         run.check();
@@ -231,14 +279,66 @@ fn demand_three() {
         accepted += run.accepted;
         home += u32::from((0..run.tally.trains()).all(|t| !run.tally.short_of_end(t)));
         crowded += u32::from(run.tally.crowded());
+        stuck += u32::from(run.stuck > 0);
     }
-    // The runs meet every refusal that a run can meet, and no other.
+    // The runs meet every refusal that a run can meet, and no other: never 13.
     for (number, n) in refused.iter().enumerate() {
-        let meets = (2..=12).contains(&number);
+        let meets = (2..=12).contains(&number) || (24..=26).contains(&number);
         assert_eq!(*n > 0, meets, "refusal {number}: {n}");
     }
     assert!(accepted > 30_000, "{accepted}");
-    assert!(home > 300 && crowded > 300, "{home} {crowded}");
+    // Only where a gang is out can all trains wait.
+    assert!(
+        home > 300 && crowded > 300 && stuck > 200,
+        "{home} {crowded} {stuck}"
+    );
+}
+
+/// What a crew that is not waiting says next, or none where there is no such crew.
+fn next_of_crews(tally: &Tally, rng: &mut Rng) -> Option<[u8; FRAME_BYTES]> {
+    let able: Vec<usize> = (0..tally.trains())
+        .filter(|t| tally.short_of_end(*t) && tally.has[*t] != Has::Asked)
+        .collect();
+    if able.is_empty() {
+        return None;
+    }
+    let t = able[rng.below(able.len() as u64) as usize];
+    let kind = match tally.has[t] {
+        Has::Authority(_, _) => AM,
+        _ => FA,
+    };
+    Some(frame(kind, t as u8, tally.post[t], tally.next(t)))
+}
+
+/// What a gang says of some section: that it is given back, or where no one holds it an LA while
+/// one is left; none otherwise.
+fn next_of_gangs(tally: &Tally, rng: &mut Rng) -> Option<[u8; FRAME_BYTES]> {
+    let section = rng.below(tally.gangs.len() as u64) as u8;
+    let kind = match tally.section_holders(section) {
+        _ if tally.gangs[usize::from(section)] > 0 => LB,
+        0 if tally.given < LOCAL_RUNS => LA,
+        _ => return None,
+    };
+    Some(frame(kind, GANG, section, section + 1))
+}
+
+/// Crews and gangs say what they have to say, in any order, a gang with this percentage, until no
+/// crew has anything to say and no gang is out. Nothing is refused.
+fn until_all_is_said(run: &mut Run, percent: u64, rng: &mut Rng) {
+    loop {
+        let crew = next_of_crews(&run.tally, rng);
+        if crew.is_none() && !run.tally.gang_is_out() {
+            break;
+        }
+        let said = match crew {
+            Some(f) if !rng.chance(percent) => Some(f),
+            _ => next_of_gangs(&run.tally, rng),
+        };
+        if let Some(f) = said {
+            run.put(&f, &mut [0; OUT_BYTES]);
+        }
+    }
+    assert_eq!(run.refused, [0; 27]);
 }
 
 /// Crews that ask and report in any order all come home, within 168 records.
@@ -248,28 +348,29 @@ fn all_come_home() {
     let mut most = 0;
     for _ in 0..600 {
         let mut run = Run::open(&mut rng);
-        let trains = run.tally.trains();
-        loop {
-            // Those who can say something: not at the end, not waiting.
-            let able: Vec<usize> = (0..trains)
-                .filter(|t| run.tally.short_of_end(*t) && run.tally.has[*t] != Has::Asked)
-                .collect();
-            if able.is_empty() {
-                break;
-            }
-            let t = able[rng.below(able.len() as u64) as usize];
-            let kind = match run.tally.has[t] {
-                Has::Authority(_, _) => AM,
-                _ => FA,
-            };
-            let f = frame(kind, t as u8, run.tally.post[t], run.tally.next(t));
-            run.put(&f, &mut [0; OUT_BYTES]);
-        }
-        assert!((0..trains).all(|t| !run.tally.short_of_end(t)));
-        assert_eq!(run.refused, [0; 24]);
+        until_all_is_said(&mut run, 0, &mut rng);
+        assert!((0..run.tally.trains()).all(|t| !run.tally.short_of_end(t)));
         most = most.max(run.state.journal);
     }
     assert!((60..=168).contains(&most), "{most}");
+}
+
+/// With gangs in between that give back what they were given: all come home too, within 228
+/// records, though here and there all trains had to wait for a gang.
+#[test]
+fn all_come_home_after_the_gangs() {
+    let mut rng = Rng(0xAC);
+    let (mut most, mut stuck, mut twenty) = (0, 0, 0);
+    for round in 0..600 {
+        let mut run = Run::open(&mut rng);
+        until_all_is_said(&mut run, [10, 30, 60][round % 3], &mut rng);
+        assert!((0..run.tally.trains()).all(|t| !run.tally.short_of_end(t)));
+        most = most.max(run.state.journal);
+        stuck += u32::from(run.stuck > 0);
+        twenty += u32::from(run.tally.given == LOCAL_RUNS);
+    }
+    assert!((150..=228).contains(&most), "{most}");
+    assert!(stuck > 200 && twenty > 200, "{stuck} {twenty}");
 }
 
 /// Tables altered at will: answers as the bits handed in say; all of demand 3
@@ -277,7 +378,7 @@ fn all_come_home() {
 #[test]
 fn altered_tables() {
     let mut rng = Rng(0xA17);
-    let mut several = 0;
+    let (mut several, mut several_back) = (0, 0);
     for _ in 0..700 {
         let mut run = Run::open(&mut rng);
         run.right_table = false;
@@ -299,43 +400,67 @@ fn altered_tables() {
             run.put(&f, &mut out);
         }
         several += u32::from(run.most_sent > 1);
+        several_back += run.several_back;
     }
-    assert!(several > 50, "{several}");
+    assert!(
+        several > 50 && several_back > 10,
+        "{several} {several_back}"
+    );
 }
 
-/// Both ends together: a unit for each train, answers heard by all units.
+/// All units hear a frame, and none refuses it.
+fn all_hear(units: &mut [Unit], frame: &[u8]) {
+    for u in units.iter_mut() {
+        let (after, refusal) = unit::hear(u, frame);
+        assert_eq!(refusal, 0);
+        *u = after;
+    }
+}
+
+/// A crew presses some button, or a gang says what it has to say, which the units hear; then what
+/// is sent to the dispatcher.
+fn next_of_both(run: &Run, units: &mut [Unit], rng: &mut Rng) -> Option<[u8; FRAME_BYTES]> {
+    if rng.chance(10) {
+        let said = next_of_gangs(&run.tally, rng)?;
+        all_hear(units, &said);
+        return Some(said);
+    }
+    let t = rng.below(units.len() as u64) as usize;
+    let button = BUTTONS[rng.below(4) as usize];
+    let (after, refusal, sent) = unit::press(&units[t], button);
+    assert!(matches!(refusal, 0 | 8 | 21));
+    units[t] = after;
+    sent
+}
+
+/// Both ends together: a unit for each train, gangs between them, answers heard by all units.
 #[test]
 fn both_ends() {
     let mut rng = Rng(0xBE);
+    let mut given = 0;
     for _ in 0..300 {
         let mut run = Run::open(&mut rng);
-        let trains = run.tally.trains();
-        let mut units: Vec<Unit> = (0..trains)
+        let mut units: Vec<Unit> = (0..run.tally.trains())
             .map(|t| unit::make(t as u8, run.tally.starts[t], run.tally.ends[t]).0)
             .collect();
         for _ in 0..20_000 {
             if units.iter().all(|u| u.at == u.end) {
                 break;
             }
-            let t = rng.below(trains as u64) as usize;
-            let button = BUTTONS[rng.below(4) as usize];
-            let (after, refusal, sent) = unit::press(&units[t], button);
-            assert!(matches!(refusal, 0 | 8 | 21));
-            units[t] = after;
-            let Some(f) = sent else { continue };
+            let Some(f) = next_of_both(&run, &mut units, &mut rng) else {
+                continue;
+            };
             let answers = run.put(&f, &mut [0; OUT_BYTES]);
             for a in answers.chunks(FRAME_BYTES) {
-                for u in units.iter_mut() {
-                    let (after, refusal) = unit::hear(u, a);
-                    assert_eq!(refusal, 0);
-                    *u = after;
-                }
+                all_hear(&mut units, a);
             }
             for (t, u) in units.iter().enumerate() {
                 assert!(run.tally.agrees_with(t, u), "{u:?}");
             }
         }
         assert!(units.iter().all(|u| u.at == u.end));
-        assert_eq!(run.refused, [0; 24]);
+        assert_eq!(run.refused, [0; 27]);
+        given += u32::from(run.tally.given);
     }
+    assert!(given > 2000, "{given}");
 }

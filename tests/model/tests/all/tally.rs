@@ -1,5 +1,6 @@
 //! The paper's tally: who asked and who holds, told by book, frames, answers and refusals only. For
 //! the clause on tracks alone it has tracks too, at opening by the rule, then from each FE's record.
+//! A second part of it has the gangs.
 
 use crate::common::*;
 use model::*;
@@ -13,7 +14,8 @@ pub enum Has {
 }
 
 /// The tally; `order` is the trains asked, oldest first. `here` is each train's track at its post, 0
-/// for one put away, and `ahead` the one where it has an authority to go.
+/// for one put away, and `ahead` the one where it has an authority to go. `gangs` is how many
+/// gangs are out on each section, from each LE written to an LB accepted, `given` all LEs written.
 pub struct Tally {
     pub tracks: Vec<u8>,
     pub sidings: u8,
@@ -24,6 +26,8 @@ pub struct Tally {
     pub order: Vec<u8>,
     pub here: Vec<u8>,
     pub ahead: Vec<u8>,
+    pub gangs: Vec<u8>,
+    pub given: u8,
 }
 
 impl Tally {
@@ -39,6 +43,8 @@ impl Tally {
             order: vec![],
             here: vec![0; trains.len()],
             ahead: vec![0; trains.len()],
+            gangs: vec![0; tracks.len() - 1],
+            given: 0,
         };
         for (t, (start, _)) in trains.iter().enumerate() {
             if !tally.put_away(t) {
@@ -123,6 +129,17 @@ impl Tally {
             .count()
     }
 
+    /// Holders of a section of the line, trains and gangs counted together.
+    pub fn section_holders(&self, section: u8) -> usize {
+        let gangs = self.gangs[usize::from(section)];
+        self.over(section, section + 1) + usize::from(gangs)
+    }
+
+    /// Some gang is out.
+    pub fn gang_is_out(&self) -> bool {
+        self.gangs.iter().any(|n| *n > 0)
+    }
+
     /// A train that asked can be granted, by the tally and the table's bits.
     pub fn grantable(&self, t: usize, table: &[u8]) -> bool {
         let mut code = 0u64;
@@ -132,7 +149,7 @@ impl Tally {
             code += u64::from(at.abs_diff(self.starts[u])) * 8u64.pow(u as u32);
         }
         let next = self.next(t);
-        self.over(self.post[t], next) == 0
+        self.section_holders(next.min(self.post[t])) == 0
             && self.holders(next) < usize::from(self.tracks[usize::from(next)])
             && table[(code / 8) as usize] >> (code % 8) & 1 == 1
     }
@@ -148,12 +165,17 @@ impl Tally {
         if frame[2] != 1 {
             return 4;
         }
-        let t = usize::from(frame[4]);
         match frame[3] {
-            2 | 3 => return 6,
-            1 | 4 => {}
-            _ => return 5,
+            1 | 4 => self.refusal_of_train(frame),
+            2 | 3 | 6 => 6,
+            5 | 7 => self.refusal_of_gang(frame),
+            _ => 5,
         }
+    }
+
+    /// The refusal due for an FA or AM, from 7 on.
+    fn refusal_of_train(&self, frame: &[u8]) -> u8 {
+        let t = usize::from(frame[4]);
         if t >= self.trains() {
             return 7;
         }
@@ -171,17 +193,50 @@ impl Tally {
         }
     }
 
-    /// The effect of an accepted frame itself.
+    /// The refusal due for an LA or LB, from 7 on: it is of no train, and names two posts of the
+    /// line, the second right after the first.
+    fn refusal_of_gang(&self, frame: &[u8]) -> u8 {
+        let (from, to) = (usize::from(frame[5]), usize::from(frame[6]));
+        if frame[4] != 255 {
+            return 7;
+        }
+        if to >= self.tracks.len() || to == 0 || from != to - 1 {
+            return 9;
+        }
+        match frame[3] {
+            5 if self.section_holders(frame[5]) != 0 => 24,
+            5 if self.given > 19 => 26,
+            7 if self.gangs[from] == 0 => 25,
+            _ => 0,
+        }
+    }
+
+    /// The effect of an accepted frame itself. A gang is out only with its LE.
     pub fn take(&mut self, frame: &[u8]) {
+        match frame[3] {
+            1 => {
+                self.has[usize::from(frame[4])] = Has::Asked;
+                self.order.push(frame[4]);
+            }
+            4 => self.take_arrival(frame),
+            7 => self.gangs[usize::from(frame[5])] -= 1,
+            _ => {}
+        }
+    }
+
+    fn take_arrival(&mut self, frame: &[u8]) {
         let t = usize::from(frame[4]);
-        if frame[3] == 1 {
-            self.has[t] = Has::Asked;
-            self.order.push(frame[4]);
-        } else if self.has[t] == Has::Authority(frame[5], frame[6]) {
+        if self.has[t] == Has::Authority(frame[5], frame[6]) {
             self.post[t] = frame[6];
             self.has[t] = Has::Nothing;
             self.here[t] = if self.put_away(t) { 0 } else { self.ahead[t] };
         }
+    }
+
+    /// The effect of an LE that was written: one more gang is out there.
+    fn hear_given(&mut self, le: &Record) {
+        self.gangs[usize::from(le.from)] += 1;
+        self.given += 1;
     }
 
     /// The effect of an FE that was written, with the track of its record.
@@ -196,6 +251,11 @@ impl Tally {
     /// each FE's track from the record that was logged.
     pub fn answers_due(&mut self, frame: &[u8], table: &[u8], logged: &[Record]) -> Vec<Record> {
         let mut due: Vec<Record> = vec![];
+        if frame[3] == 5 {
+            let le = record(LE, frame[4], frame[5], frame[6]);
+            self.hear_given(&le);
+            return vec![le];
+        }
         'again: loop {
             for t in self.order.clone() {
                 let u = usize::from(t);
@@ -219,7 +279,10 @@ impl Tally {
     pub fn check_holding(&self) {
         for p in 0..self.tracks.len() as u8 {
             assert!(self.holders(p) <= usize::from(self.tracks[usize::from(p)]));
-            assert!(self.over(p, p + 1) <= 1);
+        }
+        // In the section clause a gang is a holder.
+        for section in 0..self.gangs.len() as u8 {
+            assert!(self.section_holders(section) <= 1, "section {section}");
         }
         // An authority is for the one move from the post to the next.
         for t in 0..self.trains() {
@@ -252,11 +315,16 @@ impl Tally {
         same && unit.at == self.post[t] && unit::sound(unit)
     }
 
-    /// Demand 3's standstill clause.
-    pub fn check_standstill(&self) {
-        let short: Vec<usize> = (0..self.trains())
+    /// Trains are short of their ends, and all of these wait.
+    pub fn standstill(&self) -> bool {
+        let mut short = (0..self.trains())
             .filter(|t| self.short_of_end(*t))
-            .collect();
-        assert!(short.is_empty() || short.iter().any(|t| self.has[*t] != Has::Asked));
+            .peekable();
+        short.peek().is_some() && short.all(|t| self.has[t] == Has::Asked)
+    }
+
+    /// Demand 3's standstill clause, for lists after which no gang holds a section.
+    pub fn check_standstill(&self) {
+        assert!(self.gang_is_out() || !self.standstill());
     }
 }

@@ -38,6 +38,10 @@ fn garbage(rng: &mut Rng) -> State {
             standing: standing(rng),
         };
     }
+    for gang in s.possessions.iter_mut() {
+        *gang = rng.chance(50);
+    }
+    s.given = number(rng);
     s.journal = rng.byte();
     s
 }
@@ -63,6 +67,11 @@ fn near(rng: &mut Rng) -> State {
     if rng.chance(90) {
         give_tracks(&mut s, rng);
     }
+    // Few gangs, so that many states are sound; the places that are not read hold anything.
+    for gang in s.possessions[..usize::from(s.posts) - 1].iter_mut() {
+        *gang = rng.chance(15);
+    }
+    s.given = rng.within(0, 21);
     s
 }
 
@@ -107,17 +116,22 @@ fn sound_again(s: &State) -> bool {
     held_soundly(s) && on_right_tracks(s)
 }
 
+/// The numbers of the state itself are in their ranges.
+fn ranges(s: &State) -> bool {
+    let line = s.posts >= 2 && s.posts <= 8 && s.trains >= 1 && s.trains <= 6;
+    let kept = s.journal <= 236 && s.given <= 20;
+    line && kept && u32::from(s.sidings) < 2u32.pow(s.posts.into())
+}
+
 /// All but the tracks' numbers: each post with the six-bit set of its holders,
-/// each section likewise.
+/// each section likewise, with a seventh bit for a gang.
 fn held_soundly(s: &State) -> bool {
-    if s.posts < 2 || s.posts > 8 || s.trains < 1 || s.trains > 6 || s.journal > 176 {
-        return false;
-    }
-    if u32::from(s.sidings) >= 2u32.pow(s.posts.into()) {
+    if !ranges(s) {
         return false;
     }
     let mut posts = [0u8; 8];
-    let mut sections = [0u8; 7];
+    let mut sections = s.possessions.map(|gang| u8::from(gang) << 6);
+    sections[usize::from(s.posts) - 1..].fill(0);
     let mut numbers = vec![];
     for (t, train) in s.train[..usize::from(s.trains)].iter().enumerate() {
         if !on_its_way(train, s.posts) {
@@ -166,8 +180,16 @@ fn on_right_tracks(s: &State) -> bool {
     })
 }
 
-/// A frame for one of the trains, or anything.
+/// A frame for one of the trains or sections, or anything.
 fn some_frame(s: &State, rng: &mut Rng) -> Vec<u8> {
+    if rng.chance(30) {
+        let section = rng.within(0, 7);
+        let kind = match s.possessions.get(usize::from(section)) {
+            Some(true) if rng.chance(80) => LB,
+            _ => rng.within(LA, LB),
+        };
+        return frame(kind, GANG, section, section + 1).to_vec();
+    }
     let t = rng.within(0, 6);
     match s.train.get(usize::from(t)) {
         Some(train) if rng.chance(80) => {
@@ -181,8 +203,20 @@ fn some_frame(s: &State, rng: &mut Rng) -> Vec<u8> {
     }
 }
 
-/// Puts some frame to the state, with stores that may be short, and checks what came of it.
-fn put_some_frame(s: &State, table: &[u8], rng: &mut Rng) -> Verdict {
+/// What an accepted frame leaves of gangs: an LA and an LB change the section that they name, an LA
+/// the number given besides, and nothing else changes.
+fn gangs_due(s: &State, f: &[u8]) -> ([bool; 7], u8) {
+    let mut possessions = s.possessions;
+    match f[3] {
+        LA | LB => possessions[usize::from(f[5])] = f[3] == LA,
+        _ => {}
+    }
+    (possessions, s.given + u8::from(f[3] == LA))
+}
+
+/// Puts some frame to the state, with stores that may be short, and checks what came of it. Gives
+/// the kind of a frame that was accepted, or the refusal.
+fn put_some_frame(s: &State, table: &[u8], rng: &mut Rng) -> Result<u8, u8> {
     let records = JOURNAL_RECORDS - usize::from(!rng.chance(95));
     let mut journal = vec![OLD; records];
     let most = OUT_BYTES as u64;
@@ -200,13 +234,42 @@ fn put_some_frame(s: &State, table: &[u8], rng: &mut Rng) -> Verdict {
             assert_eq!(n == 1, !sound(s));
             assert!(out.iter().all(|b| *b == 0xCC));
             assert!(journal.iter().all(|r| *r == OLD));
+            Err(n)
         }
         Verdict::Sent(n) => {
             assert!(sound(s) && sound(&after), "{s:?} {after:?}");
             assert_eq!(usize::from(after.journal), usize::from(s.journal) + 1 + n);
+            assert_eq!((after.possessions, after.given), gangs_due(s, &f));
+            Ok(f[3])
         }
     }
-    verdict
+}
+
+/// What the states showed of gangs.
+#[derive(Debug, Default)]
+struct Gangs {
+    /// Sound states with a gang, with a place that is not read, and not sound for a gang alone.
+    out: u32,
+    unread: u32,
+    in_the_way: u32,
+    /// LAs and LBs accepted.
+    asked: u32,
+    back: u32,
+}
+
+impl Gangs {
+    fn count(&mut self, s: &State, came: Result<u8, u8>) {
+        let places = s.possessions.split_at(usize::from(s.posts.clamp(1, 8)) - 1);
+        self.out += u32::from(sound(s) && places.0.contains(&true));
+        self.unread += u32::from(sound(s) && places.1.contains(&true));
+        let without = State {
+            possessions: [false; 7],
+            ..*s
+        };
+        self.in_the_way += u32::from(!sound(s) && sound(&without));
+        self.asked += u32::from(came == Ok(LA));
+        self.back += u32::from(came == Ok(LB));
+    }
 }
 
 #[test]
@@ -214,16 +277,17 @@ fn states_of_all_sorts() {
     let mut rng = Rng(0x5EED);
     let table: Vec<u8> = rng.bytes(TABLE_BYTES);
     let (mut good, mut strange, mut answered, mut crowded, mut off_track) = (0, 0, 0, 0, 0);
+    let mut gangs = Gangs::default();
     for round in 0..60_000 {
         let s = match round % 4 {
             0 => garbage(&mut rng),
             _ => near(&mut rng),
         };
         assert_eq!(sound(&s), sound_again(&s), "{s:?}");
-        match put_some_frame(&s, &table, &mut rng) {
-            Verdict::Refused(n) => strange += u32::from(n == 1),
-            Verdict::Sent(_) => answered += 1,
-        }
+        let came = put_some_frame(&s, &table, &mut rng);
+        strange += u32::from(came == Err(1));
+        answered += u32::from(came.is_ok());
+        gangs.count(&s, came);
         good += u32::from(sound(&s));
         crowded += u32::from(sound(&s) && !held_soundly(&State { sidings: 0, ..s }));
         off_track += u32::from(held_soundly(&s) && !sound(&s));
@@ -232,6 +296,9 @@ fn states_of_all_sorts() {
         good > 3000 && strange > 10_000 && answered > 500 && crowded > 500 && off_track > 500,
         "{good} {strange} {answered} {crowded} {off_track}"
     );
+    assert!(gangs.out > 500 && gangs.unread > 500, "{gangs:?}");
+    assert!(gangs.in_the_way > 500, "{gangs:?}");
+    assert!(gangs.asked > 300 && gangs.back > 300, "{gangs:?}");
 }
 
 #[test]
@@ -249,12 +316,13 @@ fn units_of_all_sorts() {
         assert_eq!(refusal == 1, !unit::sound(&u));
         assert!(refusal == 0 || (after == u && sent.is_none()));
         assert!(refusal != 0 || unit::sound(&after));
-        let f = frame(rng.within(0, 5), number(&mut rng), u.at, number(&mut rng));
+        let f = frame(rng.within(0, 8), number(&mut rng), u.at, number(&mut rng));
         let f = &f[..FRAME_BYTES - usize::from(!rng.chance(95))];
         let (after, refusal) = unit::hear(&u, f);
         assert_eq!(refusal == 1, !unit::sound(&u));
         assert!(refusal == 0 || after == u);
         assert!(refusal != 0 || unit::sound(&after));
+        assert!(after == u || matches!(f[3], FE | AFE));
     }
 }
 

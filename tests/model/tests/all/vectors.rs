@@ -3,44 +3,6 @@
 use crate::common::*;
 use model::*;
 
-/// A table with only these bits set.
-fn bits(codes: &[u64]) -> Vec<u8> {
-    let mut table = vec![0; TABLE_BYTES];
-    for c in codes {
-        table[(c / 8) as usize] |= 1 << (c % 8);
-    }
-    table
-}
-
-/// A state of the line with each train at its start, there on the first track that none before
-/// it has.
-fn state(tracks: &[u8], trains: &[(u8, u8, Standing)], journal: u8) -> State {
-    let mut s = State::EMPTY;
-    s.posts = tracks.len() as u8;
-    s.tracks[..tracks.len()].copy_from_slice(tracks);
-    s.trains = trains.len() as u8;
-    for (t, (start, end, standing)) in trains.iter().enumerate() {
-        let before = trains[..t].iter().filter(|other| other.0 == *start);
-        s.train[t] = Train {
-            start: *start,
-            end: *end,
-            at: *start,
-            track: before.count() as u8 + 1,
-            standing: *standing,
-        };
-    }
-    s.journal = journal;
-    s
-}
-
-fn boxed(state: State, table: Vec<u8>) -> Box {
-    Box {
-        state,
-        table,
-        journal: vec![Record::BLANK; JOURNAL_RECORDS],
-    }
-}
-
 // Book and opening.
 
 #[test]
@@ -96,12 +58,12 @@ fn a_book_read_alone() {
 #[test]
 fn opening_and_its_stores() {
     // 2 comes before the book is looked at.
-    let journal = [OLD; 177];
+    let journal = [OLD; 237];
     let mut short = vec![3; TABLE_BYTES - 1];
     assert_eq!(open(&[], &mut short, &journal), (State::EMPTY, 2));
     assert!(short.iter().all(|b| *b == 3));
     let mut table = vec![3; TABLE_BYTES + 5];
-    assert_eq!(open(&X, &mut table, &journal[..175]), (State::EMPTY, 2));
+    assert_eq!(open(&X, &mut table, &journal[..235]), (State::EMPTY, 2));
     assert_eq!(open(&[], &mut table, &journal), (State::EMPTY, 14));
     // 19 leaves the table untouched, 18 as well.
     let over = book(&[1, 1], &[(0, 1), (0, 1)]);
@@ -191,6 +153,9 @@ fn frames_read_back() {
             2 => Ok(Message::Fe(m)),
             3 => Ok(Message::Afe(m)),
             4 => Ok(Message::Am(m)),
+            5 => Ok(Message::La(m)),
+            6 => Ok(Message::Le(m)),
+            7 => Ok(Message::Lb(m)),
             _ => Err(5),
         };
         assert_eq!(read_frame(&bytes), expected);
@@ -217,8 +182,9 @@ fn precedence_on_x() {
     assert_eq!(b.put(&frame(FA, 255, 0, 1)), Err(7));
     assert_eq!(b.put(&frame(FE, 9, 9, 9)), Err(6));
     assert_eq!(b.put(&frame(AFE, 9, 9, 9)), Err(6));
+    assert_eq!(b.put(&frame(LE, 9, 9, 9)), Err(6));
     assert_eq!(b.put(&frame(0, 0, 0, 1)), Err(5));
-    assert_eq!(b.put(&frame(5, 0, 0, 1)), Err(5));
+    assert_eq!(b.put(&frame(8, 0, 0, 1)), Err(5));
     assert_eq!(b.put(&[0, 5, 2, 9, 0, 0, 1]), Err(4));
     assert_eq!(b.put(&[0, 6, 2, 1, 0, 0, 1]), Err(3));
     assert_eq!(b.put(&frame(FA, 0, 1, 2)), Err(9));
@@ -422,50 +388,50 @@ fn the_largest_code() {
     assert_eq!(b.put(&frame(FA, 5, 1, 0)), Ok(vec![[AFE, 5, 1, 0]]));
 }
 
-/// Six FEs, or five and an AFE, and 169 records before them.
+/// Six FEs, or five and an AFE, and 229 records before them.
 #[test]
 fn six_frames_out() {
     let mut trains: Vec<(u8, u8, Standing)> = (0..6)
         .map(|t| (t, t + 1, Standing::Asked(100 - t)))
         .collect();
     trains[5].2 = Standing::Free;
-    let mut b = boxed(state(&[4; 8], &trains, 169), vec![255; TABLE_BYTES]);
+    let mut b = boxed(state(&[4; 8], &trains, 229), vec![255; TABLE_BYTES]);
     let sent = b.put(&frame(FA, 5, 5, 6)).unwrap();
     let order: Vec<u8> = sent.iter().map(|f| f[1]).collect();
     assert_eq!(order, [4, 3, 2, 1, 0, 5]);
     assert!(sent.iter().all(|f| f[0] == FE));
-    assert_eq!(b.state.journal, 176);
-    assert_eq!(b.journal[168], Record::BLANK);
-    assert_eq!(b.journal[169], record(FA, 5, 5, 6));
-    assert_eq!(b.journal[175], authority(5, 5, 6, 1));
+    assert_eq!(b.state.journal, 236);
+    assert_eq!(b.journal[228], Record::BLANK);
+    assert_eq!(b.journal[229], record(FA, 5, 5, 6));
+    assert_eq!(b.journal[235], authority(5, 5, 6, 1));
     assert!(sound(&b.state));
 
     trains[5] = (1, 0, Standing::Free);
-    let mut b = boxed(state(&[4; 8], &trains, 169), vec![255; TABLE_BYTES]);
+    let mut b = boxed(state(&[4; 8], &trains, 229), vec![255; TABLE_BYTES]);
     let sent = b.put(&frame(FA, 5, 1, 0)).unwrap();
     let order: Vec<u8> = sent.iter().map(|f| f[1]).collect();
     assert_eq!(order, [4, 3, 2, 1, 0, 5]);
     assert_eq!(sent[5][0], AFE);
-    assert_eq!(b.state.journal, 176);
+    assert_eq!(b.state.journal, 236);
 
     // An AM with five waiting.
     trains[5] = (6, 7, Standing::Running(1));
-    let mut b = boxed(state(&[4; 8], &trains, 169), vec![255; TABLE_BYTES]);
+    let mut b = boxed(state(&[4; 8], &trains, 229), vec![255; TABLE_BYTES]);
     assert_eq!(b.put(&frame(AM, 5, 6, 7)).unwrap().len(), 5);
-    assert_eq!(b.state.journal, 175);
+    assert_eq!(b.state.journal, 235);
 }
 
-/// 13 from count 170 on, last of all checks, also for AM.
+/// 13 from count 230 on, last of all checks, also for AM.
 #[test]
-fn full_from_170_records_on() {
+fn full_from_230_records_on() {
     for count in 0..=255u8 {
         let trains = [(0, 1, Standing::Free), (2, 1, Standing::Running(4))];
-        for length in [176, 300] {
+        for length in [236, 300] {
             let mut b = boxed(state(&[4; 3], &trains, count), vec![255; TABLE_BYTES]);
             b.journal = vec![OLD; length];
             let full = match count {
-                0..=169 => 0,
-                170..=176 => 13,
+                0..=229 => 0,
+                230..=236 => 13,
                 _ => 1,
             };
             for (kind, train, from) in [(FA, 0, 0), (AM, 1, 2)] {
@@ -501,10 +467,10 @@ fn strange_then_short_then_torn() {
         verdict
     };
     assert_eq!(try_with(&State::EMPTY, 0, 0, 0), Verdict::Refused(1));
-    assert_eq!(try_with(&b.state, 32_767, 176, 42), Verdict::Refused(2));
-    assert_eq!(try_with(&b.state, 32_768, 175, 42), Verdict::Refused(2));
-    assert_eq!(try_with(&b.state, 32_768, 176, 41), Verdict::Refused(2));
-    assert_eq!(try_with(&b.state, 32_768, 176, 42), Verdict::Refused(3));
+    assert_eq!(try_with(&b.state, 32_767, 236, 42), Verdict::Refused(2));
+    assert_eq!(try_with(&b.state, 32_768, 235, 42), Verdict::Refused(2));
+    assert_eq!(try_with(&b.state, 32_768, 236, 41), Verdict::Refused(2));
+    assert_eq!(try_with(&b.state, 32_768, 236, 42), Verdict::Refused(3));
 }
 
 // Soundness.
@@ -536,8 +502,8 @@ const CHANGES: [(bool, Change); 32] = [
         s.train[0].start = 1;
         s.train[0].at = 0; // not between 1 and 2
     }),
-    (true, |s| s.journal = 176),
-    (false, |s| s.journal = 177),
+    (true, |s| s.journal = 236),
+    (false, |s| s.journal = 237),
     // FA numbers.
     (false, |s| s.train[0].standing = Standing::Asked(0)),
     (true, |s| {
@@ -551,8 +517,8 @@ const CHANGES: [(bool, Change); 32] = [
         s.journal = 2;
     }),
     (false, |s| {
-        s.train[0].standing = Standing::Asked(176);
-        s.journal = 176;
+        s.train[0].standing = Standing::Asked(236);
+        s.journal = 236;
     }),
     // Running: tracks at both posts, one holder of a section.
     (true, |s| s.train[0].standing = Standing::Running(1)),
@@ -749,11 +715,15 @@ fn hears_in_vain(u: &Unit) {
         assert_eq!(unit::hear(u, &frame(FE, train, 4, 5)), (*u, 0));
         assert_eq!(unit::hear(u, &frame(AFE, train, 4, 5)), (*u, 0));
     }
+    // What is said of local runs.
+    for kind in [LA, LE, LB] {
+        assert_eq!(unit::hear(u, &frame(kind, 255, 4, 5)), (*u, 0));
+    }
     // Torn, other edition, unknown kind.
     assert_eq!(unit::hear(u, &[]), (*u, 3));
     assert_eq!(unit::hear(u, &[0, 4, 2, 9, 3, 4, 5]), (*u, 3));
     assert_eq!(unit::hear(u, &[0, 5, 2, 9, 3, 4, 5]), (*u, 4));
-    assert_eq!(unit::hear(u, &[0, 5, 1, 9, 3, 4, 5]), (*u, 5));
+    assert_eq!(unit::hear(u, &[0, 5, 1, 8, 3, 4, 5]), (*u, 5));
 }
 
 /// Soundness of all units with small numbers, against the words one by one.
@@ -787,11 +757,11 @@ fn unit_soundness() {
 #[test]
 fn journal_functions() {
     let r = authority(2, 3, 4, 5);
-    let mut journal = vec![Record::BLANK; 200];
+    let mut journal = vec![Record::BLANK; 256];
     assert_eq!(journal::log(&mut journal, 5, r), 6);
     assert_eq!(journal[5], r);
-    assert_eq!(journal::log(&mut journal, 175, r), 176);
-    for full in [176, 177, 199, 255] {
+    assert_eq!(journal::log(&mut journal, 235, r), 236);
+    for full in [236, 237, 254, 255] {
         let before = journal.clone();
         assert_eq!(journal::log(&mut journal, full, r), full);
         assert_eq!(journal, before);
