@@ -40,18 +40,18 @@ module _ (s : List ℕ) where
       other-version h = refused (omega arith) (pass whole (stop (ne-eqb _ _ h)))
 
       module _ (version : getD s 2 0 ≡ 1) where
-        pub other-kind : inRange 1 4 (getD s 3 0) ≡ false → Refused unknownKind ≡ readFrame s
+        pub other-kind : inRange 1 7 (getD s 3 0) ≡ false → Refused unknownKind ≡ readFrame s
         other-kind h = refused (omega arith) (pass whole (pass (eq-eqb _ _ version) (stop h)))
 
-        pub known-kind : (k : ℕ) → getD s 3 0 ≡ k → 1 ≤ k → k ≤ 4 → messageOf k (namedMove s) ≡ readFrame s
+        pub known-kind : (k : ℕ) → getD s 3 0 ≡ k → 1 ≤ k → k ≤ 7 → messageOf k (namedMove s) ≡ readFrame s
         unfolding readFrame
         known-kind k e low high =
-            let kind : inRange 1 4 (getD s 3 0) ≡ true = rw (e, le-leb _ _ low, le-leb _ _ high) in
+            let kind : inRange 1 7 (getD s 3 0) ≡ true = rw (e, le-leb _ _ low, le-leb _ _ high) in
             let r : Refuses (readChecks s) 0 = pass whole (pass (eq-eqb _ _ version) (pass kind none)) in
             ap (λ n. messageOf n (namedMove s)) (sym e) ∙ accepted-by (messageOf (getD s 3 0) (namedMove s)) Refused r
 
--- a kind byte below 1 or above 4 is none
-pub not-a-kind : (k : ℕ) → (1 ≤ k → k ≤ 4 → ⊥) → inRange 1 4 k ≡ false
+-- a kind byte below 1 or above 7 is none
+pub not-a-kind : (k : ℕ) → (1 ≤ k → k ≤ 7 → ⊥) → inRange 1 7 k ≡ false
 not-a-kind k h =
-    not-passed (inRange 1 4 k)
-    (λ e. h (leb-true 1 k (and-left (leb 1 k) (leb k 4) e)) (leb-true k 4 (and-right (leb 1 k) (leb k 4) e)))
+    not-passed (inRange 1 7 k)
+    (λ e. h (leb-true 1 k (and-left (leb 1 k) (leb k 7) e)) (leb-true k 7 (and-right (leb 1 k) (leb k 7) e)))

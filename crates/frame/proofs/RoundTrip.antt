@@ -14,7 +14,7 @@ use Rattle.common.specs.Word.{word}
 use Rattle.common.proofs.Tests.{by-equality, and-left, and-right}
 use Rattle.common.proofs.Check.{passed-by, accepts, accepted-if}
 use Rattle.line.specs.Refusal.{tornFrame, otherEdition}
-use Rattle.frame.specs.Types.{Move, Message, Fa, Fe, Afe, Am, Refused}
+use Rattle.frame.specs.Types.{Move, Message, Fa, Fe, Afe, Am, La, Le, Lb, Refused}
 use Rattle.frame.specs.Frame.{readChecks, messageOf, readFrame, frameBytes, bytesOf}
 use Rattle.frame.specs.RoundTrip.{IsMessage, FramesReadBack}
 use Rattle.frame.proofs.Cases.{namedMove}
@@ -25,6 +25,9 @@ back (Fa m) h = refl
 back (Fe m) h = refl
 back (Afe m) h = refl
 back (Am m) h = refl
+back (La m) h = refl
+back (Le m) h = refl
+back (Lb m) h = refl
 back (Refused n) h = absurd h
 
 -- n elements from i on, one by one
@@ -49,7 +52,8 @@ kind-kept k n m y z e f = by-equality k n
 message-bytes : (k : ℕ) (m : Move) → IsMessage (messageOf k m) → bytesOf (messageOf k m) ≡ frameBytes k m
 unfolding messageOf bytesOf IsMessage
 message-bytes k m =
-    kind-kept k 1 m _ _ refl (kind-kept k 2 m _ _ refl (kind-kept k 3 m _ _ refl (kind-kept k 4 m _ _ refl absurd)))
+    kind-kept k 1 m _ _ refl (kind-kept k 2 m _ _ refl (kind-kept k 3 m _ _ refl (kind-kept k 4 m _ _ refl
+    (kind-kept k 5 m _ _ refl (kind-kept k 6 m _ _ refl (kind-kept k 7 m _ _ refl absurd))))))
 
 no-message : (n : ℕ) → IsMessage (Refused n) → ⊥
 unfolding IsMessage

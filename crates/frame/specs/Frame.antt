@@ -8,7 +8,7 @@ use Rattle.common.specs.Check.{Check, check, refusal, unlessRefused}
 use Rattle.common.specs.Word.{word}
 use Rattle.line.specs.Line.{inRange}
 use Rattle.line.specs.Refusal.{tornFrame, otherEdition, unknownKind}
-use Rattle.frame.specs.Types.{Move, Message, Fa, Fe, Afe, Am, Refused}
+use Rattle.frame.specs.Types.{Move, Message, Fa, Fe, Afe, Am, La, Le, Lb, Refused}
 
 abbrev pub frameLength : ℕ
 frameLength = 7
@@ -26,6 +26,16 @@ AFE = 3
 abbrev pub AM : ℕ
 AM = 4
 
+-- 02, card 4: "Frames of kind 5 (LA, ask), 6 (LE, given) and 7 (LB, back)"
+abbrev pub LA : ℕ
+LA = 5
+
+abbrev pub LE : ℕ
+LE = 6
+
+abbrev pub LB : ℕ
+LB = 7
+
 abbrev pub moveOf : ℕ → ℕ → ℕ → Move
 moveOf t p q = record { train = record { 0 = t }; from = record { 0 = p }; to = record { 0 = q } }
 
@@ -35,6 +45,9 @@ moveIn (Fa m) = m
 moveIn (Fe m) = m
 moveIn (Afe m) = m
 moveIn (Am m) = m
+moveIn (La m) = m
+moveIn (Le m) = m
+moveIn (Lb m) = m
 moveIn (Refused n) = moveOf 0 0 0
 
 -- ---- reading
@@ -44,7 +57,7 @@ abbrev pub readChecks : List ℕ → List Check
 readChecks f =
     check tornFrame (eqb (length f) frameLength && eqb (word (getD f 0 0) (getD f 1 0)) 5)
     ∷ check otherEdition (eqb (getD f 2 0) 1)
-    ∷ check unknownKind (inRange FA AM (getD f 3 0))
+    ∷ check unknownKind (inRange FA LB (getD f 3 0))
     ∷ []
 
 -- the message of a kind
@@ -53,9 +66,12 @@ messageOf k m =
     cond (eqb k FA) (Fa m)
     (cond (eqb k FE) (Fe m)
     (cond (eqb k AFE) (Afe m)
-    (cond (eqb k AM) (Am m) (Refused unknownKind))))
+    (cond (eqb k AM) (Am m)
+    (cond (eqb k LA) (La m)
+    (cond (eqb k LE) (Le m)
+    (cond (eqb k LB) (Lb m) (Refused unknownKind)))))))
 
--- "A frame reads as one of four messages or as a refusal."
+-- "A frame reads as one of four messages or as a refusal." 02, card 4: "Kinds 5, 6 and 7 are known now"
 unfoldable pub readFrame : List ℕ → Message
 readFrame f =
     unlessRefused (refusal (readChecks f))
@@ -73,4 +89,7 @@ bytesOf (Fa m) = frameBytes FA m
 bytesOf (Fe m) = frameBytes FE m
 bytesOf (Afe m) = frameBytes AFE m
 bytesOf (Am m) = frameBytes AM m
+bytesOf (La m) = frameBytes LA m
+bytesOf (Le m) = frameBytes LE m
+bytesOf (Lb m) = frameBytes LB m
 bytesOf (Refused n) = replicate frameLength 0

@@ -3,15 +3,18 @@
 use mathlib.Core.Path.{_≡_}
 use mathlib.Core.List.{List}
 use Prim.Native.Nat.{ℕ}
-use Rattle.frame.specs.Types.{Message, Fa, Fe, Afe, Am, Refused}
+use Rattle.frame.specs.Types.{Message, Fa, Fe, Afe, Am, La, Le, Lb, Refused}
 use Rattle.frame.specs.Frame.{readFrame, bytesOf}
 
--- it is one of the four messages
+-- it is one of the seven messages
 unfoldable pub IsMessage : Message → Type 0
 IsMessage (Fa m) = Unit {0}
 IsMessage (Fe m) = Unit {0}
 IsMessage (Afe m) = Unit {0}
 IsMessage (Am m) = Unit {0}
+IsMessage (La m) = Unit {0}
+IsMessage (Le m) = Unit {0}
+IsMessage (Lb m) = Unit {0}
 IsMessage (Refused n) = ⊥
 
 pub record FramesReadBack : Type 0 where

@@ -8,5 +8,8 @@ pub use format::AM;
 pub use format::FA;
 pub use format::FE;
 pub use format::FRAME_LENGTH;
+pub use format::LA;
+pub use format::LB;
+pub use format::LE;
 pub use message::Message;
 pub use message::Move;

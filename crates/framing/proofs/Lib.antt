@@ -1,2 +1,3 @@
--- The laws of placing that the proof of `place` cites; those of reading are in `frame`.
+-- The laws that the proofs of `read` and `place` cite; those of what a frame reads as are in `frame`.
+pub mod Unnamed
 pub mod Placing

@@ -6,6 +6,9 @@ use frame::AM;
 use frame::FA;
 use frame::FE;
 use frame::FRAME_LENGTH;
+use frame::LA;
+use frame::LB;
+use frame::LE;
 use frame::Message;
 use frame::Move;
 use line::PostNo;
@@ -14,7 +17,7 @@ use line::refusal::OTHER_EDITION;
 use line::refusal::TORN_FRAME;
 use line::refusal::UNKNOWN_KIND;
 
-// What a frame of any bytes says.
+// What a frame of any bytes says. 02, card 4: "Kinds 5, 6 and 7 are known now".
 pub fn read(frame: &[u8]) -> Message
     ensures { λ r. ⌜ r ≡ readFrame (now (frame .entry)) ⌝ }
 {
@@ -41,6 +44,9 @@ pub fn read(frame: &[u8]) -> Message
         FE => Message::Fe(m),
         AFE => Message::Afe(m),
         AM => Message::Am(m),
-        0 | 5..=255 => Message::Refused(UNKNOWN_KIND),
+        LA => Message::La(m),
+        LE => Message::Le(m),
+        LB => Message::Lb(m),
+        0 | 8..=255 => Message::Refused(UNKNOWN_KIND),
     }
 }

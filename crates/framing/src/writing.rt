@@ -10,6 +10,9 @@ use frame::AM;
 use frame::FA;
 use frame::FE;
 use frame::FRAME_LENGTH;
+use frame::LA;
+use frame::LB;
+use frame::LE;
 use frame::Message;
 use frame::Move;
 
@@ -22,6 +25,9 @@ pub fn write(message: Message) -> [u8; FRAME_LENGTH]
         Message::Fe(m) => bytes(FE, m),
         Message::Afe(m) => bytes(AFE, m),
         Message::Am(m) => bytes(AM, m),
+        Message::La(m) => bytes(LA, m),
+        Message::Le(m) => bytes(LE, m),
+        Message::Lb(m) => bytes(LB, m),
         Message::Refused(_) => [0; FRAME_LENGTH],
     }
 }

@@ -1,6 +1,6 @@
 -- 01, "The journal": "The journal is a lent run of records, at least 176: kind, train, from, to. An accepted frame is
 -- logged, then each answer in order of sending. Records past the count are untouched." 02, card 2: "The FE record gains
--- the track number at the post run to, from 1; other records have 0 there."
+-- the track number at the post run to, from 1; other records have 0 there." Card 4: "The journal grows to 236 records".
 use mathlib.Core.Path.{_≡_}
 use mathlib.Core.Logic.{_≢_}
 use mathlib.Core.Bool.{Bool, cond, _&&_}
@@ -9,13 +9,13 @@ use Prim.Native.Nat.{ℕ, _+_, _≤_, _<_}
 use lib.Dec.{leb, ltb}
 use lib.ListN.{length, getD, set, take, drop, replicate}
 use Rattle.line.specs.Line.{tracksAt}
-use Rattle.frame.specs.Frame.{FA, FE, AFE, AM, frameBytes, bytesOf}
+use Rattle.frame.specs.Frame.{FA, FE, AFE, AM, LA, LE, LB, frameBytes, bytesOf}
 use Rattle.frame.specs.RoundTrip.{IsMessage}
-use Rattle.journal.specs.Types.{Line, Move, Message, Fa, Fe, Afe, Am, Refused, Record, Batch}
+use Rattle.journal.specs.Types.{Line, Move, Message, Fa, Fe, Afe, Am, La, Le, Lb, Refused, Record, Batch}
 
--- "at least 176"
+-- 02, card 4: "236 records"
 abbrev pub journalLength : ℕ
-journalLength = 176
+journalLength = 236
 
 -- ---- records
 
@@ -39,6 +39,9 @@ recordOf (Fa m) = recordWith FA m
 recordOf (Fe m) = recordWith FE m
 recordOf (Afe m) = recordWith AFE m
 recordOf (Am m) = recordWith AM m
+recordOf (La m) = recordWith LA m
+recordOf (Le m) = recordWith LE m
+recordOf (Lb m) = recordWith LB m
 recordOf (Refused n) = blank
 
 -- the same record, but for its track k

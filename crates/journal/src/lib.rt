@@ -12,4 +12,4 @@ pub use log::Log;
 pub use record::Record;
 
 // How many records a lent journal has at least.
-pub const JOURNAL_LENGTH: usize = 176;
+pub const JOURNAL_LENGTH: usize = 236;

@@ -69,3 +69,12 @@ notAwaited = 22
 
 abbrev pub sidings : ℕ
 sidings = 23
+
+abbrev pub sectionTaken : ℕ
+sectionTaken = 24
+
+abbrev pub noLocalRun : ℕ
+noLocalRun = 25
+
+abbrev pub twentyGiven : ℕ
+twentyGiven = 26

@@ -6,6 +6,9 @@ use frame::AM;
 use frame::FA;
 use frame::FE;
 use frame::FRAME_LENGTH;
+use frame::LA;
+use frame::LB;
+use frame::LE;
 use frame::Message;
 use frame::Move;
 use journal::Record;
@@ -35,6 +38,9 @@ pub fn record_of(message: Message) -> Record
         Message::Fe(m) => of_kind(FE, m),
         Message::Afe(m) => of_kind(AFE, m),
         Message::Am(m) => of_kind(AM, m),
+        Message::La(m) => of_kind(LA, m),
+        Message::Le(m) => of_kind(LE, m),
+        Message::Lb(m) => of_kind(LB, m),
         Message::Refused(_) => blank(),
     }
 }

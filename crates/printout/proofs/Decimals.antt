@@ -1,6 +1,7 @@
 -- Laws of a number in decimal.
 use mathlib.Core.Path.{_≡_}
-use mathlib.Core.List.{[], _∷_, _++_}
+use mathlib.Core.Bool.{cond}
+use mathlib.Core.List.{List, [], _∷_, _++_}
 use Prim.Native.Nat.{ℕ, zero, suc, _+_, _-_, _*_, _/_, _%_, _^_, _≤_, _<_}
 use native.Mathlib.Nat.{pow-succ', one-le-pow, pow-le-pow-right}
 use native.Mathlib.Numerals.{unary-clauses}
@@ -73,13 +74,17 @@ decimal-length (suc f) n (suc (suc k)) h p =
 
 -- ---- the lines fit
 
+-- the name of kind n, or that of a later one
+short-name : (k n : ℕ) (name later : List ℕ) → length name ≤ 4 → length later ≤ 4
+    → length (cond (eqb k n) name later) ≤ 4
+short-name k n name later h l = by-cases (eqb k n) (λ e. rw e h) (λ e. rw e l)
+
 kind-length : (k : ℕ) → length (kindName k) ≤ 4
 unfolding kindName
 kind-length k =
-    by-cases (eqb k 1) (λ e. rw e (omega arith))
-    (λ e. by-cases (eqb k 2) (λ f. rw (e, f) (omega arith))
-    (λ f. by-cases (eqb k 3) (λ g. rw (e, f, g) (omega arith))
-    (λ g. by-cases (eqb k 4) (λ h. rw (e, f, g, h) (omega arith)) (λ h. rw (e, f, g, h) (omega arith)))))
+    short-name k 1 _ _ (omega arith) (short-name k 2 _ _ (omega arith) (short-name k 3 _ _ (omega arith)
+    (short-name k 4 _ _ (omega arith) (short-name k 5 _ _ (omega arith) (short-name k 6 _ _ (omega arith)
+    (short-name k 7 _ _ (omega arith) (omega arith)))))))
 
 pub record-fits : (n : ℕ) (r : Record) → n < 2 ^ 8 → r .train .0 < 2 ^ 8 → r .from .0 < 2 ^ 8 → r .to .0 < 2 ^ 8
     → r .track .0 < 2 ^ 8 → length (recordLine n r) ≤ recordLineLength

@@ -3,7 +3,7 @@ use mathlib.Core.Bool.{cond}
 use mathlib.Core.List.{List, [], _∷_, _++_}
 use Prim.Native.Nat.{ℕ, zero, suc, _+_, _/_, _%_}
 use lib.Dec.{eqb, ltb}
-use Rattle.frame.specs.Frame.{FA, FE, AFE, AM}
+use Rattle.frame.specs.Frame.{FA, FE, AFE, AM, LA, LE, LB}
 use Rattle.journal.specs.Journal.{recordAt}
 use Rattle.printout.specs.Types.{Record}
 
@@ -23,13 +23,17 @@ spaced n = 32 ∷ decimal n
 abbrev pub newline : List ℕ
 newline = 10 ∷ []
 
--- after a space `FA`, `FE`, `AFE` or `AM`, or `?` for what is no kind
+-- after a space `FA`, `FE`, `AFE` or `AM`, or, by 02, card 4, "kind 5 (LA, ask), 6 (LE, given) and 7 (LB, back)",
+-- `LA`, `LE` or `LB`; `?` for what is no kind
 unfoldable pub kindName : ℕ → List ℕ
 kindName k =
     cond (eqb k FA) (32 ∷ 70 ∷ 65 ∷ [])
     (cond (eqb k FE) (32 ∷ 70 ∷ 69 ∷ [])
     (cond (eqb k AFE) (32 ∷ 65 ∷ 70 ∷ 69 ∷ [])
-    (cond (eqb k AM) (32 ∷ 65 ∷ 77 ∷ []) (32 ∷ 63 ∷ []))))
+    (cond (eqb k AM) (32 ∷ 65 ∷ 77 ∷ [])
+    (cond (eqb k LA) (32 ∷ 76 ∷ 65 ∷ [])
+    (cond (eqb k LE) (32 ∷ 76 ∷ 69 ∷ [])
+    (cond (eqb k LB) (32 ∷ 76 ∷ 66 ∷ []) (32 ∷ 63 ∷ [])))))))
 
 -- 01: "each journal record (number, kind, train, from, to)". 02, card 2: "The printed line of a record ends with its
 -- track number."

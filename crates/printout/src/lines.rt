@@ -11,6 +11,9 @@ use frame::AFE;
 use frame::AM;
 use frame::FA;
 use frame::FE;
+use frame::LA;
+use frame::LB;
+use frame::LE;
 use journal::Record;
 
 // 01: "each journal record (number, kind, train, from, to)". 02, card 2: "The printed line of a
@@ -57,6 +60,9 @@ fn with_kind(text: Text, kind: u8) -> Text
         FE => with_word(text, b" FE"),
         AFE => with_word(text, b" AFE"),
         AM => with_word(text, b" AM"),
+        LA => with_word(text, b" LA"),
+        LE => with_word(text, b" LE"),
+        LB => with_word(text, b" LB"),
         _ => with_word(text, b" ?"),
     }
 }

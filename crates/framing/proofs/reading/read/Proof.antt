@@ -12,6 +12,7 @@ use Rattle.frame.specs.declared.message.Message.the-variants.{Refused}
 use Rattle.frame.specs.Frame.{readFrame, messageOf}
 use Rattle.frame.proofs.Cases.{namedMove, other-size, other-length, other-version, other-kind, known-kind}
 use Rattle.frame.proofs.Cases.{not-a-kind}
+use Rattle.framing.proofs.Unnamed.{OtherThan, out-of-range}
 use Rattle.framing.proofs.reading.read.Statement.{statement}
 use Rattle.framing.proofs.reading.read.Tie as tie
 
@@ -42,10 +43,10 @@ module _ (c : tie.After-shared-slice-known7) where
   version = c .before .before .before .before .if4 .left
 
   -- the arm of a kind byte k
-  arm : (k : ℕ) → getD bytes 3 0 ≡ k → 1 ≤ k → k ≤ 4 → messageOf k (namedMove bytes) ≡ readFrame bytes
+  arm : (k : ℕ) → getD bytes 3 0 ≡ k → 1 ≤ k → k ≤ 7 → messageOf k (namedMove bytes) ≡ readFrame bytes
   arm = known-kind bytes size five version
 
-  no-arm : (1 ≤ getD bytes 3 0 → getD bytes 3 0 ≤ 4 → ⊥) → Refused unknownKind ≡ readFrame bytes
+  no-arm : (1 ≤ getD bytes 3 0 → getD bytes 3 0 ≤ 7 → ⊥) → Refused unknownKind ≡ readFrame bytes
   no-arm h = other-kind bytes size five version (not-a-kind (getD bytes 3 0) h)
 
 returns-5 : tie.Need-returns-5
@@ -65,10 +66,23 @@ unfolding messageOf
 returns-8 c = arm (c .before) 4 (c .match .keys4) (omega arith) (omega arith)
 
 returns-9 : tie.Need-returns-9
-returns-9 c = no-arm (c .before) (λ low high. omega arith)
+unfolding messageOf
+returns-9 c = arm (c .before) 5 (c .match .keys5) (omega arith) (omega arith)
 
 returns-10 : tie.Need-returns-10
-returns-10 c = no-arm (c .before) (λ low high. omega arith)
+unfolding messageOf
+returns-10 c = arm (c .before) 6 (c .match .keys6) (omega arith) (omega arith)
+
+returns-11 : tie.Need-returns-11
+unfolding messageOf
+returns-11 c = arm (c .before) 7 (c .match .keys7) (omega arith) (omega arith)
+
+returns-12 : tie.Need-returns-12
+returns-12 c = no-arm (c .before) (λ low high. omega arith)
+
+returns-13 : tie.Need-returns-13
+unfolding OtherThan
+returns-13 c = no-arm (c .before) (out-of-range 7 _ (c .match .rest .0))
 
 pub read-spec : {M : Type 1} → statement M
 read-spec =
@@ -90,4 +104,7 @@ read-spec =
     returns-7
     returns-8
     returns-9
-    returns-10)
+    returns-10
+    returns-11
+    returns-12
+    returns-13)

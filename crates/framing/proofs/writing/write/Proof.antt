@@ -23,7 +23,19 @@ returns-4 c = c .bytes4 .ensures ∙ ap bytesOf (sym (c .before .before .message
 
 returns-5 : tie.Need-returns-5
 unfolding bytesOf
-returns-5 c = ap bytesOf (sym (c .enum-told .given .1))
+returns-5 c = c .bytes5 .ensures ∙ ap bytesOf (sym (c .before .before .message5 .given .1))
+
+returns-6 : tie.Need-returns-6
+unfolding bytesOf
+returns-6 c = c .bytes6 .ensures ∙ ap bytesOf (sym (c .before .before .message6 .given .1))
+
+returns-7 : tie.Need-returns-7
+unfolding bytesOf
+returns-7 c = c .bytes7 .ensures ∙ ap bytesOf (sym (c .before .before .message7 .given .1))
+
+returns-8 : tie.Need-returns-8
+unfolding bytesOf
+returns-8 c = ap bytesOf (sym (c .enum-told .given .1))
 
 pub write-spec : {M : Type 1} → statement M
 write-spec =
@@ -38,8 +50,17 @@ write-spec =
     (λ c. search needs)
     (λ c κs. search needs)
     (λ c. search needs)
+    (λ c κs. search needs)
+    (λ c. search needs)
+    (λ c κs. search needs)
+    (λ c. search needs)
+    (λ c κs. search needs)
+    (λ c. search needs)
     returns
     returns-2
     returns-3
     returns-4
-    returns-5)
+    returns-5
+    returns-6
+    returns-7
+    returns-8)

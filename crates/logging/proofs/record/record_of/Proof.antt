@@ -23,7 +23,19 @@ returns-4 c = c .of-kind4 .ensures ∙ ap recordOf (sym (c .before .before .mess
 
 returns-5 : tie.Need-returns-5
 unfolding recordOf
-returns-5 c = c .blank .ensures ∙ ap recordOf (sym (c .before .enum-told .given .1))
+returns-5 c = c .of-kind5 .ensures ∙ ap recordOf (sym (c .before .before .message5 .given .1))
+
+returns-6 : tie.Need-returns-6
+unfolding recordOf
+returns-6 c = c .of-kind6 .ensures ∙ ap recordOf (sym (c .before .before .message6 .given .1))
+
+returns-7 : tie.Need-returns-7
+unfolding recordOf
+returns-7 c = c .of-kind7 .ensures ∙ ap recordOf (sym (c .before .before .message7 .given .1))
+
+returns-8 : tie.Need-returns-8
+unfolding recordOf
+returns-8 c = c .blank .ensures ∙ ap recordOf (sym (c .before .enum-told .given .1))
 
 pub record-of-spec : {M : Type 1} → statement M
 record-of-spec =
@@ -39,8 +51,17 @@ record-of-spec =
     (λ c κs. search needs)
     (λ c. search needs)
     (λ c κs. search needs)
+    (λ c. search needs)
+    (λ c κs. search needs)
+    (λ c. search needs)
+    (λ c κs. search needs)
+    (λ c. search needs)
+    (λ c κs. search needs)
     returns
     returns-2
     returns-3
     returns-4
-    returns-5)
+    returns-5
+    returns-6
+    returns-7
+    returns-8)

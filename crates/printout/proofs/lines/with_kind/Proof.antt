@@ -18,9 +18,10 @@ use Rattle.printout.proofs.text.with_word.Reads as asked
 abbrev named : lts.Start (asked.Asked, asked.Learnt) reads.Pre reads.Post → ℕ → Text
 named c k = followed (c .args .text) (kindName k)
 
-no-kind : (k : ℕ) → k ≢ 1 → k ≢ 2 → k ≢ 3 → k ≢ 4 → 32 ∷ 63 ∷ [] ≡ kindName k
+no-kind : (k : ℕ) → k ≢ 1 → k ≢ 2 → k ≢ 3 → k ≢ 4 → k ≢ 5 → k ≢ 6 → k ≢ 7 → 32 ∷ 63 ∷ [] ≡ kindName k
 unfolding kindName
-no-kind k h₁ h₂ h₃ h₄ = rw (ne-eqb k 1 h₁, ne-eqb k 2 h₂, ne-eqb k 3 h₃, ne-eqb k 4 h₄)
+no-kind k h₁ h₂ h₃ h₄ h₅ h₆ h₇ =
+    rw (ne-eqb k 1 h₁, ne-eqb k 2 h₂, ne-eqb k 3 h₃, ne-eqb k 4 h₄, ne-eqb k 5 h₅, ne-eqb k 6 h₆, ne-eqb k 7 h₇)
 
 returns : tie.Need-returns
 unfolding kindName
@@ -43,10 +44,26 @@ returns-4 c =
     c .with-word4 .ensures ∙ ap (named (c .before .before .before)) (sym (c .before .before .match .keys4))
 
 returns-5 : tie.Need-returns-5
+unfolding kindName
 returns-5 c =
+    c .with-word5 .ensures ∙ ap (named (c .before .before .before)) (sym (c .before .before .match .keys5))
+
+returns-6 : tie.Need-returns-6
+unfolding kindName
+returns-6 c =
+    c .with-word6 .ensures ∙ ap (named (c .before .before .before)) (sym (c .before .before .match .keys6))
+
+returns-7 : tie.Need-returns-7
+unfolding kindName
+returns-7 c =
+    c .with-word7 .ensures ∙ ap (named (c .before .before .before)) (sym (c .before .before .match .keys7))
+
+returns-8 : tie.Need-returns-8
+returns-8 c =
     let no = c .before .before .match .rest in
-    let name = no-kind _ (no .0 .0 .0 .1) (no .0 .0 .1) (no .0 .1) (no .1) in
-    c .with-word5 .ensures ∙ ap (followed (c .before .before .before .args .text)) name
+    let early = no .0 .0 .0 .0 in
+    let name = no-kind _ (early .0 .0 .1) (early .0 .1) (early .1) (no .0 .0 .0 .1) (no .0 .0 .1) (no .0 .1) (no .1) in
+    c .with-word8 .ensures ∙ ap (followed (c .before .before .before .args .text)) name
 
 pub with-kind-spec : {M : Type 1} → statement M
 with-kind-spec =
@@ -62,8 +79,17 @@ with-kind-spec =
     (λ c κs. search needs)
     (λ c. search needs)
     (λ c κs. search needs)
+    (λ c. search needs)
+    (λ c κs. search needs)
+    (λ c. search needs)
+    (λ c κs. search needs)
+    (λ c. search needs)
+    (λ c κs. search needs)
     returns
     returns-2
     returns-3
     returns-4
-    returns-5)
+    returns-5
+    returns-6
+    returns-7
+    returns-8)
