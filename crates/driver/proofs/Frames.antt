@@ -13,7 +13,8 @@ use Rattle.line.specs.Refusal.{strangeState, wrongEnd, notAwaited}
 use Rattle.frame.specs.Frame.{readChecks, readFrame}
 use Rattle.frame.specs.RoundTrip.{IsMessage}
 use Rattle.frame.proofs.Outcome.{read-passed, read-refused}
-use Rattle.driver.specs.Types.{Move, Message, Fa, Fe, Afe, Am, Refused, Phase, Asked, Declined, Granted, Unit}
+use Rattle.driver.specs.Types.{Move, Message, Fa, Fe, Afe, Am, La, Le, Lb, Refused, Phase, Asked}
+use Rattle.driver.specs.Types.{Declined, Granted, Unit}
 use Rattle.driver.specs.State.{samePhase, ownMove, inPhase, validUnit}
 use Rattle.driver.specs.Hearing.{forTrain, forMove, awaiting, forUnit, awaited, hearChecks, phaseAfter, heardWith}
 use Rattle.driver.specs.Hearing.{hearFrame}
@@ -72,6 +73,19 @@ module _ (u : Unit) (f : List ℕ) where
     pub am : (m : Move) → readFrame f ≡ Am m → heardWith u wrongEnd ≡ hearFrame u f
     unfolding IsMessage
     am m e = other-end (Am m) e tt refl
+
+    -- 02, card 4: kinds 5, 6 and 7 "heard by a unit change nothing"
+    pub la : (m : Move) → readFrame f ≡ La m → heardWith u 0 ≡ hearFrame u f
+    unfolding IsMessage phaseAfter
+    la m e = taken (La m) e tt refl (u .phase) refl refl
+
+    pub le : (m : Move) → readFrame f ≡ Le m → heardWith u 0 ≡ hearFrame u f
+    unfolding IsMessage phaseAfter
+    le m e = taken (Le m) e tt refl (u .phase) refl refl
+
+    pub lb : (m : Move) → readFrame f ≡ Lb m → heardWith u 0 ≡ hearFrame u f
+    unfolding IsMessage phaseAfter
+    lb m e = taken (Lb m) e tt refl (u .phase) refl refl
 
     -- ---- FE
 

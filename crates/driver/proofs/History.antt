@@ -142,8 +142,8 @@ module _ (t a e : ℕ) where
         let granted = subst (Authorised t (with past (fe m))) o (after-fe t past asked) in
         with-event (inPhase u Granted) (says-accepted f (inPhase u Granted) (Fe m) r) (λ z. asked)
         (in-phase (fe m) Granted good (λ n. refl) granted)
-    heard {f} (outcomes.afe-passed-over m r) =
-        with-event u (says-accepted f u (Afe m) r) (record {}) (unchanged other nothing)
+    heard {f} (outcomes.passed-over x r h) =
+        with-event u (says-accepted f u x r ∙ h) (record {}) (unchanged other nothing)
     heard {f} (outcomes.declined m r h) =
         let good : validUnit (inPhase u Declined) ≡ true = heard-valid u (k .good) (outcomes.declined m r h) in
         let asked = requested-kept t past nothing (told-as Asked h) in

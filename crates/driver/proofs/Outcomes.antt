@@ -12,12 +12,13 @@ use Rattle.common.proofs.Tests.{by-cases, not-passed, and-left, and-right}
 use Rattle.common.proofs.Check.{passed-by}
 use Rattle.line.specs.Refusal.{wrongEnd, atItsEnd, notNow, notAwaited}
 use Rattle.frame.specs.Frame.{moveOf, readFrame}
-use Rattle.driver.specs.Types.{Move, Message, Fa, Fe, Afe, Am, Refused, Button, Unit, Pressed, Heard, Asked}
-use Rattle.driver.specs.Types.{Declined, Granted}
+use Rattle.driver.specs.Types.{Move, Message, Fa, Fe, Afe, Am, La, Le, Lb, Refused, Button, Unit, Pressed}
+use Rattle.driver.specs.Types.{Heard, Asked, Declined, Granted}
 use Rattle.driver.specs.State.{samePhase, ownMove, inPhase}
 use Rattle.driver.specs.Pressing.{phaseFor, pressChecks, silent, carriedOut, pressButton}
 use Rattle.driver.specs.Hearing.{forTrain, forMove, awaiting, forUnit, awaited, hearChecks, phaseAfter, heardWith}
 use Rattle.driver.specs.Hearing.{hearFrame}
+use Rattle.driver.specs.History.{other, acceptedEvent}
 use Rattle.driver.proofs.Phases.{same-phase}
 
 pub data PressOutcome (u : Unit) (b : Button) : Pressed → Type 0 where
@@ -34,13 +35,13 @@ press-outcome u b = at (refusal (pressChecks u b)) refl
         accepted (same-phase (u .phase) (phaseFor b) (passed notNow)) (eqb-false _ _ (not-true _ (passed atItsEnd)))
     at (suc n) e = refused n
 
--- an FE or AFE that is passed over, or the FE or AFE for the unit's own move when it waits for one
+-- an FE or another message that is passed over, or the FE or AFE for the unit's own move when it waits for one
 pub data HearOutcome (u : Unit) (f : List ℕ) : Heard → Type 0 where
   refused : (n : ℕ) → HearOutcome u f (heardWith u (suc n))
   fe-passed-over : (m : Move) → readFrame f ≡ Fe m → m .train .0 ≢ u .train .0 → HearOutcome u f (heardWith u 0)
   granted : (m : Move) → readFrame f ≡ Fe m → m ≡ ownMove u → awaiting (u .phase) ≡ true
       → HearOutcome u f (heardWith (inPhase u Granted) 0)
-  afe-passed-over : (m : Move) → readFrame f ≡ Afe m → HearOutcome u f (heardWith u 0)
+  passed-over : (x : Message) → readFrame f ≡ x → acceptedEvent x ≡ other → HearOutcome u f (heardWith u 0)
   declined : (m : Move) → readFrame f ≡ Afe m → u .phase ≡ Asked → HearOutcome u f (heardWith (inPhase u Declined) 0)
 
 pub same-move : {t p q t′ p′ q′ : ℕ} → t ≡ t′ → p ≡ p′ → q ≡ q′ → moveOf t p q ≡ moveOf t′ p′ q′
@@ -70,8 +71,11 @@ module _ (u : Unit) (f : List ℕ) where
       (λ h. rw h (fe-passed-over m e (eqb-false _ _ (not-passed (forTrain u m) (λ t. false≢true (rw (t, h) at w))))))
   taken (Afe m) e own w = by-cases (forMove u m && samePhase (u .phase) Asked)
       (λ h. rw h (declined m e (same-phase (u .phase) Asked (and-right (forMove u m) _ h))))
-      (λ h. rw h (afe-passed-over m e))
+      (λ h. rw h (passed-over (Afe m) e refl))
   taken (Am m) e own w = absurd (false≢true own)
+  taken (La m) e own w = passed-over (La m) e refl
+  taken (Le m) e own w = passed-over (Le m) e refl
+  taken (Lb m) e own w = passed-over (Lb m) e refl
   taken (Refused n) e own w = absurd (false≢true own)
 
   pub hear-outcome : HearOutcome u f (hearFrame u f)

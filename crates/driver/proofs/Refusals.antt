@@ -59,4 +59,7 @@ refusals = record {
   not-now = λ u b good h.
       press-number (buttons.other-phase u b good (not-passed (samePhase _ _) (λ s. h (same-phase _ _ s))));
   not-awaited = λ u f m h. ⊎-elim (not-now h) (other-move h);
+  local-run = λ u f m good. ⊎-elim
+      (λ r. sym (frames.la u f good m r))
+      (⊎-elim (λ r. sym (frames.le u f good m r)) (λ r. sym (frames.lb u f good m r)));
 }

@@ -105,7 +105,7 @@ module _ (u : Unit) (good : validUnit u ≡ true) where
   heard-valid (outcomes.fe-passed-over m e h) = good
   heard-valid (outcomes.granted m e o h) =
       valid-in-phase u good (short-unless-standing u good (awaiting-not-standing (u .phase) h)) Granted
-  heard-valid (outcomes.afe-passed-over m e) = good
+  heard-valid (outcomes.passed-over x e h) = good
   heard-valid (outcomes.declined m e h) = valid-in-phase u good (short-unless-standing u good (rw h)) Declined
 
 -- ---- after a refusal
@@ -125,7 +125,7 @@ hearing-refused : {u : Unit} {f : List ℕ} {r : Heard} → outcomes.HearOutcome
 hearing-refused (outcomes.refused n) h = refl
 hearing-refused (outcomes.fe-passed-over m e k) h = refl
 hearing-refused (outcomes.granted m e o k) h = absurd (h refl)
-hearing-refused (outcomes.afe-passed-over m e) h = refl
+hearing-refused (outcomes.passed-over x e k) h = refl
 hearing-refused (outcomes.declined m e k) h = absurd (h refl)
 
 pub validity : Validity

@@ -8,7 +8,7 @@ use Prim.Native.Nat.{ℕ, zero, suc}
 use lib.Dec.{eqb}
 use Rattle.line.specs.Route.{nextPost}
 use Rattle.frame.specs.Frame.{moveOf, readFrame}
-use Rattle.driver.specs.Types.{Move, Message, Fa, Fe, Afe, Am, Refused, Button, Unit, Pressed, Heard}
+use Rattle.driver.specs.Types.{Move, Message, Fa, Fe, Afe, Am, La, Le, Lb, Refused, Button, Unit, Pressed, Heard}
 use Rattle.driver.specs.Making.{makeUnit}
 use Rattle.driver.specs.Pressing.{pressButton}
 use Rattle.driver.specs.Hearing.{hearFrame}
@@ -59,6 +59,9 @@ sentEvent (Fa m) = fa m
 sentEvent (Fe m) = other
 sentEvent (Afe m) = other
 sentEvent (Am m) = am m
+sentEvent (La m) = other
+sentEvent (Le m) = other
+sentEvent (Lb m) = other
 sentEvent (Refused n) = other
 
 -- a frame that was accepted
@@ -67,6 +70,9 @@ acceptedEvent (Fa m) = other
 acceptedEvent (Fe m) = fe m
 acceptedEvent (Afe m) = other
 acceptedEvent (Am m) = other
+acceptedEvent (La m) = other
+acceptedEvent (Le m) = other
+acceptedEvent (Lb m) = other
 acceptedEvent (Refused n) = other
 
 -- by the button and what the bytes sent read as, or by the frame that was heard and the number of its refusal or 0

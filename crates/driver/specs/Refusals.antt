@@ -1,5 +1,6 @@
 -- The claims on the numbers of a unit: 01, "Declining by number". Each is given for what the paper says, once the
--- checks before it pass: 18 for a making; 1, 21, 8 for a button; 1, then 3, 4 or 5, 6, 22 for a frame.
+-- checks before it pass: 18 for a making; 1, 21, 8 for a button; 1, then 3, 4 or 5, 6, 22 for a frame. And no number is
+-- given by a valid unit for a frame that reads as LA, LE or LB.
 use mathlib.Core.Path.{_≡_}
 use mathlib.Core.Logic.{_≢_, _⊎_}
 use mathlib.Core.Bool.{true, false}
@@ -7,11 +8,11 @@ use mathlib.Core.List.{List}
 use Prim.Native.Nat.{ℕ, _<_}
 use Rattle.line.specs.Refusal.{strangeState, wrongEnd, atItsEnd, offTheLine, notNow, notAwaited}
 use Rattle.frame.specs.Frame.{readFrame}
-use Rattle.driver.specs.Types.{Move, Fa, Fe, Am, Refused, Unit, Button, Ask, Standing}
+use Rattle.driver.specs.Types.{Move, Fa, Fe, Am, La, Le, Lb, Refused, Unit, Button, Ask, Standing}
 use Rattle.driver.specs.State.{ownMove, validUnit}
 use Rattle.driver.specs.Making.{makeUnit}
 use Rattle.driver.specs.Pressing.{phaseFor, pressButton}
-use Rattle.driver.specs.Hearing.{awaiting, hearFrame}
+use Rattle.driver.specs.Hearing.{awaiting, heardWith, hearFrame}
 
 abbrev pub PressRefused : ℕ → Unit → Button → Type 0
 PressRefused n u b = pressButton u b .refusal ≡ n
@@ -44,3 +45,7 @@ pub record UnitRefusals : Type 0 where
   -- 22, not awaited: "FE in the wrong state or for another move"
   pub not-awaited : (u : Unit) (f : List ℕ) (m : Move) → HearsFe u f m
       → (awaiting (u .phase) ≡ false) ⊎ (m ≢ ownMove u) → HearingRefused notAwaited u f
+  -- 02, card 4: "Kinds 5, 6 and 7 are known now, and heard by a unit change nothing.": each is accepted in every phase,
+  -- whatever train and posts it names
+  pub local-run : (u : Unit) (f : List ℕ) (m : Move) → validUnit u ≡ true
+      → (readFrame f ≡ La m) ⊎ ((readFrame f ≡ Le m) ⊎ (readFrame f ≡ Lb m)) → hearFrame u f ≡ heardWith u 0

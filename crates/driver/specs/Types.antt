@@ -2,7 +2,7 @@
 pub use Rattle.line.specs.declared.route.Route.{Route}
 pub use Rattle.frame.specs.declared.message.Move.{Move}
 pub use Rattle.frame.specs.declared.message.Message.{Message}
-pub use Rattle.frame.specs.declared.message.Message.the-variants.{Fa, Fe, Afe, Am, Refused}
+pub use Rattle.frame.specs.declared.message.Message.the-variants.{Fa, Fe, Afe, Am, La, Le, Lb, Refused}
 pub use Rattle.driver.specs.declared.state.Phase.{Phase}
 pub use Rattle.driver.specs.declared.state.Phase.the-variants.{Standing, Asked, Declined}
 pub use Rattle.driver.specs.declared.state.Phase.the-variants.{Granted, UnderWay, Arrived}

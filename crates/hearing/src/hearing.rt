@@ -14,7 +14,8 @@ use unit::own_move;
 use unit::same;
 use unit::valid;
 
-// What a frame of any bytes does.
+// What a frame of any bytes does. 02, card 4: "Kinds 5, 6 and 7 are known now, and heard by a unit
+// change nothing."
 pub fn hear(unit: Unit, frame: &[u8]) -> Heard
     ensures { λ r. ⌜ r ≡ hearFrame unit (now (frame .entry)) ⌝ }
 {
@@ -46,6 +47,9 @@ pub fn hear(unit: Unit, frame: &[u8]) -> Heard
             answered(in_phase(unit, Phase::Declined), 0)
         }
         Message::Am(_) => answered(unit, WRONG_END),
+        Message::La(_) => answered(unit, 0),
+        Message::Le(_) => answered(unit, 0),
+        Message::Lb(_) => answered(unit, 0),
         Message::Refused(n) => answered(unit, n),
     }
 }

@@ -131,9 +131,24 @@ returns-10 c =
 
 returns-11 : tie.Need-returns-11
 returns-11 c =
+    let r = c .before .before .before in
+    c .answered11 .ensures ∙ frames.la _ _ (good r) _ (sym (r .read .ensures) ∙ c .before .enum-told3 .given .1)
+
+returns-12 : tie.Need-returns-12
+returns-12 c =
+    let r = c .before .before .before in
+    c .answered12 .ensures ∙ frames.le _ _ (good r) _ (sym (r .read .ensures) ∙ c .before .enum-told4 .given .1)
+
+returns-13 : tie.Need-returns-13
+returns-13 c =
+    let r = c .before .before .before in
+    c .answered13 .ensures ∙ frames.lb _ _ (good r) _ (sym (r .read .ensures) ∙ c .before .enum-told5 .given .1)
+
+returns-14 : tie.Need-returns-14
+returns-14 c =
     let n = c .before .before in
     let r = n .before .before in
-    c .answered11 .ensures ∙ frames.not-read _ _ (good r) _ (sym (r .read .ensures) ∙ n .n .given .1)
+    c .answered14 .ensures ∙ frames.not-read _ _ (good r) _ (sym (r .read .ensures) ∙ n .n .given .1)
 
 pub hear-spec : {M : Type 1} → statement M
 hear-spec =
@@ -169,8 +184,17 @@ hear-spec =
     (λ c κs. search needs)
     (λ c. search needs)
     (λ c κs. search needs)
+    (λ c. search needs)
+    (λ c κs. search needs)
+    (λ c. search needs)
+    (λ c κs. search needs)
+    (λ c. search needs)
+    (λ c κs. search needs)
     returns-7
     returns-8
     returns-9
     returns-10
-    returns-11)
+    returns-11
+    returns-12
+    returns-13
+    returns-14)
