@@ -15,7 +15,7 @@ use Rattle.common.proofs.Tests.{clash, by-equality, and-left, and-right, and-bo
 use Rattle.common.proofs.Below.{ofBool-le, below-any}
 use Rattle.line.specs.Route.{sectionOf}
 use Rattle.line.specs.Line.{tracksAt}
-use Rattle.line.specs.Holding.{at, isStabled, holdsPost, holdsSection, postHolders, sectionHolders}
+use Rattle.line.specs.Holding.{at, isStabled, holdsPost, holdsSection, postHolders}
 use Rattle.line.proofs.Holding.{standing-holds, standing-section, standing-short}
 use Rattle.line.proofs.Travel.{next-between, next-other}
 use Rattle.line.proofs.WellFormed.{WellFormed}
@@ -24,8 +24,8 @@ use Rattle.completion.specs.Configuration.{moved, codeBelow}
 use Rattle.completion.specs.Table.{bitOf}
 use Rattle.rules.specs.Types.{Asked, Train, State}
 use Rattle.rules.specs.State.{isAsked, isRunning, askedAs, atEnd, nextOf, locatedAt, trackAt, trainOf, lineOf}
-use Rattle.rules.specs.State.{located, trackHeld, freeTrack, reached, withStatus, arrivedNext, withTrain}
-use Rattle.rules.specs.State.{oneLogged}
+use Rattle.rules.specs.State.{located, holdersOf, trackHeld, freeTrack, reached, withStatus, arrivedNext}
+use Rattle.rules.specs.State.{withTrain, oneLogged}
 use Rattle.rules.specs.Granting.{grantable, granting}
 use Rattle.rules.proofs.Trains.{asked-idle, idle-ahead, in-fleet, changed, changed-own, changed-other}
 use Rattle.rules.proofs.Trains.{changed-each, changed-line, changed-count}
@@ -41,7 +41,7 @@ pub record Change (s : State) (t : ℕ) (x : Train) (n : ℕ) : Type 0 where
   pub more : s .logged ≤ n
   pub train : TrainValid x n
   pub section : (i : ℕ) → i < s .posts
-      → sectionHolders (s .trains) (located s) i + ofBool (holdsSection (locatedAt (s .sidings) x) i)
+      → holdersOf s i + ofBool (holdsSection (locatedAt (s .sidings) x) i)
       ≤ 1 + ofBool (holdsSection (located s t) i)
   pub post : (p : ℕ) → p < s .posts
       → postHolders (s .trains) (located s) p + ofBool (holdsPost (locatedAt (s .sidings) x) p)
@@ -101,13 +101,14 @@ module _ (s : State) (d : Consistent s) (t : ℕ) (known : t < s .trains) (x : T
         (λ v y. isStabled (s .sidings) (y .route .end .0) (y .at .0) ≡ true → y .track .0 ≡ 0)
         (c .place) (c .away) u (λ h. d .away u k);
     distinct = distinct-change s t x n (c .place) (c .number) (d .distinct);
+    few-given = d .few-given;
   }
 
 -- ---- what the test of a grant says
 
 pub record Grantable (table : List ℕ) (s : State) (t : ℕ) : Type 0 where
   pub asks : isAsked (trainOf s t .status) ≡ true
-  pub section : sectionHolders (s .trains) (located s) (sectionOf (trainOf s t .at .0) (nextOf (trainOf s t))) ≡ 0
+  pub section : holdersOf s (sectionOf (trainOf s t .at .0) (nextOf (trainOf s t))) ≡ 0
   pub track : freeTrack s t (nextOf (trainOf s t)) ≢ 0
   pub bit : bitOf table (codeBelow (s .trains) (moved (reached s) t)) ≡ true
 
@@ -143,6 +144,7 @@ valid-logged s d = record {
   differ = d .differ;
   away = d .away;
   distinct = d .distinct;
+  few-given = d .few-given;
 }
 
 -- a Running train that becomes Free where it ran to holds no more than before, whether it is stabled there or not
@@ -293,8 +295,7 @@ module _ (s : State) (d : Consistent s) (t : ℕ) (known : t < s .trains) where
       };
       section = λ i k. by-equality (sectionOf (asks .at .0) next) i
           (λ q.
-          let free : sectionHolders (s .trains) (located s) i ≡ 0 =
-          subst (λ (z : ℕ). sectionHolders (s .trains) (located s) z ≡ 0) q (g .section) in
+          let free : holdersOf s i ≡ 0 = subst (λ (z : ℕ). holdersOf s z ≡ 0) q (g .section) in
           omega (arith, ofBool-le (eqb (sectionOf (asks .at .0) next) i)))
           (λ q. rw (ne-eqb (sectionOf (asks .at .0) next) i q) (omega (arith, d .sections i k)));
       post = λ p k. by-equality next p

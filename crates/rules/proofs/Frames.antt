@@ -5,7 +5,7 @@ use Prim.Native.Nat.{_*_}
 use native.Mathlib.Omega.{arith}
 use lib.ListN.{length, length-append}
 use Rattle.frame.specs.Frame.{bytesOf}
-use Rattle.rules.specs.Types.{Message, Fa, Fe, Afe, Am, Refused}
+use Rattle.rules.specs.Types.{Message, Fa, Fe, Afe, Am, La, Le, Lb, Refused}
 use Rattle.rules.specs.Answer.{framesOf}
 
 pub bytes-length : (a : Message) → length (bytesOf a) ≡ 7
@@ -14,6 +14,9 @@ bytes-length (Fa m) = refl
 bytes-length (Fe m) = refl
 bytes-length (Afe m) = refl
 bytes-length (Am m) = refl
+bytes-length (La m) = refl
+bytes-length (Le m) = refl
+bytes-length (Lb m) = refl
 bytes-length (Refused n) = refl
 
 pub frames-length : (l : List Message) → length (framesOf l) ≡ 7 * length l

@@ -5,6 +5,7 @@ pub mod FreeTrack
 pub mod Changes
 pub mod Reached
 pub mod Oldest
+pub mod Possessions
 pub mod Grants
 pub mod Settling
 pub mod Acceptance

@@ -1,11 +1,11 @@
 -- Which number refuses a frame: the checks before its own pass, and its own fails.
 use mathlib.Core.Path.{_≡_, refl, sym, ap, subst}
 use mathlib.Core.Logic.{_≢_, _⊎_, ⊎-elim}
-use mathlib.Core.Bool.{true, false, not, _&&_, and-false, false≢true}
+use mathlib.Core.Bool.{Bool, true, false, not, _&&_, and-false, false≢true}
 use mathlib.Core.List.{List, _∷_, _++_}
-use Prim.Native.Nat.{ℕ, _<_}
+use Prim.Native.Nat.{ℕ, _+_, _≤_, _<_}
 use native.Mathlib.Omega.{arith}
-use lib.Dec.{leb, eqb}
+use lib.Dec.{leb, ltb, eqb}
 use lib.ListN.{length}
 use borrow.Author.Tests.{eq-eqb, ne-eqb, lt-ltb, le-ltb, le-leb, lt-leb}
 use Rattle.common.specs.Check.{Check, check}
@@ -17,12 +17,13 @@ use Rattle.frame.specs.RoundTrip.{IsMessage}
 use Rattle.frame.proofs.Outcome.{read-passed, read-refused}
 use Rattle.journal.specs.Journal.{journalLength}
 use Rattle.completion.specs.Table.{tableLength}
-use Rattle.rules.specs.Types.{Move, Message, Fa, Fe, Afe, Am, Refused, Status, Free, Asked, Running}
+use Rattle.rules.specs.Types.{Move, Message, Fa, Fe, Afe, Am, La, Le, Lb, Refused, Status, Free, Asked, Running}
 use Rattle.rules.specs.State.{isFree, isAsked, isRunning, nextOf}
 use Rattle.rules.specs.Answer.{outLength, forBox, knows, moveChecks, requestChecks, arrivalChecks, contentChecks}
-use Rattle.rules.specs.Answer.{frameChecks}
+use Rattle.rules.specs.Answer.{sectionChecks, lendingChecks, returnChecks, frameChecks}
 use Rattle.rules.specs.Answer.{accepted, Answer, answered, refused, answer}
-use Rattle.rules.specs.Refusals.{Handed, RefusedAs, Prepared, Reads, named, NamesNext, Refusals}
+use Rattle.rules.specs.Refusals.{Handed, RefusedAs, Prepared, ofTrain, ofGang, Reads, named, NamesNext}
+use Rattle.rules.specs.Refusals.{NamesSection, Refusals}
 
 free-unasked : (w : Status) → isFree w ≡ true → isAsked w ≡ false
 free-unasked Free e = refl
@@ -45,7 +46,31 @@ is-message (Fa m) e = tt
 is-message (Am m) e = tt
 is-message (Fe m) e = tt
 is-message (Afe m) e = tt
+is-message (La m) e = tt
+is-message (Le m) e = tt
+is-message (Lb m) e = tt
 is-message (Refused n) e = absurd (false≢true e)
+
+-- the messages of a train and of a gang are for the box
+train-for-box : (a : Message) → ofTrain a ≡ true → forBox a ≡ true
+train-for-box (Fa m) e = refl
+train-for-box (Am m) e = refl
+train-for-box (Fe m) e = e
+train-for-box (Afe m) e = e
+train-for-box (La m) e = refl
+train-for-box (Le m) e = e
+train-for-box (Lb m) e = refl
+train-for-box (Refused n) e = e
+
+gang-for-box : (a : Message) → ofGang a ≡ true → forBox a ≡ true
+gang-for-box (La m) e = refl
+gang-for-box (Lb m) e = refl
+gang-for-box (Fa m) e = refl
+gang-for-box (Fe m) e = e
+gang-for-box (Afe m) e = e
+gang-for-box (Am m) e = refl
+gang-for-box (Le m) e = e
+gang-for-box (Refused n) e = e
 
 module _ (h : Handed) where
   abbrev pub checks : List Check
@@ -90,17 +115,18 @@ module _ (h : Handed) where
 
   module _ (a : Message) where
     -- 6 passes too
-    after-kind : {n : ℕ} → Reads h a → Refuses (contentChecks (h .state) a) n → Refuses checks n
-    after-kind v r = after-reading a (v .prepared) (v .message) (is-message a (v .kind)) (pass (v .kind) r)
+    after-kind : {n : ℕ} {whose : Message → Bool} → Reads whose h a → forBox a ≡ true
+        → Refuses (contentChecks (h .state) a) n → Refuses checks n
+    after-kind v k r = after-reading a (v .prepared) (v .message) (is-message a k) (pass k r)
 
     -- what of an FA and an AM is checked first, whatever is checked after it
-    by-move : {n : ℕ} → Reads h a
+    by-move : {n : ℕ} → Reads ofTrain h a
         → ((cs : List Check)
         → Refuses (check unknownTrain (knows (h .state) (moveIn a)) ∷ moveChecks (h .state) (moveIn a) ++ cs) n)
         → Refuses checks n
-    by-move {n = n} v r = after-kind v (at a (v .kind) r)
+    by-move {n = n} v r = after-kind v (train-for-box a (v .kind)) (at a (v .kind) r)
       where
-        at : (b : Message) → forBox b ≡ true
+        at : (b : Message) → ofTrain b ≡ true
             → ((cs : List Check)
             → Refuses (check unknownTrain (knows (h .state) (moveIn b)) ∷ moveChecks (h .state) (moveIn b) ++ cs) n)
             → Refuses (contentChecks (h .state) b) n
@@ -108,6 +134,26 @@ module _ (h : Handed) where
         at (Am m) e f = f _
         at (Fe m) e f = absurd (false≢true e)
         at (Afe m) e f = absurd (false≢true e)
+        at (La m) e f = absurd (false≢true e)
+        at (Le m) e f = absurd (false≢true e)
+        at (Lb m) e f = absurd (false≢true e)
+        at (Refused k) e f = absurd (false≢true e)
+
+    -- the same of an LA and an LB
+    by-section : {n : ℕ} → Reads ofGang h a
+        → ((cs : List Check) → Refuses (sectionChecks (h .state) (moveIn a) ++ cs) n) → Refuses checks n
+    by-section {n = n} v r = after-kind v (gang-for-box a (v .kind)) (at a (v .kind) r)
+      where
+        at : (b : Message) → ofGang b ≡ true
+            → ((cs : List Check) → Refuses (sectionChecks (h .state) (moveIn b) ++ cs) n)
+            → Refuses (contentChecks (h .state) b) n
+        at (La m) e f = f _
+        at (Lb m) e f = f _
+        at (Fa m) e f = absurd (false≢true e)
+        at (Fe m) e f = absurd (false≢true e)
+        at (Afe m) e f = absurd (false≢true e)
+        at (Am m) e f = absurd (false≢true e)
+        at (Le m) e f = absurd (false≢true e)
         at (Refused k) e f = absurd (false≢true e)
 
     -- 7 to 9 pass too
@@ -125,12 +171,32 @@ module _ (h : Handed) where
         let wrong = ne-eqb (moveIn a .to .0) (nextOf (named h a)) e in
         rw wrong (and-false (eqb (moveIn a .from .0) (named h a .at .0))))
 
+    -- 7 and 9 pass too
+    after-section : {n : ℕ} (cs : List Check) → NamesSection h a → Refuses cs n
+        → Refuses (sectionChecks (h .state) (moveIn a) ++ cs) n
+    after-section cs v r =
+        pass (eq-eqb _ _ (v .gang)) (pass (and-both _ _ (eq-eqb _ _ (v .upper)) (lt-ltb _ _ (v .on))) r)
+
+    not-neighbours : (moveIn a .to .0 ≢ moveIn a .from .0 + 1) ⊎ (h .state .posts ≤ moveIn a .to .0)
+        → eqb (moveIn a .to .0) (moveIn a .from .0 + 1) && ltb (moveIn a .to .0) (h .state .posts) ≡ false
+    not-neighbours = ⊎-elim
+        (λ e. rw (ne-eqb (moveIn a .to .0) (moveIn a .from .0 + 1) e))
+        (λ e. rw (le-ltb (moveIn a .to .0) (h .state .posts) e) (and-false (eqb (moveIn a .to .0) _)))
+
   pub after-asking : {n : ℕ} (m : Move) → NamesNext h (Fa m) → Refuses (requestChecks (h .state) m) n → Refuses checks n
-  after-asking m v r = after-kind (Fa m) (v .reads) (after-posts (Fa m) _ v r)
+  after-asking m v r = after-kind (Fa m) (v .reads) refl (after-posts (Fa m) _ v r)
 
   pub after-arriving : {n : ℕ} (m : Move) → NamesNext h (Am m) → Refuses (arrivalChecks (h .state) m) n
       → Refuses checks n
-  after-arriving m v r = after-kind (Am m) (v .reads) (after-posts (Am m) _ v r)
+  after-arriving m v r = after-kind (Am m) (v .reads) refl (after-posts (Am m) _ v r)
+
+  pub after-lending : {n : ℕ} (m : Move) → NamesSection h (La m) → Refuses (lendingChecks (h .state) m) n
+      → Refuses checks n
+  after-lending m v r = after-kind (La m) (v .reads) refl (after-section (La m) _ v r)
+
+  pub after-return : {n : ℕ} (m : Move) → NamesSection h (Lb m) → Refuses (returnChecks (h .state) m) n
+      → Refuses checks n
+  after-return m v r = after-kind (Lb m) (v .reads) refl (after-section (Lb m) _ v r)
 
 pub refusals : Refusals
 unfolding IsMessage
@@ -143,7 +209,9 @@ refusals = record {
       (stop-within (readChecks (h .frame)) (content h (readFrame (h .frame))) (rw (r .1) (r .0)))));
   wrong-end = λ h m v. ⊎-elim
       (λ e. by-number h (omega arith) (after-reading h (Fe m) v e tt (stop refl)))
-      (λ e. by-number h (omega arith) (after-reading h (Afe m) v e tt (stop refl)));
+      (⊎-elim
+      (λ e. by-number h (omega arith) (after-reading h (Afe m) v e tt (stop refl)))
+      (λ e. by-number h (omega arith) (after-reading h (Le m) v e tt (stop refl))));
   unknown = λ h a v e. by-number h (omega arith) (by-move h a v (λ cs. stop (le-ltb _ _ e)));
   ended = λ h a v k e.
       by-number h (omega arith) (by-move h a v (λ cs. pass (lt-ltb _ _ k) (stop (ap not (eq-eqb _ _ e)))));
@@ -153,8 +221,17 @@ refusals = record {
   running = λ h m v e. by-number h (omega arith)
       (after-asking h m v (pass (not-of-false _ (running-unasked (named h (Fa m) .status) e)) (stop (ap not e))));
   idle = λ h m v e. by-number h (omega arith) (after-arriving h m v (stop e));
+  unknown-gang = λ h a v e. by-number h (omega arith) (by-section h a v (λ cs. stop (ne-eqb _ _ e)));
+  other-section = λ h a v k e.
+      by-number h (omega arith) (by-section h a v (λ cs. pass (eq-eqb _ _ k) (stop (not-neighbours h a e))));
+  section-taken = λ h m v e. by-number h (omega arith) (after-lending h m v (stop (ne-eqb _ _ e)));
+  twenty = λ h m v e l. by-number h (omega arith) (after-lending h m v (pass (eq-eqb _ _ e) (stop (le-ltb _ _ l))));
+  not-lent = λ h m v e. by-number h (omega arith) (after-return h m v (stop e));
   full-request = λ h m v e l. by-number h (omega arith) (after-asking h m v
       (pass (not-of-false _ (free-unasked (named h (Fa m) .status) e))
       (pass (not-of-false _ (free-idle (named h (Fa m) .status) e)) (stop (lt-leb _ _ l)))));
   full-arrival = λ h m v e l. by-number h (omega arith) (after-arriving h m v (pass e (stop (lt-leb _ _ l))));
+  full-lending = λ h m v e k l. by-number h (omega arith)
+      (after-lending h m v (pass (eq-eqb _ _ e) (pass (lt-ltb _ _ k) (stop (lt-leb _ _ l)))));
+  full-return = λ h m v e l. by-number h (omega arith) (after-return h m v (pass e (stop (lt-leb _ _ l))));
 }

@@ -23,6 +23,7 @@ use Rattle.rules.proofs.Grants.{granted-fewer, granted-line}
 pub record Settles (w v : Work) : Type 0 where
   pub line : lineOf (v .state) ≡ lineOf (w .state)
   pub size : length (v .state .fleet) ≡ length (w .state .fleet)
+  pub sections : length (v .state .possessions) ≡ length (w .state .possessions)
   pub route : (t : ℕ) → trainOf (v .state) t .route ≡ trainOf (w .state) t .route
   pub post : (t : ℕ) → trainOf (v .state) t .at ≡ trainOf (w .state) t .at
   -- what is sent is added at the end, and logged by its records; each of it is a message
@@ -41,6 +42,7 @@ settles-begin : (w : Work) → Settles w w
 settles-begin w = record {
   line = refl;
   size = refl;
+  sections = refl;
   route = λ t. refl;
   post = λ t. refl;
   answers = [];
@@ -71,6 +73,7 @@ settles-next : (table : List ℕ) (w v : Work) (t : ℕ) → Settles w v → Tur
 settles-next table w v t k f = record {
   line = granted-line table v t f ∙ k .line;
   size = length-set (v .state .fleet) t _ ∙ k .size;
+  sections = k .sections;
   route = λ u.
       changed-each (v .state) t x n (λ u (y : Train). y .route ≡ trainOf (w .state) u .route)
       (granted-place table v t f) (k .route t) u (λ h. k .route u);

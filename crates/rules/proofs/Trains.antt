@@ -61,7 +61,7 @@ in-fleet s t f none passes = by-cases (ltb t (length (s .fleet)))
 -- ---- the state with x as train t's record and n records logged: `withTrain` and `oneLogged` give such states
 
 abbrev pub changed : State → ℕ → Train → ℕ → State
-changed s t x n = stateWith s (set (s .fleet) t x) n
+changed s t x n = stateWith s (set (s .fleet) t x) (s .possessions) (s .given) n
 
 module _ (s : State) (t : ℕ) (x : Train) (n : ℕ) where
   pub changed-own : t < length (s .fleet) → trainOf (changed s t x n) t ≡ x

@@ -11,18 +11,19 @@ use borrow.Author.Tests.{ltb-true, ltb-false, leb-true, eqb-true, eqb-false, lt-
 use Rattle.common.specs.Below.{allBelow}
 use Rattle.common.proofs.Tests.{clash, by-cases, by-equality, by-order, not-passed, and-left, and-right, and-both}
 use Rattle.common.proofs.Tests.{or-left, or-right, not-of-false}
-use Rattle.common.proofs.Below.{all-below, below-all, one-counted}
+use Rattle.common.proofs.Below.{ofBool-le, all-below, below-all, count-none, one-counted}
 use Rattle.line.specs.Route.{between, sectionOf}
 use Rattle.line.specs.Line.{inRange, tracksAt}
-use Rattle.line.specs.Holding.{isStabled, holdsPost, holdsSection, postHolders, sectionHolders}
+use Rattle.line.specs.Holding.{isStabled, holdsPost, holdsSection, postHolders}
 use Rattle.line.proofs.Holding.{standing-section}
 use Rattle.line.proofs.Travel.{Between, between-of, of-between, next-below}
 use Rattle.line.proofs.WellFormed.{WellFormed, ranged, well-formed, is-well-formed}
 use Rattle.rules.specs.Types.{Status, Free, Asked, Running, Train, State}
 use Rattle.rules.specs.State.{isFree, isAsked, isRunning, askedAs, atEnd, nextOf, locatedAt, trackAt, trainOf}
-use Rattle.rules.specs.State.{lineOf, located}
+use Rattle.rules.specs.State.{lineOf, located, possessed, holdersOf}
 use Rattle.rules.specs.Valid.{trainValid, sectionsValid, postsValid, trackValid, tracksValid, awayValid}
-use Rattle.rules.specs.Valid.{numberBelow, sameNumber, numberValid, consistent, mostCounted, valid}
+use Rattle.rules.specs.Valid.{numberBelow, sameNumber, numberValid, mostGiven, consistent, mostCounted}
+use Rattle.rules.specs.Valid.{valid}
 use Rattle.rules.proofs.Trains.{asked-busy, route-of}
 
 -- a train's record x, where n records are logged
@@ -46,7 +47,7 @@ Differ s = (p t u : ℕ) → p < s .posts → t < s .trains → u < s .trains
 pub record Consistent (s : State) : Type 0 where
   pub line : WellFormed (lineOf s)
   pub each : (t : ℕ) → t < s .trains → TrainValid (trainOf s t) (s .logged)
-  pub sections : (i : ℕ) → i < s .posts → sectionHolders (s .trains) (located s) i ≤ 1
+  pub sections : (i : ℕ) → i < s .posts → holdersOf s i ≤ 1
   pub posts : (p : ℕ) → p < s .posts → postHolders (s .trains) (located s) p ≤ tracksAt (lineOf s) p
   -- .. "and are in its count"
   pub tracks : (p t : ℕ) → p < s .posts → t < s .trains → holdsPost (located s t) p ≡ true
@@ -56,6 +57,8 @@ pub record Consistent (s : State) : Type 0 where
   pub away : (t : ℕ) → t < s .trains
       → isStabled (s .sidings) (trainOf s t .route .end .0) (trainOf s t .at .0) ≡ true → trainOf s t .track .0 ≡ 0
   pub distinct : Distinct s
+  -- 02, card 4: at most twenty local runs are given
+  pub few-given : s .given ≤ mostGiven
 
 -- ---- the tests of one train
 
@@ -164,17 +167,17 @@ module _ (s : State) where
   pub consistent-facts : consistent s ≡ true → Consistent s
   unfolding consistent
   consistent-facts e =
-      let trains : allBelow (s .trains) (λ t. trainValid (trainOf s t)) ≡ true = search (and-left, and-right) in
-      let sections : sectionsValid s ≡ true = search (and-left, and-right) in
-      let posts : postsValid s ≡ true = search (and-left, and-right) in
-      let held : tracksValid s ≡ true = search (and-left, and-right) in
+      let trains : allBelow (s .trains) (λ t. trainValid (trainOf s t)) ≡ true = search (and-left, and-right) depth 8 in
+      let sections : sectionsValid s ≡ true = search (and-left, and-right) depth 8 in
+      let posts : postsValid s ≡ true = search (and-left, and-right) depth 8 in
+      let held : tracksValid s ≡ true = search (and-left, and-right) depth 8 in
       let tracks : (p t : ℕ) → p < s .posts → t < s .trains → trackValid s p t ≡ true =
       λ p t kp kt. all-below (s .trains) _ (all-below (s .posts) _ held p kp) t kt in
       let away : allBelow (s .trains) (λ t. awayValid (s .sidings) (trainOf s t)) ≡ true =
-      search (and-left, and-right) in
-      let numbers = all-below (s .trains) (numberValid s) (search (and-left, and-right)) in
+      search (and-left, and-right) depth 8 in
+      let numbers = all-below (s .trains) (numberValid s) (search (and-left, and-right) depth 8) in
       record {
-        line = well-formed (lineOf s) (search (and-left, and-right));
+        line = well-formed (lineOf s) (search (and-left, and-right) depth 8);
         each = λ t k.
             tested-train (trainOf s t) (s .logged) (all-below (s .trains) _ trains t k)
             (and-left (numberBelow (trainOf s t .status) (s .logged)) _ (numbers t k));
@@ -184,6 +187,7 @@ module _ (s : State) where
         differ = tracks-differ s tracks;
         away = λ t k h. eqb-true _ _ (given _ (all-below (s .trains) _ away t k) h);
         distinct = distinct-numbers s numbers;
+        few-given = leb-true _ _ (search (and-left, and-right) depth 8);
       }
 
   pub is-consistent : Consistent s → consistent s ≡ true
@@ -198,8 +202,9 @@ module _ (s : State) where
       (λ p q z. let y = d .distinct t u k (omega arith) p q z in omega arith))) in
       rw (
         is-well-formed (lineOf s) (d .line),
+        le-leb _ _ (d .few-given),
         below-all (s .trains) (λ t. trainValid (trainOf s t)) (λ t k. each t k .0),
-        below-all (s .posts) (λ i. leb (sectionHolders (s .trains) (located s) i) 1)
+        below-all (s .posts) (λ i. leb (holdersOf s i) 1)
             (λ i k. le-leb _ _ (d .sections i k)),
         below-all (s .posts) (λ p. leb (postHolders (s .trains) (located s) p) (getD (s .tracks) p 0))
             (λ p k. le-leb _ _ (d .posts p k)),
@@ -246,16 +251,19 @@ module _ (s : State) (d : Consistent s) (t : ℕ) (k : t < s .trains) where
   pub asked-short : isAsked (trainOf s t .status) ≡ true → trainOf s t .at .0 ≢ trainOf s t .route .end .0
   asked-short a = d .each t k .busy (asked-busy (trainOf s t .status) a)
 
--- "No section has two holders": whatever its number
-pub one-holder : (s : State) → Consistent s → (i t u : ℕ) → t < s .trains → u < s .trains
-    → holdsSection (located s t) i ≡ true → holdsSection (located s u) i ≡ true → t ≡ u
-one-holder s d i t u kt ku p q =
-    one-counted (s .trains) (λ v. holdsSection (located s v) i) (d .sections i on) t u kt ku p q
+-- "No section has two holders": whatever its number, for past the line there is nobody to hold one
+pub section-one : (s : State) → Consistent s → (i : ℕ) → holdersOf s i ≤ 1
+section-one s d i = by-order i (s .posts) (d .sections i) (λ past.
+    let none = count-none (s .trains) (λ t. holdsSection (located s t) i)
+    (λ t k. not-passed _ (λ h. omega (arith, low (trainOf s t) h, post-below s d t k))) in
+    omega (arith, ofBool-le (possessed s i)))
   where
     low : (x : Train) → holdsSection (locatedAt (s .sidings) x) i ≡ true → i ≤ x .at .0
     low x h = by-cases (isRunning (x .status))
         (λ e. let z = eqb-true (sectionOf (x .at .0) (nextOf x)) i (rw e at h) in omega arith)
         (λ e. absurd (false≢true (sym (standing-section (s .sidings) _ _ i) ∙ rw e at h)))
 
-    on : i < s .posts
-    on = omega (arith, low (trainOf s t) p, post-below s d t kt)
+pub one-holder : (s : State) → Consistent s → (i t u : ℕ) → t < s .trains → u < s .trains
+    → holdsSection (located s t) i ≡ true → holdsSection (located s u) i ≡ true → t ≡ u
+one-holder s d i t u kt ku =
+    one-counted (s .trains) (λ v. holdsSection (located s v) i) (omega (arith, section-one s d i)) t u kt ku

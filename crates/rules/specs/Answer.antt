@@ -10,13 +10,15 @@ use Rattle.common.specs.Check.{Check, check, refusal, unlessRefused}
 use Rattle.common.specs.Part.{replaced}
 use Rattle.line.specs.Refusal.{strangeState, shortStore, wrongEnd, unknownTrain, atItsEnd, wrongPost}
 use Rattle.line.specs.Refusal.{alreadyAsked, underAuthority, noAuthority, journalFull}
+use Rattle.line.specs.Refusal.{sectionTaken, noLocalRun, twentyGiven}
 use Rattle.frame.specs.Frame.{frameLength, moveIn, readChecks, readFrame, bytesOf}
 use Rattle.journal.specs.Journal.{journalLength, mostSent, batchLength, recordOf}
 use Rattle.completion.specs.Table.{tableLength}
-use Rattle.rules.specs.Types.{Move, Message, Fa, Fe, Afe, Am, Refused, Record, Asked, Train, State}
-use Rattle.rules.specs.Types.{Verdict, Sent, RefusedBy, Reply}
-use Rattle.rules.specs.State.{isAsked, isRunning, atEnd, nextOf, trainOf, withStatus, arrivedNext, withTrain}
-use Rattle.rules.specs.Valid.{valid}
+use Rattle.rules.specs.Types.{Move, Message, Fa, Fe, Afe, Am, La, Le, Lb, Refused, Record, Asked}
+use Rattle.rules.specs.Types.{Train, State, Verdict, Sent, RefusedBy, Reply}
+use Rattle.rules.specs.State.{isAsked, isRunning, atEnd, nextOf, trainOf, possessed, sectionFree, withStatus}
+use Rattle.rules.specs.State.{arrivedNext, withTrain, withPossession}
+use Rattle.rules.specs.Valid.{mostGiven, valid}
 use Rattle.rules.specs.Granting.{Work, begun, sends, settled}
 
 -- "At most 6 frames go out, 42 bytes"
@@ -27,12 +29,15 @@ outLength = mostSent * frameLength
 abbrev pub mostLogged : ℕ
 mostLogged = batchLength
 
--- the dispatcher's messages; FE and AFE are 6
+-- the dispatcher's messages; FE and AFE are 6, and 02, card 4: "LE at the dispatcher is 6."
 abbrev pub forBox : Message → Bool
 forBox (Fa m) = true
 forBox (Fe m) = false
 forBox (Afe m) = false
 forBox (Am m) = true
+forBox (La m) = true
+forBox (Le m) = false
+forBox (Lb m) = true
 forBox (Refused n) = false
 
 -- "1, 2, 3, 4, 5, 6": before what the frame says is looked into. Of the table, the journal and the out buffer only the
@@ -56,7 +61,7 @@ moveChecks s m =
     ∷ check wrongPost (eqb (m .from .0) (x .at .0) && eqb (m .to .0) (nextOf x))
     ∷ []
 
--- 13: "fewer than 7 records left of 176"
+-- 13: "fewer than 7 records left of 176", of 236 by card 4
 abbrev pub hasRoom : State → Bool
 hasRoom s = leb (s .logged + mostLogged) journalLength
 
@@ -77,15 +82,42 @@ arrivalChecks s m =
     ∷ check journalFull (hasRoom s)
     ∷ []
 
+-- 02, card 4: LA and LB "have train byte 255 and name the two neighbouring posts, lower first": "a train byte not 255
+-- is 7 and posts not so named are 9"
+abbrev pub gangByte : ℕ
+gangByte = 255
+
+abbrev pub sectionChecks : State → Move → List Check
+sectionChecks s m =
+    check unknownTrain (eqb (m .train .0) gangByte)
+    ∷ check wrongPost (eqb (m .to .0) (m .from .0 + 1) && ltb (m .to .0) (s .posts))
+    ∷ []
+
+-- "then for LA 24, section taken, and 26, twenty already given; .. then 13"
+abbrev pub lendingChecks : State → Move → List Check
+lendingChecks s m =
+    check sectionTaken (sectionFree s (m .from .0))
+    ∷ check twentyGiven (ltb (s .given) mostGiven)
+    ∷ check journalFull (hasRoom s)
+    ∷ []
+
+-- "for LB 25, no local run there; then 13"
+abbrev pub returnChecks : State → Move → List Check
+returnChecks s m = check noLocalRun (possessed s (m .from .0)) ∷ check journalFull (hasRoom s) ∷ []
+
 -- of what the message says; any other message was refused by 6 or by its reading
 abbrev pub contentChecks : State → Message → List Check
 contentChecks s (Fa m) = check unknownTrain (knows s m) ∷ moveChecks s m ++ requestChecks s m
 contentChecks s (Am m) = check unknownTrain (knows s m) ∷ moveChecks s m ++ arrivalChecks s m
+contentChecks s (La m) = sectionChecks s m ++ lendingChecks s m
+contentChecks s (Lb m) = sectionChecks s m ++ returnChecks s m
 contentChecks s (Fe m) = []
 contentChecks s (Afe m) = []
+contentChecks s (Le m) = []
 contentChecks s (Refused n) = []
 
--- "Checks in order: 1, 2, 3, 4, 5, 6, 7, 8 (at its end), 9, then 10 or 11 for FA, 12 for AM, then 13."
+-- "Checks in order: 1, 2, 3, 4, 5, 6, 7, 8 (at its end), 9, then 10 or 11 for FA, 12 for AM, then 13."; for LA and LB
+-- as card 4 says
 abbrev pub frameChecks : State → ℕ → ℕ → List ℕ → ℕ → List Check
 frameChecks s table records frame room =
     outerChecks s table records frame room ++ contentChecks s (readFrame frame)
@@ -112,9 +144,28 @@ accepted table s (Fa m) =
     declined m (settled table (taken s (Fa m) asked))
 -- "AM: the train becomes Free at the post it ran to. Then the same granting."
 accepted table s (Am m) = settled table (taken s (Am m) (arrivedNext (s .sidings) (trainOf s (m .train .0))))
+-- 02, card 4: "LA is answered by LE", and a gang is a holder "from its LE written". Nobody can be granted then who
+-- could not be before.
+accepted table s (La m) =
+    let w = begun s (recordOf (La m)) in
+    sends (withPossession (w .state) (m .from .0) true (s .given + 1)) w (recordOf (Le m)) (Le m)
+-- "LB frees it and starts the same granting as AM."
+accepted table s (Lb m) = settled table (begun (withPossession s (m .from .0) false (s .given)) (recordOf (Lb m)))
 accepted table s (Fe m) = untouched s
 accepted table s (Afe m) = untouched s
+accepted table s (Le m) = untouched s
 accepted table s (Refused n) = untouched s
+
+-- whether a message, accepted, runs the granting
+abbrev pub runsGranting : Message → Bool
+runsGranting (Fa m) = true
+runsGranting (Am m) = true
+runsGranting (Lb m) = true
+runsGranting (La m) = false
+runsGranting (Fe m) = false
+runsGranting (Afe m) = false
+runsGranting (Le m) = false
+runsGranting (Refused n) = false
 
 -- ---- the answer
 

@@ -6,22 +6,21 @@ use mathlib.Core.List.{List, [], _∷_, _++_}
 use Prim.Native.Nat.{ℕ, zero, suc}
 use lib.Dec.{ltb, eqb}
 use Rattle.line.specs.Route.{sectionOf}
-use Rattle.line.specs.Holding.{sectionHolders}
 use Rattle.journal.specs.Journal.{recordOn}
 use Rattle.completion.specs.Configuration.{moved, codeBelow}
 use Rattle.completion.specs.Table.{bitOf}
 use Rattle.rules.specs.Types.{Message, Fe, Record, Running, Train, State}
-use Rattle.rules.specs.State.{isAsked, askedAs, nextOf, trainOf, located, freeTrack, reached, nextMove}
+use Rattle.rules.specs.State.{isAsked, askedAs, nextOf, trainOf, sectionFree, freeTrack, reached, nextMove}
 use Rattle.rules.specs.State.{withStatus, withTrain, oneLogged}
 
 -- "A train can be granted if it is Asked, its next section is unheld, its next post is held by fewer trains than
 -- tracks, and the table has the bit for the placing in which every Running train, and this one, has reached its next
--- post." 02, card 2: the test for a free track tells which one.
+-- post." 02, card 2: the test for a free track tells which one; card 4: "A section held by a gang blocks authorities."
 unfoldable pub grantable : List ℕ → State → ℕ → Bool
 grantable table s t =
     let x = trainOf s t in
     isAsked (x .status)
-    && eqb (sectionHolders (s .trains) (located s) (sectionOf (x .at .0) (nextOf x))) 0
+    && sectionFree s (sectionOf (x .at .0) (nextOf x))
     && not (eqb (freeTrack s t (nextOf x)) 0)
     && bitOf table (codeBelow (s .trains) (moved (reached s) t))
 

@@ -1,10 +1,10 @@
 -- The opening of a book: "Opening gives every train Free at its start, count 0, those places all 0 and Free, and the
 -- journal's records untouched."
-use mathlib.Core.Bool.{Bool, cond, _&&_}
+use mathlib.Core.Bool.{Bool, false, cond, _&&_}
 use mathlib.Core.List.{List, [], _∷_, _++_}
 use Prim.Native.Nat.{ℕ, zero, suc}
 use lib.Dec.{leb, eqb}
-use lib.ListN.{length, getD}
+use lib.ListN.{length, getD, replicate}
 use Rattle.common.specs.Below.{anyBelow}
 use Rattle.common.specs.Check.{Check, check, refusal, unlessRefused}
 use Rattle.common.specs.Tabulate.{tabulate}
@@ -56,7 +56,7 @@ openedTrack l t = getD (startTracks l (l .trains)) t 0
 abbrev pub fresh : Route → ℕ → Train
 fresh r k = record { route = r; at = r .start; track = record { 0 = k }; status = Free }
 
--- "every train Free at its start, count 0"; where a line has 0, the state has
+-- "every train Free at its start, count 0"; where a line has 0, the state has. No gang has a section.
 abbrev pub openedState : Line → State
 openedState l = record {
   posts = l .posts;
@@ -64,6 +64,8 @@ openedState l = record {
   sidings = l .sidings;
   trains = l .trains;
   fleet = tabulate 6 (λ t. fresh (routeOf l t) (openedTrack l t));
+  possessions = replicate 7 false;
+  given = 0;
   logged = 0;
 }
 

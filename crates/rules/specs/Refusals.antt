@@ -1,21 +1,24 @@
 -- Which number refuses a frame, number by number: 01, "Declining by number", in the order of "Checks in order: 1, 2, 3,
--- 4, 5, 6, 7, 8 (at its end), 9, then 10 or 11 for FA, 12 for AM, then 13." Each is given whatever is wrong with what
--- is checked after it.
+-- 4, 5, 6, 7, 8 (at its end), 9, then 10 or 11 for FA, 12 for AM, then 13." 02, card 4: "for kinds 5 and 7, after 6, a
+-- train byte not 255 is 7 and posts not so named are 9; then for LA 24 .. and 26 ..; for LB 25 ..; then 13." Each is
+-- given whatever is wrong with what is checked after it.
 use mathlib.Core.Path.{_≡_}
 use mathlib.Core.Logic.{_≢_, _⊎_}
-use mathlib.Core.Bool.{true, false}
+use mathlib.Core.Bool.{Bool, true, false}
 use mathlib.Core.List.{List}
 use Prim.Native.Nat.{ℕ, _+_, _≤_, _<_}
 use lib.ListN.{length}
 use Rattle.line.specs.Refusal.{strangeState, shortStore, wrongEnd, unknownTrain, atItsEnd, wrongPost}
 use Rattle.line.specs.Refusal.{alreadyAsked, underAuthority, noAuthority, journalFull}
+use Rattle.line.specs.Refusal.{sectionTaken, noLocalRun, twentyGiven}
 use Rattle.frame.specs.Frame.{moveIn, readFrame}
 use Rattle.journal.specs.Journal.{journalLength}
 use Rattle.completion.specs.Table.{tableLength}
-use Rattle.rules.specs.Types.{Move, Message, Fa, Fe, Afe, Am, Refused, Record, Train, State, RefusedBy}
-use Rattle.rules.specs.State.{isFree, isAsked, isRunning, nextOf, trainOf}
-use Rattle.rules.specs.Valid.{valid}
-use Rattle.rules.specs.Answer.{outLength, mostLogged, forBox, answer}
+use Rattle.rules.specs.Types.{Move, Message, Fa, Fe, Afe, Am, La, Le, Lb, Refused, Record, Train, State}
+use Rattle.rules.specs.Types.{RefusedBy}
+use Rattle.rules.specs.State.{isFree, isAsked, isRunning, nextOf, trainOf, possessed, holdersOf}
+use Rattle.rules.specs.Valid.{mostGiven, valid}
+use Rattle.rules.specs.Answer.{outLength, mostLogged, gangByte, answer}
 
 -- a frame, and what is handed in with it
 pub record Handed : Type 0 where
@@ -35,11 +38,32 @@ pub record Prepared (h : Handed) : Type 0 where
   pub long-journal : journalLength ≤ length (h .journal)
   pub long-out : outLength ≤ length (h .out)
 
--- 3 to 6 pass too: the frame reads as a, an FA or an AM
-pub record Reads (h : Handed) (a : Message) : Type 0 where
+-- an FA or an AM, which names a train; an LA or an LB, which names a section
+abbrev pub ofTrain : Message → Bool
+ofTrain (Fa m) = true
+ofTrain (Am m) = true
+ofTrain (Fe m) = false
+ofTrain (Afe m) = false
+ofTrain (La m) = false
+ofTrain (Le m) = false
+ofTrain (Lb m) = false
+ofTrain (Refused n) = false
+
+abbrev pub ofGang : Message → Bool
+ofGang (La m) = true
+ofGang (Lb m) = true
+ofGang (Fa m) = false
+ofGang (Fe m) = false
+ofGang (Afe m) = false
+ofGang (Am m) = false
+ofGang (Le m) = false
+ofGang (Refused n) = false
+
+-- 3 to 6 pass too: the frame reads as a, which is of a train or of a gang
+pub record Reads (whose : Message → Bool) (h : Handed) (a : Message) : Type 0 where
   pub prepared : Prepared h
   pub message : readFrame (h .frame) ≡ a
-  pub kind : forBox a ≡ true
+  pub kind : whose a ≡ true
 
 -- the record of the train that a names
 abbrev pub named : Handed → Message → Train
@@ -47,32 +71,41 @@ named h a = trainOf (h .state) (moveIn a .train .0)
 
 -- 7 to 9 pass too: a names a train that is short of its end, and its next move
 pub record NamesNext (h : Handed) (a : Message) : Type 0 where
-  pub reads : Reads h a
+  pub reads : Reads ofTrain h a
   pub known : moveIn a .train .0 < h .state .trains
   pub short : named h a .at .0 ≢ named h a .route .end .0
   pub from : moveIn a .from .0 ≡ named h a .at .0
   pub to : moveIn a .to .0 ≡ nextOf (named h a)
 
+-- 7 and 9 pass too: a names a section on the line, the lower post first
+pub record NamesSection (h : Handed) (a : Message) : Type 0 where
+  pub reads : Reads ofGang h a
+  pub gang : moveIn a .train .0 ≡ gangByte
+  pub upper : moveIn a .to .0 ≡ moveIn a .from .0 + 1
+  pub on : moveIn a .to .0 < h .state .posts
+
 pub record Refusals : Type 0 where
   -- 1, strange state: "state not sound"
   pub strange : (h : Handed) → valid (h .state) ≡ false → RefusedAs strangeState h
-  -- 2, short store: "table under 32,768 bytes, journal under 176 records, or (frames only) out buffer under 42 bytes"
+  -- 2, short store: "table under 32,768 bytes, journal under 176 records, or (frames only) out buffer under 42 bytes";
+  -- card 4 has 236 for 176
   pub short : (h : Handed) → valid (h .state) ≡ true
       → (length (h .table) < tableLength) ⊎ ((length (h .journal) < journalLength) ⊎ (length (h .out) < outLength))
       → RefusedAs shortStore h
   -- 3, 4, 5: a frame that is not read, by the number of its reading
   pub unread : (h : Handed) (n : ℕ) → Prepared h → readFrame (h .frame) ≡ Refused n → RefusedAs n h
-  -- 6, wrong end: "FE, AFE at the dispatcher"
+  -- 6, wrong end: "FE, AFE at the dispatcher"; card 4: "LE at the dispatcher is 6."
   pub wrong-end : (h : Handed) (m : Move) → Prepared h
-      → (readFrame (h .frame) ≡ Fe m) ⊎ (readFrame (h .frame) ≡ Afe m) → RefusedAs wrongEnd h
+      → (readFrame (h .frame) ≡ Fe m) ⊎ ((readFrame (h .frame) ≡ Afe m) ⊎ (readFrame (h .frame) ≡ Le m))
+      → RefusedAs wrongEnd h
   -- 7, unknown train: "train not below T"
-  pub unknown : (h : Handed) (a : Message) → Reads h a → h .state .trains ≤ moveIn a .train .0
+  pub unknown : (h : Handed) (a : Message) → Reads ofTrain h a → h .state .trains ≤ moveIn a .train .0
       → RefusedAs unknownTrain h
   -- 8, at its end: "no next post", whatever posts the frame names
-  pub ended : (h : Handed) (a : Message) → Reads h a → moveIn a .train .0 < h .state .trains
+  pub ended : (h : Handed) (a : Message) → Reads ofTrain h a → moveIn a .train .0 < h .state .trains
       → named h a .at .0 ≡ named h a .route .end .0 → RefusedAs atItsEnd h
   -- 9, wrong post: "from or to not present and next post"
-  pub other-post : (h : Handed) (a : Message) → Reads h a → moveIn a .train .0 < h .state .trains
+  pub other-post : (h : Handed) (a : Message) → Reads ofTrain h a → moveIn a .train .0 < h .state .trains
       → named h a .at .0 ≢ named h a .route .end .0
       → (moveIn a .from .0 ≢ named h a .at .0) ⊎ (moveIn a .to .0 ≢ nextOf (named h a)) → RefusedAs wrongPost h
   -- 10, already asked: "FA of an Asked train"
@@ -84,8 +117,27 @@ pub record Refusals : Type 0 where
   -- 12, no authority: "AM of a train not Running"
   pub idle : (h : Handed) (m : Move) → NamesNext h (Am m) → isRunning (named h (Am m) .status) ≡ false
       → RefusedAs noAuthority h
-  -- 13, journal full: "fewer than 7 records left of 176"
+  -- card 4, 7: "for kinds 5 and 7, after 6, a train byte not 255 is 7", whatever posts the frame names
+  pub unknown-gang : (h : Handed) (a : Message) → Reads ofGang h a → moveIn a .train .0 ≢ gangByte
+      → RefusedAs unknownTrain h
+  -- 9: "and posts not so named are 9"
+  pub other-section : (h : Handed) (a : Message) → Reads ofGang h a → moveIn a .train .0 ≡ gangByte
+      → (moveIn a .to .0 ≢ moveIn a .from .0 + 1) ⊎ (h .state .posts ≤ moveIn a .to .0) → RefusedAs wrongPost h
+  -- 24, section taken: by a train or by a gang
+  pub section-taken : (h : Handed) (m : Move) → NamesSection h (La m) → holdersOf (h .state) (m .from .0) ≢ 0
+      → RefusedAs sectionTaken h
+  -- 26, "twenty already given"
+  pub twenty : (h : Handed) (m : Move) → NamesSection h (La m) → holdersOf (h .state) (m .from .0) ≡ 0
+      → mostGiven ≤ h .state .given → RefusedAs twentyGiven h
+  -- 25, "no local run there"
+  pub not-lent : (h : Handed) (m : Move) → NamesSection h (Lb m) → possessed (h .state) (m .from .0) ≡ false
+      → RefusedAs noLocalRun h
+  -- 13, journal full: "fewer than 7 records left of 176", 236 by card 4
   pub full-request : (h : Handed) (m : Move) → NamesNext h (Fa m) → isFree (named h (Fa m) .status) ≡ true
       → journalLength < h .state .logged + mostLogged → RefusedAs journalFull h
   pub full-arrival : (h : Handed) (m : Move) → NamesNext h (Am m) → isRunning (named h (Am m) .status) ≡ true
+      → journalLength < h .state .logged + mostLogged → RefusedAs journalFull h
+  pub full-lending : (h : Handed) (m : Move) → NamesSection h (La m) → holdersOf (h .state) (m .from .0) ≡ 0
+      → h .state .given < mostGiven → journalLength < h .state .logged + mostLogged → RefusedAs journalFull h
+  pub full-return : (h : Handed) (m : Move) → NamesSection h (Lb m) → possessed (h .state) (m .from .0) ≡ true
       → journalLength < h .state .logged + mostLogged → RefusedAs journalFull h

@@ -1,13 +1,14 @@
--- One train's record and the state, read: the next post, where the train is and on which track, what it has travelled.
-use mathlib.Core.Bool.{Bool, true, false, cond}
+-- One train's record and the state, read: the next post, where the train is and on which track, what it has travelled,
+-- and who holds a section.
+use mathlib.Core.Bool.{Bool, true, false, cond, _&&_}
 use mathlib.Core.List.{List, map}
 use Prim.Native.Nat.{ℕ, _+_}
-use lib.Dec.{eqb}
+use lib.Dec.{eqb, ltb}
 use lib.ListN.{getD, set}
 use Rattle.common.specs.Below.{ofBool, anyBelow}
 use Rattle.line.specs.Route.{nextPost, distance}
 use Rattle.line.specs.Line.{noRoute}
-use Rattle.line.specs.Holding.{Whereabouts, moving, standing}
+use Rattle.line.specs.Holding.{Whereabouts, moving, standing, sectionHolders}
 use Rattle.tracks.specs.Tracks.{hasTrack, unlessAway, trackFor}
 use Rattle.frame.specs.Frame.{moveOf}
 use Rattle.completion.specs.Configuration.{Configuration}
@@ -85,6 +86,18 @@ lineOf s = record {
 abbrev pub located : State → ℕ → Whereabouts
 located s t = locatedAt (s .sidings) (trainOf s t)
 
+-- 02, card 4: a gang has section i. What stands for sections that are not on the line is not read.
+abbrev pub possessed : State → ℕ → Bool
+possessed s i = ltb (i + 1) (s .posts) && getD (s .possessions) i false
+
+-- the holders of section i: the trains', and "a gang is a holder"
+abbrev pub holdersOf : State → ℕ → ℕ
+holdersOf s i = sectionHolders (s .trains) (located s) i + ofBool (possessed s i)
+
+-- "no train and no gang holds the section"
+abbrev pub sectionFree : State → ℕ → Bool
+sectionFree s i = eqb (holdersOf s i) 0
+
 -- train t holds post p, on its track k; some train does
 abbrev pub holdsTrack : State → ℕ → ℕ → ℕ → Bool
 holdsTrack s p k t = hasTrack (located s t) p (trackAt (trainOf s t) p) k
@@ -119,21 +132,27 @@ arrivedNext sidings x = record {
   status = Free;
 }
 
--- the state with these records of its trains, and so many records logged
-abbrev pub stateWith : State → List Train → ℕ → State
-stateWith s fleet n = record {
+-- the state with these records of its trains, these possessions, so many local runs given and so many records logged
+abbrev pub stateWith : State → List Train → List Bool → ℕ → ℕ → State
+stateWith s fleet possessions given logged = record {
   posts = s .posts;
   tracks = s .tracks;
   sidings = s .sidings;
   trains = s .trains;
   fleet = fleet;
-  logged = n;
+  possessions = possessions;
+  given = given;
+  logged = logged;
 }
 
 -- x as train t's record
 abbrev pub withTrain : State → ℕ → Train → State
-withTrain s t x = stateWith s (set (s .fleet) t x) (s .logged)
+withTrain s t x = stateWith s (set (s .fleet) t x) (s .possessions) (s .given) (s .logged)
+
+-- section i in a gang's hands or not, and so many local runs given
+abbrev pub withPossession : State → ℕ → Bool → ℕ → State
+withPossession s i held given = stateWith s (s .fleet) (set (s .possessions) i held) given (s .logged)
 
 -- one record more in the journal
 abbrev pub oneLogged : State → State
-oneLogged s = stateWith s (s .fleet) (s .logged + 1)
+oneLogged s = stateWith s (s .fleet) (s .possessions) (s .given) (s .logged + 1)

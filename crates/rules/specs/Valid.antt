@@ -6,19 +6,19 @@ use lib.ListN.{getD}
 use Rattle.common.specs.Below.{allBelow}
 use Rattle.line.specs.Route.{between}
 use Rattle.line.specs.Line.{inRange, wellFormed}
-use Rattle.line.specs.Holding.{isStabled, holdsPost, postHolders, sectionHolders}
+use Rattle.line.specs.Holding.{isStabled, holdsPost, postHolders}
 use Rattle.journal.specs.Journal.{journalLength}
 use Rattle.rules.specs.Types.{Status, Free, Asked, Running, Train, State}
-use Rattle.rules.specs.State.{isFree, atEnd, trackAt, trainOf, lineOf, located, holdsTrack}
+use Rattle.rules.specs.State.{isFree, atEnd, trackAt, trainOf, lineOf, located, holdersOf, holdsTrack}
 
 -- "present posts lie between start and end (both counted), only trains short of their end are Asked or Running"
 abbrev pub trainValid : Train → Bool
 trainValid x = between (x .route .start .0) (x .at .0) (x .route .end .0) && (isFree (x .status) || not (atEnd x))
 
 -- "sections and tracks are held as above": "No section has two holders. .. The number of trains that hold a post is
--- never above its tracks."
+-- never above its tracks." 02, card 4: "a gang is a holder".
 abbrev pub sectionsValid : State → Bool
-sectionsValid s = allBelow (s .posts) (λ i. leb (sectionHolders (s .trains) (located s) i) 1)
+sectionsValid s = allBelow (s .posts) (λ i. leb (holdersOf s i) 1)
 
 abbrev pub postsValid : State → Bool
 postsValid s = allBelow (s .posts) (λ p. leb (postHolders (s .trains) (located s) p) (getD (s .tracks) p 0))
@@ -55,11 +55,16 @@ numberValid s t =
     numberBelow (trainOf s t .status) (s .logged)
     && allBelow t (λ u. not (sameNumber (trainOf s t .status) (trainOf s u .status)))
 
+-- 02, card 4: "fewer than 20 local runs were given" before each of them
+abbrev pub mostGiven : ℕ
+mostGiven = 20
+
 -- "A state is sound if P, T, the track counts and any other number kept are in their ranges and, for trains below T,
 -- starts and ends are below P", then as above: all that is asked of a state but the range of its count
 unfoldable pub consistent : State → Bool
 consistent s =
     wellFormed (lineOf s)
+    && leb (s .given) mostGiven
     && allBelow (s .trains) (λ t. trainValid (trainOf s t))
     && sectionsValid s
     && postsValid s
@@ -67,7 +72,8 @@ consistent s =
     && allBelow (s .trains) (λ t. awayValid (s .sidings) (trainOf s t))
     && allBelow (s .trains) (numberValid s)
 
--- "the journal count is at most 176"
+-- "the journal count is at most 176"; 02, card 4: "The journal grows to 236 records, and refusals 1, 2 and 13 count
+-- with that."
 abbrev pub mostCounted : ℕ
 mostCounted = journalLength
 

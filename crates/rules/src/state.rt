@@ -19,13 +19,17 @@ pub struct Train {
     pub status: Status,
 }
 
-// `sidings` is the set of posts that have one. Places for posts from `posts` on and trains from
-// `trains` on are not read. `logged` counts the records of the journal.
+// `sidings` is the set of posts that have one. `possessions` says of each section whether a gang has
+// it, and `given` counts the local runs since the opening. Places for posts from `posts` on, trains
+// from `trains` on and sections from `posts` - 1 on are not read. `logged` counts the records of the
+// journal.
 pub struct State {
     pub posts: u8,
     pub tracks: [u8; 8],
     pub sidings: u8,
     pub trains: u8,
     pub fleet: [Train; 6],
+    pub possessions: [bool; 7],
+    pub given: u8,
     pub logged: u8,
 }
