@@ -1,21 +1,26 @@
 -- An accepted frame, as the code works on it: the frame's own change before the granting, and the asker's AFE after it.
-use mathlib.Core.Path.{_≡_, subst⁻¹, _∙_}
+use mathlib.Core.Path.{_≡_, sym, ap, _∙_}
 use mathlib.Core.Bool.{Bool, true, false}
 use mathlib.Core.List.{List}
-use Prim.Native.Nat.{ℕ, _≤_, _<_}
+use Prim.Native.Nat.{ℕ, _+_, _≤_, _<_}
 use native.Mathlib.Omega.{arith}
 use Rattle.frame.specs.Frame.{moveIn}
 use Rattle.journal.specs.Journal.{journalLength, recordOf}
 use Rattle.rules.specs.State.{isAsked, trainOf, withTrain, oneLogged}
 use Rattle.rules.specs.Valid.{consistent}
-use Rattle.rules.specs.Granting.{Work, begun, settled}
-use Rattle.rules.specs.Answer.{taken, declined}
+use Rattle.rules.specs.Granting.{Work, begun, sends, settled}
+use Rattle.rules.specs.Answer.{mostLogged, taken, declined}
 use Rattle.rules.proofs.Validity.{consistent-facts}
 use Rattle.rules.proofs.Settling.{settled-roomy}
-use Rattle.authority.specs.Progress.{batchOf, progressOf, progressWith}
+use Rattle.authority.specs.Progress.{progressOf, progressWith}
 use Rattle.authority.proofs.Working.{begun-roomy, sent-more}
 use Rattle.accepting.specs.Types.{Move, Message, Afe, Record, Train, State, Progress}
 use Rattle.accepting.specs.Acceptable.{Ready}
+
+-- what the granting asks of the state c, of the same in other words
+pub settle-ready : (b c : State) → b ≡ c → consistent (oneLogged c) ≡ true → c .logged + mostLogged ≤ journalLength
+    → (consistent (oneLogged b) ≡ true) × (b .logged + mostLogged ≤ journalLength)
+settle-ready b c e valid room = rw e (valid, room)
 
 module _ (s : State) (a : Message) (x : Train) (r : Ready s a x) where
   pub ready-train : moveIn a .train .0 < 6
@@ -35,22 +40,24 @@ module _ (s : State) (a : Message) (x : Train) (r : Ready s a x) where
       let start = begun-roomy (withTrain s (moveIn a .train .0) x) (recordOf a) (r .2) (r .1) in
       omega (arith, settled-roomy table (taken s a x) start .room)
 
-module _ (m : Move) (w : Work) where
-  abbrev asks : State → Bool
-  asks s = isAsked (trainOf s (m .train .0) .status)
+-- the code holds the work w
+module _ (w : Work) (p : Progress) (held : p ≡ progressOf w) where
+  -- one message more is sent, and logged by r
+  pub sends-held : (r : Record) (a : Message)
+      → progressWith (p .state) (p .batch) r ≡ progressOf (sends (w .state) w r a)
+  sends-held r a =
+      ap (λ (q : Progress). progressWith (q .state) (q .batch) r) held ∙ sent-more (w .state) w r a
 
-  still-asked : asks (w .state) ≡ true
-      → progressWith (w .state) (batchOf (w .logged)) (recordOf (Afe m)) ≡ progressOf (declined m w)
-  still-asked e = sent-more (w .state) w (recordOf (Afe m)) (Afe m) ∙ rw e
+  module _ (m : Move) where
+    abbrev asks : State → Bool
+    asks s = isAsked (trainOf s (m .train .0) .status)
 
-  not-asked : asks (w .state) ≡ false → progressOf w ≡ progressOf (declined m w)
-  not-asked e = rw e
+    same : asks (w .state) ≡ asks (p .state)
+    same = ap (λ (q : Progress). asks (q .state)) (sym held)
 
-  module _ (p : Progress) (held : p ≡ progressOf w) where
     pub declined-asker : asks (p .state) ≡ true
         → progressWith (p .state) (p .batch) (recordOf (Afe m)) ≡ progressOf (declined m w)
-    declined-asker = subst⁻¹ (λ (q : Progress). asks (q .state) ≡ true
-        → progressWith (q .state) (q .batch) (recordOf (Afe m)) ≡ progressOf (declined m w)) held still-asked
+    declined-asker e = sends-held (recordOf (Afe m)) (Afe m) ∙ rw (same ∙ e)
 
     pub granted-asker : asks (p .state) ≡ false → p ≡ progressOf (declined m w)
-    granted-asker = subst⁻¹ (λ (q : Progress). asks (q .state) ≡ false → q ≡ progressOf (declined m w)) held not-asked
+    granted-asker e = held ∙ rw (same ∙ e)

@@ -1,9 +1,10 @@
 // What an accepted frame does.
 ghost use mathlib.Core.Path.{_≡_};
 ghost use mathlib.Core.Bool.{true};
-ghost use Prim.Native.Nat.{_+_, _≤_, _<_};
+ghost use mathlib.Core.List.{List};
+ghost use Prim.Native.Nat.{ℕ, _+_, _≤_, _<_};
 ghost use Rattle.journal.specs.Journal.{journalLength};
-ghost use Rattle.accepting.specs.Types.{Fa, Am, Asked};
+ghost use Rattle.accepting.specs.Types.{Fa, Am, La, Lb, Asked};
 ghost use Rattle.rules.specs.State.{trainOf, withStatus, arrivedNext, withTrain, oneLogged};
 ghost use Rattle.rules.specs.Valid.{consistent};
 ghost use Rattle.rules.specs.Granting.{Work, begun, settled};
@@ -25,10 +26,11 @@ use validity::arrived;
 use validity::is_asked;
 use validity::status_of;
 use validity::train_of;
+use validity::with_possession;
 use validity::with_status;
 use validity::with_train;
 
-// The frame is logged and answered. What is neither an FA nor an AM is not accepted.
+// The frame is logged and answered. What is none of FA, AM, LA and LB is not accepted.
 pub fn accept(state: State, table: &[u8], message: Message) -> Progress
     requires { ⌜ Acceptable state message ⌝ }
     ensures { λ r. ⌜ r ≡ progressOf (accepted (now (table .entry)) state message) ⌝ }
@@ -38,6 +40,9 @@ pub fn accept(state: State, table: &[u8], message: Message) -> Progress
         Message::Fe(_) => untouched(state),
         Message::Afe(_) => untouched(state),
         Message::Am(m) => arrival(state, table, m),
+        Message::La(m) => lend(state, m),
+        Message::Le(_) => untouched(state),
+        Message::Lb(m) => give_back(state, table, m),
         Message::Refused(_) => untouched(state),
     }
 }
@@ -60,6 +65,28 @@ fn arrival(state: State, table: &[u8], m: Move) -> Progress
 {
     let free = arrived(state.sidings, train_of(state, m.train));
     take(state, table, record_of(Message::Am(m)), m.train, free)
+}
+
+// 02, card 4: "LA is answered by LE". Both are logged, and nobody can be granted who could not be
+// before.
+fn lend(state: State, m: Move) -> Progress
+    requires { ⌜ Acceptable state (La m) ⌝ }
+    ensures { λ r. ⌜ ((table : List ℕ) → r ≡ progressOf (accepted table state (La m))) ⌝ }
+{
+    let lent = with_possession(state, line::section(m.from, m.to), true, state.given + 1);
+    let asked = logged(lent, logging::empty(), record_of(Message::La(m)));
+    let next = asked.state;
+    let batch = asked.batch;
+    logged(next, batch, record_of(Message::Le(m)))
+}
+
+// "LB frees it and starts the same granting as AM."
+fn give_back(state: State, table: &[u8], m: Move) -> Progress
+    requires { ⌜ Acceptable state (Lb m) ⌝ }
+    ensures { λ r. ⌜ r ≡ progressOf (accepted (now (table .entry)) state (Lb m)) ⌝ }
+{
+    let freed = with_possession(state, line::section(m.from, m.to), false, state.given);
+    settle(freed, table, record_of(Message::Lb(m)))
 }
 
 // The frame is logged with the new record of train `t`, and then the granting goes on.

@@ -9,27 +9,24 @@ use native.Mathlib.Omega.{arith}
 use lib.Dec.{eqb}
 use lib.ListN.{length, getD, set, replicate, length-set}
 use lib.Seq.{getD-set-same, getD-set-other}
-use borrow.Author.Tests.{eq-eqb, ne-eqb}
+use borrow.Author.Tests.{ne-eqb}
 use Rattle.common.specs.Bits.{setBelow, bitAt}
 use Rattle.common.proofs.Tests.{by-cases, by-equality, not-passed}
 use Rattle.common.proofs.Below.{ofBool-le}
 use Rattle.common.proofs.Bits.{bit-set}
 use Rattle.common.proofs.Update.{update-own, update-other}
 use Rattle.line.specs.Route.{sectionOf, distance}
-use Rattle.line.specs.Holding.{sectionHolders}
 use Rattle.tracks.specs.Tracks.{trackFor}
 use Rattle.tracks.proofs.Choice.{track-cong}
 use Rattle.completion.specs.Configuration.{moved, codeBelow}
 use Rattle.completion.specs.Table.{bitOf}
 use Rattle.authority.specs.Types.{Move, Train, State}
-use Rattle.rules.specs.State.{isAsked, isRunning, nextOf, trainOf, located, trackHeld, freeTrack, reached, nextMove}
+use Rattle.rules.specs.State.{isAsked, isRunning, nextOf, trainOf, sectionFree, trackHeld, freeTrack, reached}
+use Rattle.rules.specs.State.{nextMove}
 use Rattle.rules.specs.Valid.{consistent}
 use Rattle.rules.specs.Granting.{grantable}
 use Rattle.authority.specs.GrantTrack.{grantTrack}
-use Rattle.validity.specs.Holders.{Placed}
-use Rattle.validity.proofs.Located.{placed-at}
-use Rattle.rules.proofs.Trains.{running-busy}
-use Rattle.rules.proofs.Validity.{consistent-facts, start-below, end-below, post-below, next-post-below, asked-short}
+use Rattle.rules.proofs.Validity.{consistent-facts, start-below, post-below, next-post-below, asked-short}
 use Rattle.rules.proofs.Changes.{grantable-facts}
 
 -- ---- a consistent state
@@ -38,11 +35,8 @@ module _ (s : State) (d : consistent s ≡ true) where
   pub few-trains : s .trains ≤ 6
   few-trains = consistent-facts s d .line .few-trains
 
-  pub all-placed : Placed s
-  all-placed t k =
-      let v = consistent-facts s d in
-      placed-at (trainOf s t) (s .posts) (v .line .few-posts) (post-below s v t k) (end-below s v t k)
-      (λ e. v .each t k .busy (running-busy (trainOf s t .status) e))
+  pub few-posts : s .posts ≤ 8
+  few-posts = consistent-facts s d .line .few-posts
 
   pub short-way : (t : ℕ) → t < s .trains → distance (trainOf s t .route .start .0) (trainOf s t .at .0) < 8
   short-way t k =
@@ -79,15 +73,6 @@ stored-moved s travelled h t small known u k = by-equality u t
     (getD-set-same travelled t _ 0 (omega (arith, h .six)) ∙ ap (λ (n : ℕ). n + 1) (h .each t known)))
     (λ q. rw (update-other (reached s) t (reached s t + 1) u q)
     (getD-set-other travelled t u _ 0 q ∙ h .each u k))
-
--- ---- holders, found to be n
-
-module _ {n : ℕ} (h : ℕ) (e : n ≡ h) where
-  pub some-hold : 0 < n → eqb h 0 ≡ false
-  some-hold l = ne-eqb h 0 (λ z. omega arith)
-
-  pub none-hold : n ≤ 0 → eqb h 0 ≡ true
-  none-hold l = eq-eqb h 0 (omega arith)
 
 -- ---- the test, in the code's order
 
@@ -133,12 +118,11 @@ module _ (table : List ℕ) (s : State) (t : ℕ) where
     own : i ≡ sectionOf (nextMove s t .from .0) (nextMove s t .to .0)
     own = section ∙ ap (λ (n : Move). sectionOf (n .from .0) (n .to .0)) next
 
-    pub section-held : eqb (sectionHolders (s .trains) (located s) i) 0 ≡ false → 0 ≡ grantTrack table s t
+    pub section-held : sectionFree s i ≡ false → 0 ≡ grantTrack table s t
     unfolding grantable
     section-held e = none-given (rw (asks, ← own, e))
 
-    module _ (free : eqb (sectionHolders (s .trains) (located s) i) 0 ≡ true) (k : ℕ)
-        (found : k ≡ freeTrack s t (nextOf (trainOf s t))) where
+    module _ (free : sectionFree s i ≡ true) (k : ℕ) (found : k ≡ freeTrack s t (nextOf (trainOf s t))) where
       pub post-full : k ≡ 0 → 0 ≡ grantTrack table s t
       unfolding grantable
       post-full z = none-given (rw (asks, ← own, free, ← found, z))

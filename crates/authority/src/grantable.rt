@@ -16,7 +16,7 @@ use validity::holders_of;
 use validity::is_asked;
 use validity::next_move;
 use validity::reached;
-use validity::section_holders;
+use validity::section_free;
 use validity::tracks_at;
 use validity::tracks_held;
 use validity::train_of;
@@ -24,7 +24,7 @@ use validity::train_of;
 // 01: "A train can be granted if it is Asked, its next section is unheld, its next post is held by
 // fewer trains than tracks, and the table has the bit for the placing in which every Running train,
 // and this one, has reached its next post." 02, card 2: "The test for a free track now returns
-// which one."
+// which one." Card 4: "A section held by a gang blocks authorities."
 pub fn grantable(state: State, table: &[u8], t: TrainNo) -> FreeTrack
     requires { ⌜ (consistent state ≡ true) × (t .0 < state .trains) ⌝ }
     ensures { λ r. ⌜ (trackNumber r ≡ grantTrack (now (table .entry)) state (t .0)) × NamesTrack r ⌝ }
@@ -36,7 +36,7 @@ pub fn grantable(state: State, table: &[u8], t: TrainNo) -> FreeTrack
     }
     let next = next_move(state, t);
     let holders = holders_of(state);
-    if 0 < section_holders(holders, line::section(next.from, next.to)) {
+    if !section_free(state, holders, line::section(next.from, next.to)) {
         return FreeTrack::Nothing;
     }
     let held = tracks_held(holders, next.to);

@@ -1,7 +1,9 @@
 // Whether a frame is refused, and by which number. 01: "Checks in order: 1, 2, 3, 4, 5, 6, 7, 8 (at
-// its end), 9, then 10 or 11 for FA, 12 for AM, then 13."
+// its end), 9, then 10 or 11 for FA, 12 for AM, then 13." 02, card 4, for LA and LB, after 6: 7, 9,
+// "then for LA 24, section taken, and 26, twenty already given; for LB 25, no local run there; then
+// 13."
 ghost use mathlib.Core.Path.{_≡_};
-ghost use mathlib.Core.Bool.{_&&_};
+ghost use mathlib.Core.Bool.{true, _&&_};
 ghost use mathlib.Core.List.{[], _∷_};
 ghost use Prim.Native.Nat.{_≤_, _<_};
 ghost use lib.Dec.{leb};
@@ -9,8 +11,9 @@ ghost use Rattle.common.specs.Check.{check, refusal};
 ghost use Rattle.line.specs.Refusal.{journalFull};
 ghost use Rattle.journal.specs.Journal.{journalLength};
 ghost use Rattle.completion.specs.Table.{tableLength};
-ghost use Rattle.rules.specs.Answer.{outLength, moveChecks, hasRoom, contentChecks, frameChecks};
-ghost use Rattle.checks.specs.Types.{Fa, Am};
+ghost use Rattle.rules.specs.Valid.{valid};
+ghost use Rattle.rules.specs.Answer.{outLength, moveChecks, hasRoom, sectionChecks, contentChecks, frameChecks};
+ghost use Rattle.checks.specs.Types.{Fa, Am, La, Lb};
 ghost use Rattle.checks.specs.Messages.{messageRefusal};
 use frame::FRAME_LENGTH;
 use frame::Message;
@@ -21,16 +24,23 @@ use journal::MOST_SENT;
 use line::refusal;
 use rules::State;
 use table::TABLE_LENGTH;
+use validity::MOST_GIVEN;
 use validity::at_end;
+use validity::holders_of;
 use validity::is_asked;
 use validity::is_running;
 use validity::next_post;
+use validity::possessed;
+use validity::section_free;
 use validity::status_of;
 use validity::train_of;
 use validity::valid;
 
 // 01: "At most 6 frames go out, 42 bytes".
 pub const OUT_LENGTH: usize = MOST_SENT * FRAME_LENGTH;
+
+// 02, card 4: frames of LA, LE and LB "have train byte 255".
+const GANG_BYTE: u8 = 255;
 
 // The number by which a frame is refused, and 0 where it is accepted. Of the table, the journal and
 // the out buffer only the lengths are looked at.
@@ -55,8 +65,9 @@ fn long_enough(table: usize, records: usize, room: usize) -> bool
     JOURNAL_LENGTH <= records && OUT_LENGTH <= room
 }
 
+// 6 for what is not for the dispatcher; card 4: "LE at the dispatcher is 6."
 fn message_refusal(state: State, message: Message) -> u8
-    requires { ⌜ state .trains ≤ 6 ⌝ }
+    requires { ⌜ valid state ≡ true ⌝ }
     ensures { λ r. ⌜ r ≡ messageRefusal state message ⌝ }
 {
     match message {
@@ -64,6 +75,9 @@ fn message_refusal(state: State, message: Message) -> u8
         Message::Fe(_) => refusal::WRONG_END,
         Message::Afe(_) => refusal::WRONG_END,
         Message::Am(m) => arrival_refusal(state, m),
+        Message::La(m) => lending_refusal(state, m),
+        Message::Le(_) => refusal::WRONG_END,
+        Message::Lb(m) => return_refusal(state, m),
         Message::Refused(n) => n,
     }
 }
@@ -106,6 +120,57 @@ fn arrival_refusal(state: State, m: Move) -> u8
         return refusal::NO_AUTHORITY;
     }
     room_refusal(state)
+}
+
+// The checks of what an LA says.
+fn lending_refusal(state: State, m: Move) -> u8
+    requires { ⌜ valid state ≡ true ⌝ }
+    ensures { λ r. ⌜ r ≡ refusal (contentChecks state (La m)) ⌝ }
+{
+    let number = section_refusal(state, m);
+    if number != 0 {
+        return number;
+    }
+    let holders = holders_of(state);
+    if !section_free(state, holders, line::section(m.from, m.to)) {
+        return refusal::SECTION_TAKEN;
+    }
+    if MOST_GIVEN <= state.given {
+        return refusal::TWENTY_GIVEN;
+    }
+    room_refusal(state)
+}
+
+// The checks of what an LB says.
+fn return_refusal(state: State, m: Move) -> u8
+    requires { ⌜ state .posts ≤ 8 ⌝ }
+    ensures { λ r. ⌜ r ≡ refusal (contentChecks state (Lb m)) ⌝ }
+{
+    let number = section_refusal(state, m);
+    if number != 0 {
+        return number;
+    }
+    if !possessed(state, line::section(m.from, m.to)) {
+        return refusal::NO_LOCAL_RUN;
+    }
+    room_refusal(state)
+}
+
+// Whether two neighbouring posts are named for a gang, the lower one first: "a train byte not 255 is
+// 7 and posts not so named are 9".
+fn section_refusal(state: State, m: Move) -> u8
+    ensures { λ r. ⌜ r ≡ refusal (sectionChecks state m) ⌝ }
+{
+    if m.train.0 != GANG_BYTE {
+        return refusal::UNKNOWN_TRAIN;
+    }
+    if m.to.0 as usize != m.from.0 as usize + 1 {
+        return refusal::WRONG_POST;
+    }
+    if state.posts <= m.to.0 {
+        return refusal::WRONG_POST;
+    }
+    0
 }
 
 // Whether the move is the next one of its train.

@@ -11,20 +11,28 @@ use Rattle.common.proofs.Check.{accepts, refuses}
 use Rattle.frame.specs.Frame.{readFrame}
 use Rattle.journal.specs.Journal.{blank, journalLength, batchLength, emptyBatch, appended}
 use Rattle.journal.proofs.Appended.{appended-none}
-use Rattle.dispatcher.specs.Types.{Message, Record, State, Sent, RefusedBy, Progress, Outcome}
+use Rattle.dispatcher.specs.Types.{Move, Message, Record, State, Sent, RefusedBy, Progress, Outcome}
 use Rattle.rules.specs.Granting.{Work}
 use Rattle.rules.specs.Answer.{frameChecks, accepted, framesOf, Answer, answerOf, answered, refused}
 use Rattle.rules.specs.Answer.{answer}
 use Rattle.authority.specs.Progress.{batchOf, progressOf}
-use Rattle.accepting.specs.Acceptable.{Acceptable}
+use Rattle.accepting.specs.Acceptable.{OnSection, Acceptable}
 use Rattle.dispatcher.specs.Step.{framesIn, answersIn, outcomeOf, Stepped}
 use Rattle.rules.proofs.Validity.{Consistent, is-consistent}
 use Rattle.rules.proofs.Changes.{valid-request, valid-arrival}
-use Rattle.rules.proofs.Acceptance.{Taken, request, arrival, taken-space, Passed, frame-passed, Accepted}
-use Rattle.rules.proofs.Acceptance.{paired, accepted-facts}
+use Rattle.rules.proofs.Acceptance.{Section, Taken, request, arrival, lending, return, taken-space, Passed}
+use Rattle.rules.proofs.Acceptance.{frame-passed, Accepted, paired, return-begins, accepted-facts}
 use Rattle.dispatcher.proofs.Batched.{Batched, batched, batched-appended, batched-frames}
 
--- an FA or an AM that passes the checks can be taken
+-- a gang's frame names a section whose place the state has
+on-section : (s : State) → Consistent s → (m : Move) → Section s m → OnSection s m
+on-section s d m n = record {
+  upper = n .upper;
+  place = omega (arith, n .on, d .line .few-posts);
+  space = n .space;
+}
+
+-- a message that passes the checks can be taken
 pub taken-acceptable : (s : State) → Consistent s → (a : Message) → Taken s a → Acceptable s a
 taken-acceptable s d a (request m n free idle) = (
   n .known,
@@ -35,6 +43,12 @@ taken-acceptable s d a (arrival m n runs) = (
   n .known,
   n .space,
   is-consistent _ (valid-arrival s d (m .train .0) (n .known) (n .short) runs),
+)
+taken-acceptable s d a (lending m n free few) = (on-section s d m n, few)
+taken-acceptable s d a (return m n held) = (
+  on-section s d m n,
+  is-consistent _ (return-begins s d (m .from .0)
+      .valid-state),
 )
 
 module _ (s : State) (table : List ℕ) (count : ℕ) (frame out : List ℕ) (number : ℕ)

@@ -1,4 +1,5 @@
 -- The declared types that the definitions speak of, under one module.
+pub use Rattle.frame.specs.declared.message.Move.{Move}
 pub use Rattle.frame.specs.declared.message.Message.{Message}
 pub use Rattle.journal.specs.declared.record.Record.{Record}
 pub use Rattle.journal.specs.declared.batch.Batch.{Batch}

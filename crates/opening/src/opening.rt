@@ -23,6 +23,9 @@ use rules::Train;
 use starting::start_tracks;
 use table::TABLE_LENGTH;
 
+// No section is in a gang's hands.
+const NO_GANGS: [bool; 7] = [false; 7];
+
 // Opens a book. Of the journal only its length is looked at.
 pub fn open(book: &[u8], table: &mut [u8], journal: &[Record]) -> Opened
     ensures { λ r. ⌜ openingOf r (now (table .exit))
@@ -87,12 +90,15 @@ pub fn empty_state() -> State
 {
     let tracks = [0u8; 8];
     let fleet = [no_train(); 6];
+    let possessions = NO_GANGS;
     State {
         posts: 0,
         tracks,
         sidings: 0,
         trains: 0,
         fleet,
+        possessions,
+        given: 0,
         logged: 0,
     }
 }
@@ -111,12 +117,15 @@ fn opened_state(line: Line) -> State
         t += 1;
     }
     let tracks = line.tracks;
+    let possessions = NO_GANGS;
     State {
         posts: line.posts,
         tracks,
         sidings: line.sidings,
         trains: line.trains,
         fleet,
+        possessions,
+        given: 0,
         logged: 0,
     }
 }

@@ -11,15 +11,16 @@ use lib.ListN.{length, getD, set, replicate, getD-replicate, length-set}
 use lib.Pow.{pow-lt, pow-add, pow-pos}
 use lib.Seq.{getD-set-same, getD-set-other}
 use borrow.Author.Tests.{eq-eqb, ne-eqb}
+use Rattle.common.specs.Below.{ofBool}
 use Rattle.common.specs.Bits.{setBelow}
 use Rattle.common.proofs.Bits.{ones-set, set-none, set-low, set-more}
 use Rattle.common.proofs.Tests.{by-equality}
 use Rattle.line.specs.Route.{sectionOf}
-use Rattle.line.specs.Holding.{holdsPost, holdsSection, postHolders, sectionHolders}
+use Rattle.line.specs.Holding.{holdsPost, holdsSection, postHolders}
 use Rattle.line.proofs.Holding.{standing-section}
 use Rattle.tracks.specs.Answers.{withTrack}
 use Rattle.validity.specs.Types.{State, Holders}
-use Rattle.rules.specs.State.{isRunning, trackAhead, nextOf, trainOf, located}
+use Rattle.rules.specs.State.{isRunning, trackAhead, nextOf, trainOf, located, possessed, holdersOf}
 use Rattle.validity.specs.Holders.{PlacedAt, HeldBy, Held}
 use Rattle.validity.proofs.TrackSets.{TracksIn, heldAmong, away, standing-at, tracks-none, tracks-standing}
 use Rattle.validity.proofs.TrackSets.{tracks-stabled, tracks-running}
@@ -160,9 +161,11 @@ module _ (s : State) (n bit : ℕ) (is : bit ≡ 2 ^ n) (posts sections tracks :
 
 -- ---- the ones counted
 
-module _ (s : State) (h : Holders) (held : Held s h) (k n : ℕ) (small : k < 8) where
-  pub posts-counted : n ≡ ones (getD (h .posts) k 0) → n ≡ postHolders (s .trains) (located s) k
-  posts-counted e = e ∙ ap ones (held .posts k small) ∙ ones-set (s .trains) _
+module _ (s : State) (h : Holders) (held : Held s h) (k : ℕ) (small : k < 8) where
+  pub posts-counted : ones (getD (h .posts) k 0) ≡ postHolders (s .trains) (located s) k
+  posts-counted = ap ones (held .posts k small) ∙ ones-set (s .trains) _
 
-  pub sections-counted : n ≡ ones (getD (h .sections) k 0) → n ≡ sectionHolders (s .trains) (located s) k
-  sections-counted e = e ∙ ap ones (held .sections k small) ∙ ones-set (s .trains) _
+  -- of a section, and its gang
+  pub section-counted : (gang : Bool) → gang ≡ possessed s k
+      → ones (getD (h .sections) k 0) + ofBool gang ≡ holdersOf s k
+  section-counted gang own = rw (own, held .sections k small, ones-set (s .trains) (λ t. holdsSection (located s t) k))

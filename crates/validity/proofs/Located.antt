@@ -9,8 +9,10 @@ use Rattle.line.specs.Holding.{isStabled}
 use Rattle.tracks.specs.Tracks.{unlessAway}
 use Rattle.line.proofs.Travel.{next-up, next-down, next-end}
 use Rattle.validity.specs.Types.{TrainNo, PostNo, TrackNo, Move, Free, Train, State}
-use Rattle.validity.specs.Holders.{PlacedAt}
+use Rattle.validity.specs.Holders.{PlacedAt, Placed}
 use Rattle.rules.specs.State.{isRunning, trackAhead, nextOf, trainOf, nextMove, arrivedNext}
+use Rattle.rules.proofs.Trains.{running-busy}
+use Rattle.rules.proofs.Validity.{Consistent, end-below, post-below}
 
 -- the track of one that arrives at post p: none where it is stabled there, and else that ahead of it
 module _ (sidings : ℕ) (x : Train) (p : ℕ) where
@@ -47,6 +49,12 @@ placed-at x n few at end short = record {
       (λ l z. omega (arith, next-up (x .at .0) (x .route .end .0) l))
       (λ l z. let h = short e in omega (arith, next-down (x .at .0) (x .route .end .0) (omega arith)));
 }
+
+-- so is each train of a valid state
+pub consistent-placed : (s : State) → Consistent s → Placed s
+consistent-placed s d t k =
+    placed-at (trainOf s t) (s .posts) (d .line .few-posts) (post-below s d t k) (end-below s d t k)
+    (λ e. d .each t k .busy (running-busy (trainOf s t .status) e))
 
 pub move-next : (s : State) (t : TrainNo) (x : Train) (q : PostNo) → x ≡ trainOf s (t .0) → q .0 ≡ nextOf x
     → record { train = t; from = x .at; to = q } ≡ nextMove s (t .0)

@@ -3,19 +3,19 @@
 use mathlib.Core.Path.{_≡_, refl, sym, ap, _∙_}
 use mathlib.Core.Logic.{_≢_, ⊎-elim}
 use mathlib.Core.Bool.{Bool, true, false, not, _&&_, and-false, and-true}
-use Prim.Native.Nat.{ℕ, _/_, _%_, _^_, _≤_, _<_}
+use Prim.Native.Nat.{ℕ, _+_, _/_, _%_, _^_, _≤_, _<_}
 use native.Mathlib.Omega.{arith}
 use lib.Count.{ones}
 use lib.Dec.{leb, ltb, eqb}
 use lib.ListN.{getD}
 use borrow.Author.Tests.{ltb-true, eqb-false, not-true, lt-ltb, le-ltb, le-leb, lt-leb, eq-eqb, ne-eqb}
-use Rattle.common.specs.Below.{allBelow}
+use Rattle.common.specs.Below.{ofBool, allBelow}
 use Rattle.common.proofs.Tests.{same-test, and-left, and-right, and-both}
 use Rattle.common.proofs.Below.{all-below, below-all, all-cong}
 use Rattle.line.specs.Route.{between}
 use Rattle.line.specs.Line.{inRange, postsInRange, tracksInRange, sidingsOnLine, trainsInRange}
 use Rattle.line.specs.Line.{routesOnLine, wellFormed}
-use Rattle.line.specs.Holding.{holdsPost, postHolders, sectionHolders}
+use Rattle.line.specs.Holding.{holdsPost, postHolders}
 use Rattle.line.proofs.Travel.{between-of}
 use Rattle.line.proofs.WellFormed.{high, ranged, below-range, above-range}
 use Rattle.journal.specs.Journal.{journalLength}
@@ -23,13 +23,13 @@ use Rattle.validity.specs.Types.{Status, Train, State, Holders}
 use Rattle.validity.specs.Holders.{Placed, Held}
 use Rattle.validity.specs.Tests.{countsValid, onLine, recordValid, recordsValid}
 use Rattle.validity.specs.Tests.{heldWithin, ownTracks, placeValid}
-use Rattle.rules.specs.State.{isFree, atEnd, trackAt, trainOf, lineOf, located}
+use Rattle.rules.specs.State.{isFree, atEnd, trackAt, trainOf, lineOf, located, possessed, holdersOf}
 use Rattle.rules.proofs.Trains.{running-busy, route-of}
 use Rattle.validity.proofs.Located.{placed-at}
-use Rattle.validity.proofs.HolderSets.{posts-counted, sections-counted}
+use Rattle.validity.proofs.HolderSets.{posts-counted, section-counted}
 use Rattle.validity.proofs.OwnTracks.{own-tracks}
 use Rattle.rules.specs.Valid.{trainValid, sectionsValid, postsValid, trackValid, tracksValid, awayValid}
-use Rattle.rules.specs.Valid.{numberBelow, sameNumber, numberValid, consistent, valid}
+use Rattle.rules.specs.Valid.{numberBelow, sameNumber, numberValid, mostGiven, consistent, valid}
 
 -- ---- one train's record
 
@@ -65,16 +65,16 @@ module _ (s : State) (t : ℕ) (w : Status) (e : w ≡ trainOf s t .status) wher
 
 -- ---- the sets of post p, of the section after it and of the tracks held there
 
-module _ (s : State) (h : Holders) (held : Held s h) (p : ℕ) (small : p < 8) where
+module _ (s : State) (h : Holders) (held : Held s h) (p : ℕ) (small : p < 8)
+    (gang : Bool) (own : gang ≡ possessed s p) where
   abbrev tracks : ℕ
   tracks = getD (s .tracks) p 0
 
   abbrev within : Bool
-  within = heldWithin tracks (ones (getD (h .posts) p 0)) (ones (getD (h .sections) p 0))
+  within = heldWithin tracks (ones (getD (h .posts) p 0)) (ones (getD (h .sections) p 0) + ofBool gang)
 
-  within-same : within ≡ heldWithin tracks (postHolders (s .trains) (located s) p)
-      (sectionHolders (s .trains) (located s) p)
-  within-same = rw (posts-counted s h held p _ small refl, sections-counted s h held p _ small refl)
+  within-same : within ≡ heldWithin tracks (postHolders (s .trains) (located s) p) (holdersOf s p)
+  within-same = rw (posts-counted s h held p small, section-counted s h held p small gang own)
 
   pub beyond : within ≡ false → placeValid s p ≡ false
   beyond e = rw (sym within-same ∙ e)
@@ -85,7 +85,7 @@ module _ (s : State) (h : Holders) (held : Held s h) (p : ℕ) (small : p < 8) w
   pub place-tested : within ≡ true → (b : Bool)
       → b ≡ ownTracks tracks (ones (getD (h .posts) p 0)) (getD (h .tracks) p 0) → placeValid s p ≡ b
   place-tested e b f =
-      rw (sym within-same ∙ e) (sym (f ∙ rw (posts-counted s h held p _ small refl, held .tracks p small)
+      rw (sym within-same ∙ e) (sym (f ∙ rw (posts-counted s h held p small, held .tracks p small)
       (own-tracks (λ t. holdsPost (located s t) p) (λ t. trackAt (trainOf s t) p) (s .trains) tracks (few-tracks e))))
 
 module _ (tracks h i : ℕ) where
@@ -128,21 +128,22 @@ all-and n f g = same-test (allBelow n (λ k. f k && g k)) (allBelow n f && allBe
     let two = all-below n g (and-right (allBelow n f) (allBelow n g) e) in
     below-all n _ (λ k l. and-both (f k) (g k) (one k l) (two k l)))
 
--- a line of posts r, tracks k, sidings d, trains t and routes o; trains v, sections s, posts p, tracks that are held w,
--- trains put away a and numbers q, in two orders
-in-turn : (r k d t o v s p w a q : Bool)
-    → r && (k && (d && (t && o))) && v && s && p && w && a && q
-    ≡ (r && d && t) && (o && (v && a)) && ((k && (p && s)) && w) && q
-in-turn false k d t o v s p w a q = refl
-in-turn true k false t o v s p w a q = rw (and-false k)
-in-turn true k true false o v s p w a q = rw (and-false k)
-in-turn true k true true false v s p w a q = rw (and-false k)
-in-turn true false true true true v s p w a q = rw (and-false (v && a))
-in-turn true true true true true false s p w a q = refl
-in-turn true true true true true true s p w false q = rw (and-false (s && p && w))
-in-turn true true true true true true false p w true q = rw (and-false p)
-in-turn true true true true true true true false w true q = refl
-in-turn true true true true true true true true w true q = rw (and-true w)
+-- a line of posts r, tracks k, sidings d, trains t and routes o; local runs g; trains v, sections s, posts p, tracks
+-- that are held w, trains put away a and numbers q, in two orders
+in-turn : (r k d t o g v s p w a q : Bool)
+    → r && (k && (d && (t && o))) && g && v && s && p && w && a && q
+    ≡ (r && d && g && t) && (o && (v && a)) && ((k && (p && s)) && w) && q
+in-turn false k d t o g v s p w a q = refl
+in-turn true k false t o g v s p w a q = rw (and-false k)
+in-turn true k true t o false v s p w a q = rw (and-false (k && (t && o)))
+in-turn true k true false o true v s p w a q = rw (and-false k)
+in-turn true k true true false true v s p w a q = rw (and-false k)
+in-turn true false true true true true v s p w a q = rw (and-false (v && a))
+in-turn true true true true true true false s p w a q = refl
+in-turn true true true true true true true s p w false q = rw (and-false (s && p && w))
+in-turn true true true true true true true false p w true q = rw (and-false p)
+in-turn true true true true true true true true false w true q = refl
+in-turn true true true true true true true true true w true q = rw (and-true w)
 
 same-both : {a b c d : Bool} → a ≡ c → b ≡ d → a && b ≡ c && d
 same-both p q = rw (p, q)
@@ -169,7 +170,7 @@ module _ (s : State) where
       ∙ ap (λ (b : Bool). tracksInRange (lineOf s) && b) (all-and (s .posts) _ _)) refl
 
   abbrev counts : Bool
-  counts = countsValid (s .posts) (s .sidings) (s .trains)
+  counts = countsValid (s .posts) (s .sidings) (s .trains) (s .given)
 
   abbrev places : Bool
   places = allBelow (s .posts) (placeValid s)
@@ -181,7 +182,7 @@ module _ (s : State) where
   unfolding consistent wellFormed
   grouped =
       in-turn (postsInRange (lineOf s)) (tracksInRange (lineOf s)) (sidingsOnLine (lineOf s))
-      (trainsInRange (lineOf s)) (routesOnLine (lineOf s))
+      (trainsInRange (lineOf s)) (routesOnLine (lineOf s)) (leb (s .given) mostGiven)
       standings (sectionsValid s) (postsValid s) (tracksValid s) away numbers
       ∙ rw (trains-together, places-together)
 

@@ -7,14 +7,15 @@ use lib.Dec.{leb, ltb, eqb}
 use lib.ListN.{getD}
 use Rattle.common.specs.Below.{allBelow}
 use Rattle.line.specs.Line.{inRange, namesPosts}
-use Rattle.line.specs.Holding.{postHolders, sectionHolders}
-use Rattle.rules.specs.State.{trainOf, located}
-use Rattle.rules.specs.Valid.{trainValid, trackValid, awayValid}
+use Rattle.line.specs.Holding.{postHolders}
+use Rattle.rules.specs.State.{trainOf, located, holdersOf}
+use Rattle.rules.specs.Valid.{trainValid, trackValid, awayValid, mostGiven}
 use Rattle.validity.specs.Types.{Route, Train, State}
 
--- so many posts and trains, and sidings at posts of the line
-abbrev pub countsValid : ℕ → ℕ → ℕ → Bool
-countsValid posts sidings trains = inRange 2 8 posts && namesPosts posts sidings && inRange 1 6 trains
+-- so many posts and trains, sidings at posts of the line, and so many local runs given
+abbrev pub countsValid : ℕ → ℕ → ℕ → ℕ → Bool
+countsValid posts sidings trains given =
+    inRange 2 8 posts && namesPosts posts sidings && leb given mostGiven && inRange 1 6 trains
 
 -- a route on a line of so many posts
 abbrev pub onLine : ℕ → Route → Bool
@@ -36,5 +37,5 @@ ownTracks tracks h set = eqb (set % 2) 0 && (ltb (set / 2 ^ tracks) 2 && eqb (on
 
 abbrev pub placeValid : State → ℕ → Bool
 placeValid s p =
-    heldWithin (getD (s .tracks) p 0) (postHolders (s .trains) (located s) p) (sectionHolders (s .trains) (located s) p)
+    heldWithin (getD (s .tracks) p 0) (postHolders (s .trains) (located s) p) (holdersOf s p)
     && allBelow (s .trains) (trackValid s p)

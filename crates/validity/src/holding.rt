@@ -2,10 +2,13 @@
 // bits, that of value 2 ^ t train t's; and for each post the set of the tracks that they hold, in
 // eight, that of value 2 ^ k track k's.
 ghost use mathlib.Core.Path.{_≡_};
-ghost use Prim.Native.Nat.{_≤_, _<_};
+ghost use Prim.Native.Nat.{_+_, _≤_, _<_};
 ghost use lib.Count.{ones};
 ghost use lib.ListN.{getD};
+ghost use Rattle.common.specs.Below.{ofBool};
+ghost use Rattle.rules.specs.State.{sectionFree};
 ghost use Rattle.validity.specs.Holders.{Placed, Held};
+use crate::possession::possessed;
 use crate::train::is_running;
 use crate::train::next_post;
 use crate::train::track_ahead;
@@ -63,13 +66,25 @@ pub fn holders_of(state: State) -> Holders
     }
 }
 
-// How many trains hold section `i`.
-pub fn section_holders(holders: Holders, i: SectionNo) -> u32
-    requires { ⌜ i .0 < 8 ⌝ }
-    ensures { λ r. ⌜ r ≡ ones (getD (holders .sections) (i .0) 0) ⌝ }
+// 02, card 4: whether "no train and no gang holds the section".
+pub fn section_free(state: State, holders: Holders, i: SectionNo) -> bool
+    requires { ⌜ (state .posts ≤ 8) × (i .0 < 8) × Held state holders ⌝ }
+    ensures { λ r. ⌜ r ≡ sectionFree state (i .0) ⌝ }
 {
     let k = i.0 as usize;
-    u32::count_ones(holders.sections[k] as u32)
+    let trains = holders.sections[k];
+    holders_in(trains, possessed(state, i)) == 0
+}
+
+// How many hold a section, by the set of the trains that do and whether a gang has it.
+pub fn holders_in(trains: u8, gang: bool) -> u32
+    ensures { λ r. ⌜ r ≡ ones trains + ofBool gang ⌝ }
+{
+    let count = u32::count_ones(trains as u32);
+    if gang {
+        return count + 1;
+    }
+    count
 }
 
 // The set of the tracks that are held at post `p`.

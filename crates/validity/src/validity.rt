@@ -1,9 +1,9 @@
 // Whether a state that is handed in is valid (01: sound): its counts, each train's record, each post
 // with its section and the tracks held there, and the numbers of the requests.
 ghost use mathlib.Core.Path.{_≡_};
-ghost use Prim.Native.Nat.{_≤_, _<_};
+ghost use Prim.Native.Nat.{_+_, _≤_, _<_};
 ghost use lib.Count.{ones};
-ghost use Rattle.common.specs.Below.{allBelow};
+ghost use Rattle.common.specs.Below.{ofBool, allBelow};
 ghost use Rattle.rules.specs.Valid.{trainValid, awayValid, numberBelow, sameNumber, numberValid};
 ghost use Rattle.rules.specs.Valid.{consistent, valid};
 ghost use Rattle.validity.specs.Holders.{Placed};
@@ -11,11 +11,15 @@ ghost use Rattle.validity.specs.Tests.{countsValid, onLine, recordValid,
 ghost use Rattle.validity.specs.Tests.{heldWithin, ownTracks, placeValid};
 use crate::fleet::status_of;
 use crate::fleet::train_of;
+use crate::holding::holders_in;
 use crate::holding::holders_of;
+use crate::possession::MOST_GIVEN;
+use crate::possession::possessed_of;
 use crate::train::at_end;
 use crate::train::is_free;
 use journal::JOURNAL_LENGTH;
 use line::Route;
+use line::SectionNo;
 use line::TrainNo;
 use rules::State;
 use rules::Status;
@@ -34,7 +38,7 @@ pub fn valid(state: State) -> bool
 fn consistent(state: State) -> bool
     ensures { λ r. ⌜ r ≡ consistent state ⌝ }
 {
-    if !counts_valid(state.posts, state.sidings, state.trains) {
+    if !counts_valid(state.posts, state.sidings, state.trains, state.given) {
         return false;
     }
     if !trains_valid(state) {
@@ -46,9 +50,9 @@ fn consistent(state: State) -> bool
     numbers_valid(state)
 }
 
-// There are 2 to 8 posts, sidings at some of them, and 1 to 6 trains.
-fn counts_valid(posts: u8, sidings: u8, trains: u8) -> bool
-    ensures { λ r. ⌜ r ≡ countsValid posts sidings trains ⌝ }
+// There are 2 to 8 posts, sidings at some of them, at most twenty local runs, and 1 to 6 trains.
+fn counts_valid(posts: u8, sidings: u8, trains: u8, given: u8) -> bool
+    ensures { λ r. ⌜ r ≡ countsValid posts sidings trains given ⌝ }
 {
     if posts < 2 {
         return false;
@@ -57,6 +61,9 @@ fn counts_valid(posts: u8, sidings: u8, trains: u8) -> bool
         return false;
     }
     if !line::names_posts(posts, sidings) {
+        return false;
+    }
+    if MOST_GIVEN < given {
         return false;
     }
     1 <= trains && trains <= 6
@@ -122,16 +129,18 @@ fn away_valid(sidings: u8, train: Train) -> bool
 }
 
 // Each post has 1 to 4 tracks and no more holders, each of them a track of its own; and each section
-// one holder at most.
+// one holder at most, a gang counted.
 fn places_valid(state: State) -> bool
     requires { ⌜ (state .posts ≤ 8) × (state .trains ≤ 6) × Placed state ⌝ }
     ensures { λ r. ⌜ r ≡ allBelow (state .posts) (placeValid state) ⌝ }
 {
     let holders = holders_of(state);
     let tracks = state.tracks;
+    let possessions = state.possessions;
     let mut p: usize = 0;
     while p < state.posts as usize {
-        if !held_within(tracks[p], holders.posts[p], holders.sections[p]) {
+        let gang = possessed_of(possessions, state.posts, SectionNo(p as u8));
+        if !held_within(tracks[p], holders.posts[p], holders.sections[p], gang) {
             return false;
         }
         if !own_tracks(tracks[p], holders.posts[p], holders.tracks[p]) {
@@ -142,9 +151,10 @@ fn places_valid(state: State) -> bool
     true
 }
 
-// The sets of a post of so many tracks and of the section after it have no more ones than they may.
-fn held_within(tracks: u8, post: u8, section: u8) -> bool
-    ensures { λ r. ⌜ r ≡ heldWithin tracks (ones post) (ones section) ⌝ }
+// A post of so many tracks, and the section after it, have no more holders than they may: the ones of
+// their sets, and for the section the gang.
+fn held_within(tracks: u8, post: u8, section: u8, gang: bool) -> bool
+    ensures { λ r. ⌜ r ≡ heldWithin tracks (ones post) (ones section + ofBool gang) ⌝ }
 {
     if tracks < 1 {
         return false;
@@ -155,7 +165,7 @@ fn held_within(tracks: u8, post: u8, section: u8) -> bool
     if (tracks as u32) < u32::count_ones(post as u32) {
         return false;
     }
-    u32::count_ones(section as u32) <= 1
+    holders_in(section, gang) <= 1
 }
 
 // 02, card 2: "the tracks held at a post differ and are in its count": the set of those held at one

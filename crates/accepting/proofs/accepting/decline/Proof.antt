@@ -21,10 +21,10 @@ returns c =
     let asks = c .before .before in
     let work = start (asks .before) .args .work in
     λ w held. c .logged .ensures ∙ ap (progressWith (work .state) (work .batch)) (c .before .record-of .ensures)
-    ∙ declined-asker _ w _ held (tested (asks .before) ∙ asks .if1 .taken)
+    ∙ declined-asker w _ held _ (tested (asks .before) ∙ asks .if1 .taken)
 
 returns-2 : tie.Need-returns-2
-returns-2 c = λ w held. granted-asker _ w _ held (tested (c .before) ∙ c .if1 .left)
+returns-2 c = λ w held. granted-asker w _ held _ (tested (c .before) ∙ c .if1 .left)
 
 pub decline-spec : {M : Type 1} → statement M
 decline-spec =

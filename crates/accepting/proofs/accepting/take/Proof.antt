@@ -1,23 +1,18 @@
 -- `take` meets its contract: the granting begins with the train's new record.
-use mathlib.Core.Path.{_≡_, ap, subst⁻¹, _∙_}
-use mathlib.Core.Bool.{true}
-use Prim.Native.Nat.{_+_, _≤_}
+use mathlib.Core.Path.{ap, _∙_}
 use denote.Ref.{now}
 use borrow.Author.Needs.{needs}
-use Rattle.journal.specs.Journal.{journalLength}
 use Rattle.accepting.specs.Types.{State}
-use Rattle.rules.specs.State.{oneLogged}
-use Rattle.rules.specs.Valid.{consistent}
 use Rattle.rules.specs.Granting.{begun, settled}
-use Rattle.rules.specs.Answer.{mostLogged}
 use Rattle.authority.specs.Progress.{progressOf}
+use Rattle.accepting.proofs.Declining.{settle-ready}
 use Rattle.accepting.proofs.accepting.take.Statement.{statement}
 use Rattle.accepting.proofs.accepting.take.Tie as tie
 
 settle-requires : tie.Need-settle-requires
 settle-requires c κs =
-    subst⁻¹ (λ (s : State). (consistent (oneLogged s) ≡ true) × (s .logged + mostLogged ≤ journalLength))
-    (c .with-train .ensures) (c .before .before .pre .1, c .before .before .pre .0 .1)
+    let pre = c .before .before .pre in
+    settle-ready _ _ (c .with-train .ensures) (pre .1) (pre .0 .1)
 
 returns : tie.Need-returns
 returns c =

@@ -3,17 +3,16 @@ use mathlib.Core.Path.{_≡_, sym, ap, subst, _∙_}
 use mathlib.Core.Bool.{true}
 use Prim.Native.Nat.{ℕ, _≤_, _<_}
 use native.Mathlib.Omega.{arith}
-use lib.Dec.{eqb}
 use borrow.Author.Needs.{needs}
 use borrow.Author.Tests.{not-true, not-false}
 use Rattle.completion.specs.Configuration.{moved, codeBelow}
 use Rattle.completion.proofs.Codes.{code-cong}
-use Rattle.line.specs.Holding.{sectionHolders}
-use Rattle.validity.proofs.HolderSets.{sections-counted}
+use Rattle.validity.proofs.Located.{consistent-placed}
 use Rattle.tracks.specs.Answers.{trackNumber, NamesTrack}
 use Rattle.authority.specs.Types.{TrackNo, Train}
-use Rattle.rules.specs.State.{isAsked, nextOf, trainOf, located, freeTrack, reached}
-use Rattle.authority.proofs.GrantTest.{few-trains, all-placed, some-hold, none-hold, from-on-line, to-on-line}
+use Rattle.rules.specs.State.{isAsked, nextOf, trainOf, sectionFree, freeTrack, reached}
+use Rattle.rules.proofs.Validity.{consistent-facts}
+use Rattle.authority.proofs.GrantTest.{few-trains, few-posts, from-on-line, to-on-line}
 use Rattle.authority.proofs.GrantTest.{few-there, free-there, not-asked, section-held, post-full, bit-unset}
 use Rattle.authority.proofs.GrantTest.{track-given}
 use Rattle.authority.proofs.grantable.grantable.Statement.{statement}
@@ -46,7 +45,7 @@ next-move-requires c κs = omega (arith, few-trains _ (from c .pre .0), from c .
 
 holders-of-requires : tie.Need-holders-of-requires
 holders-of-requires c κs =
-    let d = from (c .before) .pre .0 in (few-trains _ d, all-placed _ d)
+    let d = from (c .before) .pre .0 in (few-trains _ d, consistent-placed _ (consistent-facts _ d))
 
 -- who holds what
 module _ (c : tie.After-section) where
@@ -63,38 +62,30 @@ module _ (c : tie.After-section) where
       )
 
   section-number : c .section .result .0 < 8
-  section-number = omega (arith, on-line .0, c .section .ensures)
+  section-number = omega (arith, on-line, c .section .ensures)
 
-section-holders-requires : tie.Need-section-holders-requires
-section-holders-requires c κs = section-number c
-
--- how many hold the next section
-module _ (c : tie.After-section-holders) where
-  abbrev given : tie.Start
-  given = from (asked (c .before))
-
-  section-counted : c .section-holders .result
-      ≡ sectionHolders (given .args .state .trains) (located (given .args .state)) (c .before .section .result .0)
-  section-counted =
-      sections-counted (given .args .state) _ (c .before .before .holders-of .ensures) _ _ (section-number (c .before))
-      (c .section-holders .ensures)
+section-free-requires : tie.Need-section-free-requires
+section-free-requires c κs =
+    (few-posts _ (from (asked c) .pre .0), section-number c, c .before .holders-of .ensures)
 
 returns-2 : tie.Need-returns-2
 returns-2 c =
     let i = c .before .before in (
       section-held _ _ _ (asks (asked i)) _ (i .before .before .next-move .ensures) _ (i .section .ensures)
-          (some-hold _ (section-counted (c .before)) (c .if2 .taken)),
+          (sym (c .before .section-free .ensures) ∙ not-true _ (c .if2 .taken)),
       tt,
     )
 
--- nobody does
+-- nobody holds it
 module _ (c : tie.Else2) where
   abbrev at : tie.After-section
   at = c .before .before
 
-  free : eqb (sectionHolders (given (c .before) .args .state .trains) (located (given (c .before) .args .state))
-      (at .section .result .0)) 0 ≡ true
-  free = none-hold _ (section-counted (c .before)) (c .if2 .left)
+  abbrev given : tie.Start
+  given = from (asked at)
+
+  free : sectionFree (given .args .state) (at .section .result .0) ≡ true
+  free = sym (c .before .section-free .ensures) ∙ not-false _ (c .if2 .left)
 
 tracks-held-requires : tie.Need-tracks-held-requires
 tracks-held-requires c κs = omega (arith, on-line (at c))
@@ -118,7 +109,7 @@ module _ (c : tie.After-free-track) where
   unheld = c .before .before .before
 
   abbrev start-of : tie.Start
-  start-of = given (unheld .before)
+  start-of = given unheld
 
   abbrev free-one : ℕ
   free-one = let s = start-of .args .state in let t = start-of .args .t .0 in freeTrack s t (nextOf (trainOf s t))
@@ -192,7 +183,7 @@ grantable-spec =
     next-move-requires
     holders-of-requires
     (λ c κs. search needs)
-    section-holders-requires
+    section-free-requires
     returns-2
     tracks-held-requires
     tracks-at-requires

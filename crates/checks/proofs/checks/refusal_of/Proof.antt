@@ -5,7 +5,6 @@ use borrow.Author.Needs.{needs}
 use borrow.Author.Tests.{not-true, not-false}
 use Rattle.checks.specs.Types.{Message}
 use Rattle.checks.specs.Messages.{messageRefusal}
-use Rattle.rules.proofs.Validity.{valid-facts}
 use Rattle.checks.proofs.Refusals.{strange, short-stores, message-decides}
 use Rattle.checks.proofs.checks.refusal_of.Statement.{statement}
 use Rattle.checks.proofs.checks.refusal_of.Tie as tie
@@ -27,7 +26,7 @@ returns-2 c =
 message-refusal-requires : tie.Need-message-refusal-requires
 message-refusal-requires c κs =
     let e = c .before .before .before in
-    valid-facts _ (sym (e .before .valid .ensures) ∙ not-false _ (e .if1 .left)) .line .few-trains
+    sym (e .before .valid .ensures) ∙ not-false _ (e .if1 .left)
 
 returns-3 : tie.Need-returns-3
 returns-3 c =

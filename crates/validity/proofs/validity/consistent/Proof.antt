@@ -19,7 +19,7 @@ module _ (c : tie.Else1) where
   abbrev given : State
   given = c .before .before .args .state
 
-  counts : countsValid (given .posts) (given .sidings) (given .trains) ≡ true
+  counts : countsValid (given .posts) (given .sidings) (given .trains) (given .given) ≡ true
   counts = sym (c .before .counts-valid .ensures) ∙ not-false _ (c .if1 .left)
 
 trains-valid-requires : tie.Need-trains-valid-requires
