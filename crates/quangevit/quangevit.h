@@ -11,9 +11,9 @@
  * What a call answers, and every byte it leaves in a buffer, is proved to be what the rules say
  * (crates/calls/specs), for every content and every length of the buffers. It is proved too
  * that after a quangevit_open that answers 0, where each quangevit_answer gets the bytes that the
- * call before it left, whatever the frames, no section has two holders, no post more trains on its
- * tracks than it has, no track two trains, every authority has its logged request, and the trains
- * never all wait for each other.
+ * call before it left, whatever the frames, no section has two holders, trains and gangs, no post
+ * more trains on its tracks than it has, no track two trains, every authority has its logged
+ * request, and the trains never all wait for each other while no gang has a section.
  *
  * The library is for x86-64 with SSE2 and the System V ABI, whose 128 bytes below the stack pointer
  * it uses: the handler of an interrupt leaves them alone, or has a stack of its own. It has no data
@@ -36,8 +36,8 @@
 extern "C" {
 #endif
 
-/* 100 times the edition (what the ends answer) plus the revision: 301 is version 3.01. */
-#define QUANGEVIT_VERSION 301
+/* 100 times the edition (what the ends answer) plus the revision: 400 is version 4.00. */
+#define QUANGEVIT_VERSION 400
 
 #define QUANGEVIT_REFUSAL(answer) ((answer) & 255u)
 #define QUANGEVIT_SENT(answer) ((answer) >> 8)
@@ -48,16 +48,17 @@ extern "C" {
  * that a press is lent for its frame at least this length.
  */
 #define QUANGEVIT_LINE_BYTES 23
-#define QUANGEVIT_STATE_BYTES 48
+#define QUANGEVIT_STATE_BYTES 56
 #define QUANGEVIT_TABLE_BYTES 32768
-#define QUANGEVIT_JOURNAL_BYTES 880 /* 176 records */
-#define QUANGEVIT_OUT_BYTES 42      /* six frames */
+#define QUANGEVIT_JOURNAL_BYTES 1180 /* 236 records */
+#define QUANGEVIT_OUT_BYTES 42       /* six frames */
 #define QUANGEVIT_FRAME_BYTES 7
 #define QUANGEVIT_UNIT_BYTES 5
 #define QUANGEVIT_BOOK_MOST_BYTES 26 /* the longest book */
 
 #define QUANGEVIT_POSTS_MOST 8
 #define QUANGEVIT_TRAINS_MOST 6
+#define QUANGEVIT_LOCAL_RUNS_MOST 20 /* given since the opening */
 
 /* Stack that a call needs, in bytes. */
 #define QUANGEVIT_STACK_READ_BOOK 256
@@ -86,6 +87,12 @@ extern "C" {
  */
 
 /*
+ * Local run: a gang has a section, between two neighbouring posts, for a while and runs in it under
+ * its own responsibility. No train gets an authority for that section meanwhile. The gang holds no
+ * track, and trains may stand at both posts. The section has the number of its lower post.
+ */
+
+/*
  * Line: the number of posts, the tracks of posts 0 to 7, the siding byte, the number of trains,
  * then two bytes for each of trains 0 to 5. What the book does not name is 0.
  */
@@ -102,9 +109,11 @@ enum quangevit_route_at { QUANGEVIT_ROUTE_START_AT = 0, QUANGEVIT_ROUTE_END_AT =
 
 /*
  * State: the number of posts, the tracks of posts 0 to 7, the siding byte, the number of trains,
- * then six bytes for each of trains 0 to 5, last the number of records in the journal. Keep it
- * between calls and do not change it. 48 bytes with another status, or with a detail that is not 0
- * where the status is Free, encode no state.
+ * then six bytes for each of trains 0 to 5, one byte for each of sections 0 to 6, which is 1 where a
+ * gang has it and else 0, the number of local runs given since the opening, last the number of
+ * records in the journal. Keep it between calls and do not change it. 56 bytes with another status,
+ * with a detail that is not 0 where the status is Free, or with another byte for a section, encode
+ * no state.
  */
 enum quangevit_state_at {
     QUANGEVIT_STATE_POSTS_AT = 0,
@@ -112,7 +121,9 @@ enum quangevit_state_at {
     QUANGEVIT_STATE_SIDINGS_AT = 9,
     QUANGEVIT_STATE_TRAINS_AT = 10,
     QUANGEVIT_STATE_FLEET_AT = 11, /* of train t: + QUANGEVIT_TRAIN_BYTES * t */
-    QUANGEVIT_STATE_LOGGED_AT = 47
+    QUANGEVIT_STATE_POSSESSIONS_AT = 47, /* of section i: + i */
+    QUANGEVIT_STATE_GIVEN_AT = 54,
+    QUANGEVIT_STATE_LOGGED_AT = 55
 };
 
 #define QUANGEVIT_TRAIN_BYTES 6
@@ -151,7 +162,10 @@ enum quangevit_record_at {
     QUANGEVIT_RECORD_TRACK_AT = 4
 };
 
-/* Frame: two bytes of length, 0 and 5, version byte 1, then kind, train, from post, to post. */
+/*
+ * Frame: two bytes of length, 0 and 5, version byte 1, then kind, train, from post, to post. Those
+ * of a gang have 255 for the train, and the two posts of its section, the lower one first.
+ */
 enum quangevit_frame_at {
     QUANGEVIT_FRAME_LENGTH_AT = 0,
     QUANGEVIT_FRAME_VERSION_AT = 2,
@@ -165,7 +179,10 @@ enum quangevit_kind {
     QUANGEVIT_FA = 1,  /* request for a move (Fahranfrage) */
     QUANGEVIT_FE = 2,  /* authority for it (Fahrerlaubnis) */
     QUANGEVIT_AFE = 3, /* authority declined for now (Ablehnung der Fahrerlaubnis) */
-    QUANGEVIT_AM = 4   /* arrival reported (Ankunftmeldung) */
+    QUANGEVIT_AM = 4,  /* arrival reported (Ankunftmeldung) */
+    QUANGEVIT_LA = 5,  /* a gang asks for a section */
+    QUANGEVIT_LE = 6,  /* the section is given to it */
+    QUANGEVIT_LB = 7   /* the gang gives it back */
 };
 
 /* Unit: the five bytes of a driver's unit. Five bytes with another phase encode no unit. */
@@ -200,15 +217,16 @@ enum quangevit_refusal {
     QUANGEVIT_SHORT_STORE = 2,      /* table, journal, out buffer or a press's frame too short */
     QUANGEVIT_TORN_FRAME = 3,       /* frame not 7 bytes, or its length bytes not 0 and 5 */
     QUANGEVIT_OTHER_EDITION = 4,    /* version byte of a frame not 1, of a book not 1 or 2 */
-    QUANGEVIT_UNKNOWN_KIND = 5,     /* kind not 1 to 4 */
-    QUANGEVIT_WRONG_END = 6,        /* FE, AFE at the dispatcher; FA, AM at a unit */
-    QUANGEVIT_UNKNOWN_TRAIN = 7,    /* no train of this number */
+    QUANGEVIT_UNKNOWN_KIND = 5,     /* kind not 1 to 7 */
+    QUANGEVIT_WRONG_END = 6,        /* FE, AFE, LE at the dispatcher; FA, AM at a unit */
+    QUANGEVIT_UNKNOWN_TRAIN = 7,    /* no train of this number; LA, LB: train byte not 255 */
     QUANGEVIT_AT_ITS_END = 8,       /* no next post */
-    QUANGEVIT_WRONG_POST = 9,       /* from or to not present and next post */
+    QUANGEVIT_WRONG_POST = 9,       /* from or to not present and next post; LA, LB: not two
+                                       neighbouring posts of the line, lower first */
     QUANGEVIT_ALREADY_ASKED = 10,   /* FA of an Asked train */
     QUANGEVIT_UNDER_AUTHORITY = 11, /* FA of a Running train */
     QUANGEVIT_NO_AUTHORITY = 12,    /* AM of a train not Running */
-    QUANGEVIT_JOURNAL_FULL = 13,    /* fewer than 7 records left of 176 */
+    QUANGEVIT_JOURNAL_FULL = 13,    /* fewer than 7 records left of 236 */
     QUANGEVIT_TORN_BOOK = 14,       /* length wrong, or the book ends too early */
     QUANGEVIT_POSTS = 15,           /* posts not 2 to 8 */
     QUANGEVIT_TRACKS = 16,          /* a track count not 1 to 4 */
@@ -218,7 +236,10 @@ enum quangevit_refusal {
     QUANGEVIT_NO_WAY_THROUGH = 20,  /* the trains cannot all reach their ends */
     QUANGEVIT_NOT_NOW = 21,         /* button in the wrong phase, or no button */
     QUANGEVIT_NOT_AWAITED = 22,     /* FE in the wrong phase or for another move */
-    QUANGEVIT_SIDINGS = 23          /* the siding byte names a post not on the line */
+    QUANGEVIT_SIDINGS = 23,         /* the siding byte names a post not on the line */
+    QUANGEVIT_SECTION_TAKEN = 24,   /* LA: a train or a gang has the section */
+    QUANGEVIT_NO_LOCAL_RUN = 25,    /* LB: no gang has the section */
+    QUANGEVIT_TWENTY_GIVEN = 26     /* LA: twenty local runs were given */
 };
 
 /* The version of the library that is linked: QUANGEVIT_VERSION where it fits this header. */
@@ -237,21 +258,22 @@ uint32_t quangevit_read_book(const uint8_t *book, size_t book_len, uint8_t *line
 
 /*
  * Opens a book: fills the table and writes the state in which every train is Free at its start, on
- * its track there, and the journal has no record. What the state buffer held is not looked at; the
- * journal is only measured. Checks, in this order: 1, a state buffer that is not 48 bytes, and
- * nothing is changed; 2, table or journal; those of quangevit_read_book from 14 on; 19; 20. A
- * refusal by 2, 4, 14 to 20 or 23 writes 48 zeros, a state on which quangevit_answer gives 1; the
- * table is then left alone, but for 20, which leaves it filled.
+ * its track there, no gang has a section, and the journal has no record. What the state buffer held
+ * is not looked at; the journal is only measured. Checks, in this order: 1, a state buffer that is
+ * not 56 bytes, and nothing is changed; 2, table or journal; those of quangevit_read_book from 14
+ * on; 19; 20. A refusal by 2, 4, 14 to 20 or 23 writes 56 zeros, a state on which quangevit_answer
+ * gives 1; the table is then left alone, but for 20, which leaves it filled.
  */
 uint32_t quangevit_open(const uint8_t *book, size_t book_len, uint8_t *state, size_t state_len,
                         uint8_t *table, size_t table_len, const uint8_t *journal,
                         size_t journal_len);
 
 /*
- * Answers a frame (an FA or an AM of a driver's unit): writes the state afterwards, the records of
- * the frame and of its answers from the journal's next record on, and the answers' frames at the
- * beginning of out, 0 to 6 of them, for the units. Checks, in this order: 1, then 2 to 9 by their
- * numbers, then 10 or 11 for an FA, 12 for an AM, then 13. A refusal changes nothing.
+ * Answers a frame (an FA or an AM of a driver's unit, an LA or an LB of a gang): writes the state
+ * afterwards, the records of the frame and of its answers from the journal's next record on, and
+ * the answers' frames at the beginning of out, 0 to 6 of them, for the units; an LA gets its LE.
+ * Checks, in this order: 1, then 2 to 9 by their numbers (8 not for LA and LB), then 10 or 11 for an
+ * FA, 12 for an AM, 24 and 26 for an LA, 25 for an LB, then 13. A refusal changes nothing.
  */
 uint32_t quangevit_answer(uint8_t *state, size_t state_len, const uint8_t *table, size_t table_len,
                           uint8_t *journal, size_t journal_len, const uint8_t *frame,
@@ -271,8 +293,8 @@ uint32_t quangevit_answer(uint8_t *state, size_t state_len, const uint8_t *table
  *   Under way  Reached                  Arrived
  *   Arrived    Report                   Standing, at the next post   AM for the move just made
  *
- * Another button is 21, and Ask at the end 8. Another FE for its own train is 22. Another AFE, and
- * an FE for another train, is heard and changes nothing.
+ * Another button is 21, and Ask at the end 8. Another FE for its own train is 22. Another AFE, an FE
+ * for another train, and an LA, LE or LB is heard and changes nothing.
  */
 
 /*
@@ -293,8 +315,8 @@ uint32_t quangevit_press(uint8_t *unit, size_t unit_len, uint8_t button, uint8_t
                          size_t frame_len);
 
 /*
- * Hears a frame of the dispatcher: an FE or an AFE. Checks, in this order: 1, 3, 4, 5, 6, 22. A
- * refusal changes nothing.
+ * Hears a frame of the dispatcher, an FE or an AFE, or one of the frames by which gangs get a
+ * section. Checks, in this order: 1, 3, 4, 5, 6, 22. A refusal changes nothing.
  */
 uint32_t quangevit_hear(uint8_t *unit, size_t unit_len, const uint8_t *frame, size_t frame_len);
 

@@ -35,15 +35,13 @@ use Rattle.encoding.specs.RoundTrip.{Shaped}
 use Rattle.calls.specs.HandedOn.{StateReadAs, LeftAs, UnitReadAs, ruled, HandedOn}
 use Rattle.calls.proofs.UnitSteps.{is-unit}
 use Rattle.encoding.proofs.Journals.{record-count, own-records}
+use Rattle.encoding.proofs.Reading.{read-shaped}
 use Rattle.encoding.proofs.RoundTrip.{unit-only, state-back, state-encoded, state-only, records-back, round-trip}
 
 -- ---- the state
 
 read-back : (s : State) → Shaped s → StateReadAs (stateBytes s) s
 read-back s h = record { encodes = state-encoded s h; is = state-back s h }
-
-read-shaped : (b : List ℕ) → Shaped (stateIn b)
-read-shaped b = record { eight = length-tabulate 8 _; six = length-tabulate 6 _ }
 
 -- what holds of both answers holds of the one that is given
 pub either : {A : Type 0} (P : A → Type 0) (n : ℕ) (x : A) (f : ℕ → A) → P x → ((k : ℕ) → P (f k))
@@ -56,8 +54,8 @@ opened-shaped : (book table : List ℕ) (n : ℕ) → Shaped (openingWith book t
 unfolding openingWith
 opened-shaped book table n =
     either (λ (o : Opening). Shaped (o .state)) _ _ _
-    (record { eight = length-padded 8 _ _ 0; six = length-tabulate 6 _ })
-    (λ k. record { eight = refl; six = length-tabulate 6 _ })
+    (record { eight = length-padded 8 _ _ 0; six = length-tabulate 6 _; seven = refl })
+    (λ k. record { eight = refl; six = length-tabulate 6 _; seven = refl })
 
 module _ (s : State) (table : List ℕ) (journal : List Record) (frame out : List ℕ) where
   answer-shaped : Shaped s → Shaped (answer s table journal frame out .state)
@@ -65,7 +63,11 @@ module _ (s : State) (table : List ℕ) (journal : List Record) (frame out : Lis
       by-verdict s table journal frame out (λ (a : Answer). Shaped (a .state)) (λ n e. h)
       (λ p.
       let k = accepted-facts table s (p .valid-state) (readFrame frame) (p .message) in
-      record { eight = ap (λ (l : Line). length (l .tracks)) (k .line) ∙ h .eight; six = k .size ∙ h .six })
+      record {
+        eight = ap (λ (l : Line). length (l .tracks)) (k .line) ∙ h .eight;
+        six = k .size ∙ h .six;
+        seven = k .sections ∙ h .seven;
+      })
 
   -- no frame changes the line
   pub answer-line : lineOf (answer s table journal frame out .state) ≡ lineOf s

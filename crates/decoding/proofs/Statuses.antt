@@ -1,20 +1,13 @@
--- Laws of statuses as numbers, and of a list that a loop has filled.
+-- Laws of statuses as numbers.
 use mathlib.Core.Path.{_≡_}
 use mathlib.Core.Logic.{_≢_}
 use mathlib.Core.Bool.{true, false}
 use Prim.Native.Nat.{ℕ, _≤_, _<_}
 use native.Mathlib.Omega.{arith}
 use lib.Dec.{eqb}
-use borrow.Author.Tests.{ne-eqb, lt-ltb, le-leb, lt-leb}
-use Rattle.common.specs.Tabulate.{tabulate, padded}
-use Rattle.common.proofs.Tabulate.{tabulate-cong}
+use borrow.Author.Tests.{ne-eqb, le-leb, lt-leb}
 use Rattle.encoding.specs.Types.{Running}
 use Rattle.encoding.specs.StateBytes.{encodesStatus, statusOf}
-
--- a list with all its places filled
-pub padded-all : {A : Type 0} (n : ℕ) (f : ℕ → A) (d : A) → padded n n f d ≡ tabulate n f
-unfolding padded
-padded-all n f d = tabulate-cong n _ f (λ i h. rw (lt-ltb i n h))
 
 module _ (k n : ℕ) where
   pub running : 2 ≤ k → Running (record { 0 = n }) ≡ statusOf k n

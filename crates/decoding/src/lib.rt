@@ -1,5 +1,6 @@
 // A state read from bytes. Which bytes these are is said in `encoding`.
+mod encodes;
 mod state_bytes;
 
-pub use state_bytes::encodes_state;
+pub use encodes::encodes_state;
 pub use state_bytes::state_in;

@@ -1,14 +1,15 @@
-// A state read from 48 bytes, and which bytes encode one.
+// A state read from 56 bytes.
 ghost use mathlib.Core.Path.{_≡_};
 ghost use Prim.Native.Nat.{_+_, _≤_};
 ghost use lib.ListN.{length};
 ghost use Rattle.encoding.specs.StateBytes.{trainLength, stateLength};
-ghost use Rattle.encoding.specs.StateBytes.{encodesStatus, encodesState, statusOf, trainIn, tracksIn, fleetIn, stateIn};
+ghost use Rattle.encoding.specs.StateBytes.{statusOf, trainIn, tracksIn, fleetIn, possessionsIn, stateIn};
+use encoding::GIVEN_AT;
 use encoding::HEAD_LENGTH;
 use encoding::LOGGED_AT;
+use encoding::POSSESSIONS_AT;
 use encoding::POSTS_AT;
 use encoding::SIDINGS_AT;
-use encoding::STATE_LENGTH;
 use encoding::TRACKS_AT;
 use encoding::TRAIN_LENGTH;
 use encoding::TRAINS_AT;
@@ -19,50 +20,22 @@ use rules::State;
 use rules::Status;
 use rules::Train;
 
-// Whether the bytes encode a state.
-pub fn encodes_state(bytes: &[u8]) -> bool
-    ensures { λ r. ⌜ r ≡ encodesState (now (bytes .entry)) ⌝ }
-{
-    if bytes.len() != STATE_LENGTH {
-        return false;
-    }
-    let mut t: usize = 0;
-    while t < 6 {
-        let i = HEAD_LENGTH + TRAIN_LENGTH * t;
-        if !encodes_status(bytes[i + 4], bytes[i + 5]) {
-            return false;
-        }
-        t += 1;
-    }
-    true
-}
-
-// Whether a number is a status, with 0 for what it carries where it is Free.
-fn encodes_status(status: u8, detail: u8) -> bool
-    ensures { λ r. ⌜ r ≡ encodesStatus status detail ⌝ }
-{
-    if 2 < status {
-        return false;
-    }
-    if status == 0 {
-        return detail == 0;
-    }
-    true
-}
-
-// The state that they encode.
+// The state that the bytes encode.
 pub fn state_in(bytes: &[u8]) -> State
     requires { ⌜ length (now bytes) ≡ stateLength ⌝ }
     ensures { λ r. ⌜ r ≡ stateIn (now (bytes .entry)) ⌝ }
 {
     let tracks = tracks_in(bytes);
     let fleet = fleet_in(bytes);
+    let possessions = possessions_in(bytes);
     State {
         posts: bytes[POSTS_AT],
         tracks,
         sidings: bytes[SIDINGS_AT],
         trains: bytes[TRAINS_AT],
         fleet,
+        possessions,
+        given: bytes[GIVEN_AT],
         logged: bytes[LOGGED_AT],
     }
 }
@@ -91,6 +64,19 @@ fn fleet_in(bytes: &[u8]) -> [Train; 6]
         t += 1;
     }
     fleet
+}
+
+fn possessions_in(bytes: &[u8]) -> [bool; 7]
+    requires { ⌜ length (now bytes) ≡ stateLength ⌝ }
+    ensures { λ r. ⌜ r ≡ possessionsIn (now (bytes .entry)) ⌝ }
+{
+    let mut possessions = [false; 7];
+    let mut i: usize = 0;
+    while i < 7 {
+        possessions[i] = bytes[POSSESSIONS_AT + i] == 1;
+        i += 1;
+    }
+    possessions
 }
 
 // The train whose bytes begin at i.

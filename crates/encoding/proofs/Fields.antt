@@ -1,18 +1,22 @@
--- A line and a state part by part: the length, and what stands where, for every train at once.
+-- A line and a state part by part: the length, and what stands where, for every train and every section at once.
 use mathlib.Core.Path.{_≡_, refl, sym, ap, _∙_}
-use mathlib.Core.List.{List, [], _∷_}
+use mathlib.Core.Bool.{false}
+use mathlib.Core.List.{List, [], _∷_, append-nil}
 use Prim.Native.Nat.{ℕ, _+_, _*_, _≤_, _<_}
 use native.Mathlib.Nat.{mul-suc, mul-le-mul-left}
 use native.Mathlib.Omega.{arith}
-use lib.ListN.{length, getD, length-append}
+use lib.ListN.{length, getD, length-append, length-map, List·getD-map}
+use Rattle.common.specs.Below.{ofBool}
 use Rattle.line.specs.Line.{routeOf, noRoute}
 use Rattle.rules.specs.State.{trainOf, noTrain}
 use Rattle.encoding.specs.Types.{Line, State}
 use Rattle.encoding.specs.Parts.{joined, each, headParts, headBytes, postsByte, tracksByte, sidingsByte}
 use Rattle.encoding.specs.Parts.{trainsByte, headLength}
 use Rattle.encoding.specs.LineBytes.{lineLength, routeLength, routeEnds, routeAt, lineBytes}
-use Rattle.encoding.specs.StateBytes.{stateLength, trainLength, standingBytes, trainBytes, trainAt, loggedAt}
+use Rattle.encoding.specs.StateBytes.{stateLength, trainLength, standingBytes, trainBytes, possessionBytes}
+use Rattle.encoding.specs.StateBytes.{endingParts, endingBytes, trainAt, possessionsAt, givenAt, loggedAt}
 use Rattle.encoding.specs.StateBytes.{stateBytes}
+use Rattle.encoding.specs.RoundTrip.{Shaped}
 use Rattle.encoding.proofs.Parts.{At, AllAt, bytes-at, within, joined-at, length-each, each-at}
 
 -- ---- the head
@@ -42,6 +46,38 @@ module _ (posts : ℕ) (tracks : List ℕ) (sidings trains : ℕ) (eight : lengt
 
     pub trains-at : At b trainsByte (trains ∷ [])
     trains-at = within a (head-parts .1 .1 .1 .0) (omega (arith, head-length)) (omega arith)
+
+-- ---- what comes after the trains of a state
+
+module _ (s : State) (seven : length (s .possessions) ≡ 7) where
+  pub possessions-length : length (possessionBytes (s .possessions)) ≡ 7
+  possessions-length = length-map (s .possessions) ofBool ∙ seven
+
+  pub ending-length : length (endingBytes s) ≡ 9
+  unfolding endingBytes joined
+  ending-length = simp length-append (omega (arith, possessions-length))
+
+  ending-parts : AllAt (endingBytes s) 0 (endingParts s)
+  unfolding endingBytes
+  ending-parts = joined-at (endingParts s)
+
+  -- in bytes that have it in its place
+  module _ {b : List ℕ} (a : At b possessionsAt (endingBytes s)) where
+    pub possession-at : (i : ℕ) → i < 7 → ofBool (getD (s .possessions) i false) ≡ getD b (possessionsAt + i) 0
+    possession-at i h =
+        let sections = possessions-length in
+        let at = within {i = possessionsAt} a (ending-parts .0) (omega (arith, ending-length)) refl in
+        sym (List·getD-map ofBool (s .possessions) i false) ∙ at .byte i (omega arith)
+
+    pub given-at : At b givenAt (s .given ∷ [])
+    given-at =
+        let sections = possessions-length in
+        within a (ending-parts .1 .0) (omega (arith, ending-length)) (omega arith)
+
+    pub logged-at : At b loggedAt (s .logged ∷ [])
+    logged-at =
+        let sections = possessions-length in
+        within a (ending-parts .1 .1 .0) (omega (arith, ending-length)) (omega arith)
 
 -- ---- what a line and a state have in common
 
@@ -93,21 +129,21 @@ module _ (l : Line) (eight : length (l .tracks) ≡ 8) (six : length (l .routes)
 
 -- ---- a state
 
-module _ (s : State) (eight : length (s .tracks) ≡ 8) (six : length (s .fleet) ≡ 6) where
+module _ (s : State) (shaped : Shaped s) where
   pub state-head-length : length (headBytes (s .posts) (s .tracks) (s .sidings) (s .trains)) ≡ headLength
-  state-head-length = head-length (s .posts) (s .tracks) (s .sidings) (s .trains) eight
+  state-head-length = head-length (s .posts) (s .tracks) (s .sidings) (s .trains) (shaped .eight)
 
   state-laid : Laid trainBytes trainLength (headBytes (s .posts) (s .tracks) (s .sidings) (s .trains)) (s .fleet)
-      ((s .logged ∷ []) ∷ []) (stateBytes s)
+      (endingBytes s ∷ []) (stateBytes s)
   unfolding stateBytes
-  state-laid = laid trainBytes trainLength (λ x. refl) _ state-head-length (s .fleet) six ((s .logged ∷ []) ∷ [])
+  state-laid = laid trainBytes trainLength (λ x. refl) _ state-head-length (s .fleet) (shaped .six) (endingBytes s ∷ [])
 
   pub fleet-length : length (each trainBytes (s .fleet)) ≡ trainLength * 6
   fleet-length = state-laid .things
 
   pub state-length : length (stateBytes s) ≡ stateLength
   unfolding joined
-  state-length = state-laid .size
+  state-length = state-laid .size ∙ simp append-nil (omega (arith, ending-length s (shaped .seven)))
 
   pub state-head : At (stateBytes s) 0 (headBytes (s .posts) (s .tracks) (s .sidings) (s .trains))
   state-head = state-laid .begins
@@ -123,5 +159,5 @@ module _ (s : State) (eight : length (s .tracks) ≡ 8) (six : length (s .fleet)
   at-standing t h =
       within (at-train t h) (bytes-at {n = routeLength} (refl, (refl, (refl, (refl, tt))))) (omega arith) (omega arith)
 
-  pub at-logged : getD (stateBytes s) loggedAt 0 ≡ s .logged
-  at-logged = sym (state-laid .ends .0 .byte 0 (omega arith))
+  pub at-ending : At (stateBytes s) possessionsAt (endingBytes s)
+  at-ending = state-laid .ends .0

@@ -1,13 +1,15 @@
 -- What is read of a state's bytes stands there, whether or not they encode a state: head, routes and, where they do,
--- trains.
+-- trains and what comes after them.
 use mathlib.Core.Path.{_≡_, refl, sym, ap, subst, _∙_}
-use mathlib.Core.Bool.{true}
+use mathlib.Core.Bool.{true, false}
 use mathlib.Core.List.{List}
 use Prim.Native.Nat.{ℕ, zero, suc, _+_, _<_}
 use native.Mathlib.Nat.{add-zero}
 use native.Mathlib.Omega.{arith}
-use lib.ListN.{length, List·getD-map}
+use lib.Dec.{eqb, leb}
+use lib.ListN.{List·getD-map}
 use borrow.Author.Tests.{eqb-true, leb-true}
+use Rattle.common.specs.Below.{ofBool}
 use Rattle.common.proofs.Tests.{and-left}
 use Rattle.common.proofs.Below.{all-below}
 use Rattle.common.proofs.Tabulate.{length-tabulate, at-tabulate}
@@ -17,10 +19,13 @@ use Rattle.rules.specs.State.{noTrain, trainOf, lineOf}
 use Rattle.encoding.specs.Types.{Route, Line, Train, State}
 use Rattle.encoding.specs.Parts.{each, headParts, headBytes, tracksByte, headLength}
 use Rattle.encoding.specs.LineBytes.{routeEnds}
-use Rattle.encoding.specs.StateBytes.{statusNo, detail, trainLength, trainBytes, trainAt}
+use Rattle.encoding.specs.StateBytes.{statusNo, detail, trainLength, trainBytes, possessionBytes, trainAt}
+use Rattle.encoding.specs.StateBytes.{endingParts, endingBytes, possessionsAt}
 use Rattle.encoding.specs.StateBytes.{encodesStatus, encodesTrain, encodesState, statusOf, trainIn, stateIn}
+use Rattle.encoding.specs.RoundTrip.{Shaped}
 use Rattle.encoding.proofs.Parts.{At, same-place, bytes-at, at-joined, at-each}
-use Rattle.encoding.proofs.Statuses.{encoded-trains}
+use Rattle.encoding.proofs.Statuses.{encoded-trains, encoded-possessions}
+use Rattle.encoding.proofs.Fields.{possessions-length}
 
 status-only : (k n : ℕ) → encodesStatus k n ≡ true → (statusNo (statusOf k n) ≡ k) × (detail (statusOf k n) ≡ n)
 unfolding statusOf
@@ -29,6 +34,11 @@ status-only (suc zero) n h = (refl, refl)
 status-only (suc (suc zero)) n h = (refl, refl)
 status-only (suc (suc (suc k))) n h =
     let few = leb-true (suc (suc (suc k))) _ (and-left _ _ h) in absurd (omega arith)
+
+possession-only : (n : ℕ) → leb n 1 ≡ true → ofBool (eqb n 1) ≡ n
+possession-only zero h = refl
+possession-only (suc zero) h = refl
+possession-only (suc (suc n)) h = let few = leb-true (suc (suc n)) 1 h in absurd (omega arith)
 
 -- a train that is read at i stands there
 train-stands : (b : List ℕ) (i : ℕ) → encodesTrain b i ≡ true → At b i (trainBytes (trainIn b i))
@@ -40,15 +50,13 @@ module _ (b : List ℕ) where
   abbrev read : State
   read = stateIn b
 
-  pub eight : length (read .tracks) ≡ 8
-  eight = length-tabulate 8 _
-
-  pub six : length (read .fleet) ≡ 6
-  six = length-tabulate 6 _
+  pub read-shaped : Shaped read
+  read-shaped = record { eight = length-tabulate 8 _; six = length-tabulate 6 _; seven = length-tabulate 7 _ }
 
   pub head-stands : At b 0 (headBytes (read .posts) (read .tracks) (read .sidings) (read .trains))
   unfolding headBytes
   head-stands =
+      let eight = read-shaped .eight in
       let tracks : At b tracksByte (read .tracks) = record { byte = λ j l. at-tabulate 8 _ j 0 (rw eight at l) } in
       at-joined (headParts (read .posts) (read .tracks) (read .sidings) (read .trains)) (
         bytes-at (refl, tt),
@@ -68,9 +76,24 @@ module _ (b : List ℕ) where
   fleet-stands h e =
       at-each trainBytes trainLength (λ x. refl) (read .fleet) noTrain
       (λ t l.
-      let below : t < 6 = rw six at l in
+      let below : t < 6 = rw (read-shaped .six) at l in
       rw (e, at-tabulate 6 _ t noTrain below)
       (train-stands b (trainAt t) (all-below 6 _ (encoded-trains b h) t below)))
+
+  pub ending-stands : encodesState b ≡ true → {n : ℕ} → n ≡ possessionsAt → At b n (endingBytes read)
+  unfolding endingBytes
+  ending-stands h {n} e =
+      let size = possessions-length read (read-shaped .seven) in
+      let sections : At b n (possessionBytes (read .possessions)) =
+      record {
+        byte = λ i l.
+            let below : i < 7 = rw size at l in
+            List·getD-map ofBool (read .possessions) i false
+            ∙ rw (e, at-tabulate 7 _ i false below)
+            (possession-only _ (all-below 7 _ (encoded-possessions b h) i below));
+      } in
+      at-joined (endingParts read)
+      (sections, (bytes-at (same-place b (omega arith), tt), (bytes-at (same-place b (omega arith), tt), tt)))
 
   -- where the line that is read is that of s, its bytes are there
   module _ (s : State) (same : lineOf read ≡ lineOf s) where

@@ -1,15 +1,16 @@
 -- The round trips of `specs/RoundTrip`: each part that is read at its place stands there, and each that stands there is
 -- read.
 use mathlib.Core.Path.{_≡_, refl, sym, ap, _∙_}
-use mathlib.Core.Bool.{true}
+use mathlib.Core.Bool.{Bool, true, false}
 use mathlib.Core.List.{List}
-use Prim.Native.Nat.{ℕ, zero, suc, _*_, _≤_, _<_}
+use Prim.Native.Nat.{ℕ, zero, suc, _+_, _*_, _≤_, _<_}
 use native.Mathlib.Nat.{add-zero}
 use native.Mathlib.Omega.{arith}
-use lib.Dec.{leb}
+use lib.Dec.{leb, eqb}
 use lib.ListN.{length, getD}
 use lib.Seq.{ext-getD}
 use borrow.Author.Tests.{leb-true}
+use Rattle.common.specs.Below.{ofBool}
 use Rattle.common.specs.Tabulate.{tabulate}
 use Rattle.common.proofs.Below.{below-all}
 use Rattle.common.proofs.Tabulate.{length-tabulate, at-tabulate, tabulate-cong}
@@ -21,19 +22,21 @@ use Rattle.encoding.specs.Types.{Phase, Standing, Asked, Declined, Grant
 use Rattle.encoding.specs.Types.{Status, Free, AskedAs, Running, Train, State, Record}
 use Rattle.encoding.specs.Parts.{headBytes}
 use Rattle.encoding.specs.UnitBytes.{unitBytes, encodesUnit, phaseOf, unitIn}
-use Rattle.encoding.specs.StateBytes.{statusNo, detail, trainBytes, stateParts, stateBytes, trainAt}
-use Rattle.encoding.specs.StateBytes.{encodesStatus, encodesState}
-use Rattle.encoding.specs.StateBytes.{statusOf, trainIn, tracksIn, fleetIn, stateIn}
+use Rattle.encoding.specs.StateBytes.{statusNo, detail, trainBytes, stateParts, stateBytes}
+use Rattle.encoding.specs.StateBytes.{trainAt, possessionsAt}
+use Rattle.encoding.specs.StateBytes.{encodesStatus, encodesTrains, encodesPossessions, encodesState}
+use Rattle.encoding.specs.StateBytes.{statusOf, trainIn, tracksIn, fleetIn, possessionsIn, stateIn}
 use Rattle.encoding.specs.JournalBytes.{recordLength, recordBytes, recordIn, recordCount, recordsIn}
 use Rattle.encoding.specs.JournalBytes.{journalParts, withRecords}
 use Rattle.encoding.specs.RoundTrip.{Shaped, BytesReadBack}
-use Rattle.encoding.proofs.Parts.{At, same-place, bytes-at, within, joined-at, at-joined, whole-at}
+use Rattle.encoding.proofs.Parts.{At, bytes-at, within, joined-at, at-joined, whole-at}
 use Rattle.encoding.proofs.Parts.{length-each, each-at}
 use Rattle.encoding.proofs.Units as units
-use Rattle.encoding.proofs.Statuses.{encoded-length, by-trains}
-use Rattle.encoding.proofs.Fields.{posts-at, tracks-at, sidings-at, trains-at, state-head-length}
-use Rattle.encoding.proofs.Fields.{fleet-length, state-length, state-head, at-train, at-logged}
-use Rattle.encoding.proofs.Reading.{eight, six, head-stands, fleet-stands}
+use Rattle.encoding.proofs.Statuses.{encoded-length, by-possessions}
+use Rattle.encoding.proofs.Fields.{posts-at, tracks-at, sidings-at, trains-at, possession-at}
+use Rattle.encoding.proofs.Fields.{given-at, logged-at, state-head-length, fleet-length}
+use Rattle.encoding.proofs.Fields.{state-length, state-head, at-train, at-ending}
+use Rattle.encoding.proofs.Reading.{read-shaped, head-stands, fleet-stands, ending-stands}
 use Rattle.encoding.proofs.Journals.{own-records, length-with}
 
 -- ---- units
@@ -109,6 +112,14 @@ train-read b i x h =
 
 -- ---- states
 
+possession-back : (x : Bool) → eqb (ofBool x) 1 ≡ x
+possession-back true = refl
+possession-back false = refl
+
+possession-encodes : (x : Bool) → leb (ofBool x) 1 ≡ true
+possession-encodes true = refl
+possession-encodes false = refl
+
 -- the list of a list's elements
 elements : {A : Type 0} (n : ℕ) (l : List A) (d : A) → length l ≡ n → tabulate n (λ i. getD l i d) ≡ l
 elements n l d e =
@@ -120,7 +131,7 @@ module _ (s : State) (shaped : Shaped s) where
   bytes = stateBytes s
 
   begins : At bytes 0 (headBytes (s .posts) (s .tracks) (s .sidings) (s .trains))
-  begins = state-head s (shaped .eight) (shaped .six)
+  begins = state-head s shaped
 
   tracks-back : tracksIn bytes ≡ s .tracks
   tracks-back =
@@ -131,8 +142,17 @@ module _ (s : State) (shaped : Shaped s) where
   fleet-back : fleetIn bytes ≡ s .fleet
   fleet-back =
       tabulate-cong 6 _ (trainOf s)
-      (λ t h. train-read bytes (trainAt t) (trainOf s t) (at-train s (shaped .eight) (shaped .six) t h))
+      (λ t h. train-read bytes (trainAt t) (trainOf s t) (at-train s shaped t h))
       ∙ elements 6 (s .fleet) noTrain (shaped .six)
+
+  possession-here : (i : ℕ) → i < 7 → ofBool (getD (s .possessions) i false) ≡ byteAt bytes (possessionsAt + i)
+  possession-here = possession-at s (shaped .seven) (at-ending s shaped)
+
+  possessions-back : possessionsIn bytes ≡ s .possessions
+  possessions-back =
+      tabulate-cong 7 _ (λ i. getD (s .possessions) i false)
+      (λ i h. rw (← possession-here i h) (possession-back (getD (s .possessions) i false)))
+      ∙ elements 7 (s .possessions) false (shaped .seven)
 
   pub state-back : stateIn bytes ≡ s
   state-back =
@@ -145,15 +165,23 @@ module _ (s : State) (shaped : Shaped s) where
         ← sidings .byte 0 (omega arith),
         ← trains .byte 0 (omega arith),
         fleet-back,
-        at-logged s (shaped .eight) (shaped .six),
+        possessions-back,
+        ← given-at s (shaped .seven) (at-ending s shaped) .byte 0 (omega arith),
+        ← logged-at s (shaped .seven) (at-ending s shaped) .byte 0 (omega arith),
       )
 
-  pub state-encoded : encodesState bytes ≡ true
-  state-encoded =
-      let at = at-train s (shaped .eight) (shaped .six) in
-      sym (by-trains bytes (state-length s (shaped .eight) (shaped .six)))
-      ∙ below-all 6 _ (λ t h.
+  trains-encoded : encodesTrains bytes ≡ true
+  trains-encoded =
+      let at = at-train s shaped in
+      below-all 6 _ (λ t h.
       rw (← at t h .byte 4 (omega arith), ← at t h .byte 5 (omega arith)) (status-encodes (trainOf s t .status)))
+
+  possessions-encoded : encodesPossessions bytes ≡ true
+  possessions-encoded =
+      below-all 7 _ (λ i h. rw (← possession-here i h) (possession-encodes (getD (s .possessions) i false)))
+
+  pub state-encoded : encodesState bytes ≡ true
+  state-encoded = sym (by-possessions bytes (state-length s shaped) trains-encoded) ∙ possessions-encoded
 
 module _ (b : List ℕ) (h : encodesState b ≡ true) where
   abbrev read : State
@@ -162,15 +190,13 @@ module _ (b : List ℕ) (h : encodesState b ≡ true) where
   pub state-only : stateBytes read ≡ b
   unfolding stateBytes
   state-only =
-      let eleven = state-head-length read (eight b) (six b) in
-      whole-at (at-joined (stateParts read) (
-        head-stands b,
-        (
-          fleet-stands b h (omega (arith, eleven)),
-          (bytes-at (same-place b (omega (arith, eleven, fleet-length read (eight b) (six b))), tt), tt),
-        ),
-      ))
-      (state-length read (eight b) (six b) ∙ sym (encoded-length b h))
+      let shaped = read-shaped b in
+      let eleven = state-head-length read shaped in
+      let trains = fleet-length read shaped in
+      whole-at
+      (at-joined (stateParts read)
+      (head-stands b, (fleet-stands b h (omega arith), (ending-stands b h (omega arith), tt))))
+      (state-length read shaped ∙ sym (encoded-length b h))
 
 -- ---- the journal
 

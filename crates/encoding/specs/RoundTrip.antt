@@ -14,6 +14,7 @@ use Rattle.encoding.specs.JournalBytes.{recordCount, recordsIn, withReco
 pub record Shaped (s : State) : Type 0 where
   pub eight : length (s .tracks) ≡ 8
   pub six : length (s .fleet) ≡ 6
+  pub seven : length (s .possessions) ≡ 7
 
 pub record BytesReadBack : Type 0 where
   -- the bytes of a unit encode that unit, and bytes that encode one are its bytes

@@ -1,11 +1,12 @@
--- A state as 48 bytes: posts; tracks of posts 0 to 7; sidings; trains; then for trains 0 to 5 six bytes: start, end,
--- present post, track there, status, and the number of its FA or the track ahead; last the journal count.
+-- A state as 56 bytes: posts; tracks of posts 0 to 7; sidings; trains; then for trains 0 to 5 six bytes: start, end,
+-- present post, track there, status, and the number of its FA or the track ahead; then for sections 0 to 6 one byte, 1
+-- where a gang has the section and 0 where none has; then the number of local runs given; last the journal count.
 use mathlib.Core.Bool.{Bool, not, cond, _&&_, _||_}
-use mathlib.Core.List.{List, [], _∷_, _++_}
+use mathlib.Core.List.{List, [], _∷_, _++_, map}
 use Prim.Native.Nat.{ℕ, _+_, _*_}
 use lib.Dec.{eqb, leb}
 use lib.ListN.{length}
-use Rattle.common.specs.Below.{allBelow}
+use Rattle.common.specs.Below.{ofBool, allBelow}
 use Rattle.common.specs.Tabulate.{tabulate}
 use Rattle.line.specs.Book.{byteAt, route}
 use Rattle.encoding.specs.Types.{Status, Free, AskedAs, Running, Train, State}
@@ -34,9 +35,20 @@ standingBytes x = x .at .0 ∷ x .track .0 ∷ statusNo (x .status) ∷ detail (
 abbrev pub trainBytes : Train → List ℕ
 trainBytes x = routeEnds (x .route) ++ standingBytes x
 
+-- a byte for each section, on the line or not: 1 where a gang has it, else 0
+abbrev pub possessionBytes : List Bool → List ℕ
+possessionBytes l = map ofBool l
+
+-- what comes after the trains
+abbrev pub endingParts : State → List (List ℕ)
+endingParts s = possessionBytes (s .possessions) ∷ (s .given ∷ []) ∷ (s .logged ∷ []) ∷ []
+
+unfoldable pub endingBytes : State → List ℕ
+endingBytes s = joined (endingParts s)
+
 abbrev pub stateParts : State → List (List ℕ)
 stateParts s =
-    headBytes (s .posts) (s .tracks) (s .sidings) (s .trains) ∷ each trainBytes (s .fleet) ∷ (s .logged ∷ []) ∷ []
+    headBytes (s .posts) (s .tracks) (s .sidings) (s .trains) ∷ each trainBytes (s .fleet) ∷ endingBytes s ∷ []
 
 unfoldable pub stateBytes : State → List ℕ
 stateBytes s = joined (stateParts s)
@@ -46,12 +58,19 @@ stateBytes s = joined (stateParts s)
 abbrev pub trainLength : ℕ
 trainLength = routeLength + 4
 
--- where the bytes of train t begin, and where the journal count is
+-- where the bytes of train t begin, where those of the sections do, and where the number of local runs given and the
+-- journal count are
 abbrev pub trainAt : ℕ → ℕ
 trainAt t = headLength + trainLength * t
 
+abbrev pub possessionsAt : ℕ
+possessionsAt = headLength + trainLength * 6
+
+abbrev pub givenAt : ℕ
+givenAt = possessionsAt + 7
+
 abbrev pub loggedAt : ℕ
-loggedAt = headLength + trainLength * 6
+loggedAt = givenAt + 1
 
 abbrev pub stateLength : ℕ
 stateLength = loggedAt + 1
@@ -63,10 +82,17 @@ encodesStatus k n = leb k 2 && (not (eqb k 0) || eqb n 0)
 abbrev pub encodesTrain : List ℕ → ℕ → Bool
 encodesTrain b i = encodesStatus (byteAt b (i + 4)) (byteAt b (i + 5))
 
--- 48 bytes with a status above 2, or with another number than 0 after the status 0, encode no state; so does any other
--- length.
+abbrev pub encodesTrains : List ℕ → Bool
+encodesTrains b = allBelow 6 (λ t. encodesTrain b (trainAt t))
+
+-- 0 or 1 for each section
+abbrev pub encodesPossessions : List ℕ → Bool
+encodesPossessions b = allBelow 7 (λ i. leb (byteAt b (possessionsAt + i)) 1)
+
+-- 56 bytes with a status above 2, with another number than 0 after the status 0, or with a number above 1 for a section
+-- encode no state; so does any other length.
 unfoldable pub encodesState : List ℕ → Bool
-encodesState b = eqb (length b) stateLength && allBelow 6 (λ t. encodesTrain b (trainAt t))
+encodesState b = eqb (length b) stateLength && encodesTrains b && encodesPossessions b
 
 -- the status of a number; what is above 2 is not read
 unfoldable pub statusOf : ℕ → ℕ → Status
@@ -87,6 +113,10 @@ tracksIn b = tabulate 8 (λ p. byteAt b (tracksByte + p))
 abbrev pub fleetIn : List ℕ → List Train
 fleetIn b = tabulate 6 (λ t. trainIn b (trainAt t))
 
+-- the sections whose byte is 1; what is above 1 is not read
+abbrev pub possessionsIn : List ℕ → List Bool
+possessionsIn b = tabulate 7 (λ i. eqb (byteAt b (possessionsAt + i)) 1)
+
 -- the state that the bytes encode
 abbrev pub stateIn : List ℕ → State
 stateIn b = record {
@@ -95,5 +125,7 @@ stateIn b = record {
   sidings = byteAt b sidingsByte;
   trains = byteAt b trainsByte;
   fleet = fleetIn b;
+  possessions = possessionsIn b;
+  given = byteAt b givenAt;
   logged = byteAt b loggedAt;
 }

@@ -3,9 +3,11 @@
 // claims over them.
 mod places;
 
+pub use places::GIVEN_AT;
 pub use places::HEAD_LENGTH;
 pub use places::LINE_LENGTH;
 pub use places::LOGGED_AT;
+pub use places::POSSESSIONS_AT;
 pub use places::POSTS_AT;
 pub use places::ROUTE_LENGTH;
 pub use places::SIDINGS_AT;

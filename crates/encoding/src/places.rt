@@ -21,7 +21,13 @@ pub const STANDING_LENGTH: usize = 4;
 
 pub const TRAIN_LENGTH: usize = ROUTE_LENGTH + STANDING_LENGTH;
 
+// Whether a gang has each of the sections 0 to 6.
+pub const POSSESSIONS_AT: usize = HEAD_LENGTH + TRAIN_LENGTH * 6;
+
+// The number of local runs given.
+pub const GIVEN_AT: usize = POSSESSIONS_AT + 7;
+
 // The journal count.
-pub const LOGGED_AT: usize = HEAD_LENGTH + TRAIN_LENGTH * 6;
+pub const LOGGED_AT: usize = GIVEN_AT + 1;
 
 pub const STATE_LENGTH: usize = LOGGED_AT + 1;

@@ -49,6 +49,14 @@ pub record Filled (s b to : List ℕ) (n : ℕ) : Type 0 where
 pub none-filled : {s b : List ℕ} → length s ≡ length b → Filled s b s 0
 none-filled e = record { size = e; first = λ k h. absurd (not-suc-le-zero h); rest = λ k h. refl }
 
+-- up to a part that is replaced nothing changes
+pub part-begun : (s : List ℕ) (n : ℕ) (p : List ℕ) → n + length p ≤ length s → Filled s (replaced s n p) s n
+part-begun s n p room = record {
+  size = sym (length-replaced s n p room);
+  first = λ k h. sym (replaced-before s n p k 0 h (omega arith));
+  rest = λ k h. refl;
+}
+
 module _ {s b to : List ℕ} {n : ℕ} (f : Filled s b to n) where
   -- the next part is there already
   pub already : {p : List ℕ} → At s n p → At b n p → (m : ℕ) → m ≡ n + length p → Filled s b to m
@@ -105,6 +113,14 @@ same-filled {s} {b} {to} f e = subst (Filled s b to) (sym e) f
 pub last-byte : {s b to : List ℕ} {n : ℕ} → Filled s b to n → (m v : ℕ) → m ≡ n → v ≡ getD b m 0
     → length b ≡ m + 1 → set to m v ≡ b
 last-byte f m v e same size = filled (byte-more (same-filled f e) v same (omega arith)) (omega arith)
+
+-- the last part is put, at place m
+pub last-part : {s b to p after : List ℕ} {n : ℕ} → Filled s b to n → (m : ℕ) → m ≡ n → At b m p
+    → after ≡ replaced to m p → length b ≡ m + length p → after ≡ b
+last-part {to = to} {p = p} f m e y is size =
+    let room : m + length p ≤ length to = omega (arith, f .size) in
+    filled (part-more (same-filled f e) y refl (is ∙ replaced-if to m p room) (omega arith) (m + length p) refl)
+    (omega arith)
 
 -- the next four bytes are put one by one
 pub four-more : {s b to : List ℕ} {n : ℕ} → Filled s b to n → (v₀ v₁ v₂ v₃ : ℕ) → At b n (v₀ ∷ v₁ ∷ v₂ ∷ v₃ ∷ [])

@@ -3,10 +3,10 @@
 use Prim.Native.Nat.{ℕ, _+_, _*_}
 
 abbrev pub edition : ℕ
-edition = 3
+edition = 4
 
 abbrev pub revision : ℕ
-revision = 1
+revision = 0
 
 abbrev pub version : ℕ
 version = 100 * edition + revision

@@ -1,10 +1,14 @@
-// A state written to 48 bytes.
+// A state written to 56 bytes.
 ghost use mathlib.Core.Path.{_≡_};
 ghost use lib.ListN.{length};
+ghost use Rattle.common.specs.Part.{replaced};
 ghost use Rattle.rules.specs.State.{lineOf};
-ghost use Rattle.encoding.specs.StateBytes.{standingBytes, trainBytes, stateLength, stateBytes, stateIn};
+ghost use Rattle.encoding.specs.StateBytes.{standingBytes, trainBytes, endingBytes, possessionsAt};
+ghost use Rattle.encoding.specs.StateBytes.{stateLength, stateBytes, stateIn};
+use encoding::GIVEN_AT;
 use encoding::HEAD_LENGTH;
 use encoding::LOGGED_AT;
+use encoding::POSSESSIONS_AT;
 use encoding::ROUTE_LENGTH;
 use encoding::STANDING_LENGTH;
 use encoding::TRAIN_LENGTH;
@@ -14,7 +18,7 @@ use rules::State;
 use rules::Status;
 use rules::Train;
 
-// Writes the 48 bytes of a state.
+// Writes the 56 bytes of a state.
 pub fn put_state(state: State, to: &mut [u8])
     requires { ⌜ length (now to) ≡ stateLength ⌝ }
     ensures { λ _. ⌜ now (to .exit) ≡ stateBytes state ⌝ }
@@ -27,7 +31,7 @@ pub fn put_state(state: State, to: &mut [u8])
         put(&bytes, to, HEAD_LENGTH + TRAIN_LENGTH * t);
         t += 1;
     }
-    to[LOGGED_AT] = state.logged;
+    put_ending(state, to);
 }
 
 // Writes a state over the bytes of one that has the same line, as every state has that a frame leaves.
@@ -46,6 +50,21 @@ pub fn put_changes(state: State, to: &mut [u8])
         to[i + 3] = bytes[3];
         t += 1;
     }
+    put_ending(state, to);
+}
+
+// Writes what comes after the trains: the sections, and the two counts.
+fn put_ending(state: State, to: &mut [u8])
+    requires { ⌜ length (now to) ≡ stateLength ⌝ }
+    ensures { λ _. ⌜ now (to .exit) ≡ replaced (now (to .entry)) possessionsAt (endingBytes state) ⌝ }
+{
+    let possessions = state.possessions;
+    let mut i: usize = 0;
+    while i < 7 {
+        to[POSSESSIONS_AT + i] = possessions[i] as u8;
+        i += 1;
+    }
+    to[GIVEN_AT] = state.given;
     to[LOGGED_AT] = state.logged;
 }
 

@@ -5,8 +5,8 @@ use Rattle.decoding.proofs.state_bytes.state_in.Tie as tie
 
 returns : tie.Need-returns
 returns c =
-    let f = c .before .before .before .before in
-    rw (f .before .tracks-in .ensures, f .fleet-in .ensures)
+    let p = c .before .before .before .before .before in
+    rw (p .before .before .tracks-in .ensures, p .before .fleet-in .ensures, p .possessions-in .ensures)
 
 pub state-in-spec : {M : Type 1} → statement M
 state-in-spec =
@@ -14,6 +14,8 @@ state-in-spec =
     (tie.spec
     (λ c κs. search needs)
     (λ c κs. search needs)
+    (λ c κs. search needs)
+    (λ c. search needs)
     (λ c. search needs)
     (λ c. search needs)
     (λ c. search needs)

@@ -4,14 +4,16 @@ use mathlib.Core.Path.{_≡_, sym, _∙_}
 use Prim.Native.Nat.{_+_, _-_, _≤_, _<_}
 use native.Mathlib.Omega.{arith}
 use denote.Ref.{now}
-use lib.ListN.{length, length-map, set, length-set}
+use lib.ListN.{length, length-map, length-set}
 use borrow.Author.Needs.{needs}
 use Rattle.encoding.specs.Parts.{headLength}
 use Rattle.encoding.specs.LineBytes.{routeLength}
-use Rattle.encoding.specs.StateBytes.{stateLength, trainAt, loggedAt, stateBytes}
-use Rattle.encoding.proofs.Fields.{state-head-length, state-length, state-head, at-ends, at-standing, at-logged}
+use Rattle.encoding.specs.StateBytes.{stateLength, trainAt, stateBytes}
+use Rattle.encoding.specs.RoundTrip.{Shaped}
+use Rattle.encoding.proofs.Fields.{state-head-length, state-length, state-head, at-ends, at-standing}
 use Rattle.encoding.proofs.Reading.{head-kept, route-kept}
-use Rattle.placing.proofs.Filled.{Filled, none-filled, already, last-byte, four-more}
+use Rattle.placing.proofs.Filled.{Filled, none-filled, already, four-more}
+use Rattle.storing.proofs.Ending.{ending-last}
 use Rattle.storing.proofs.state_bytes.put_changes.Statement.{statement}
 use Rattle.storing.proofs.state_bytes.put_changes.Tie as tie
 
@@ -23,24 +25,24 @@ abbrev μ-loop : tie.MeasureT-loop
 
 -- the state, whose lists have the lengths that its type gives them
 module _ (c : tie.Start Inv-loop μ-loop) where
-  eight : length (c .args .state .tracks) ≡ 8
-  eight = search needs
-
   -- the path goes down what is known of an argument of this type
   six : length (c .args .state .fleet) ≡ 6
   six = simp length-map at (c .good .0 .1 .1 .1 .1 .1 .1 .0 .1 .0 .1)
 
+  shaped : Shaped (c .args .state)
+  shaped = record { eight = search needs; six = six; seven = search needs }
+
   size : length (stateBytes (c .args .state)) ≡ stateLength
-  size = state-length (c .args .state) eight six
+  size = state-length (c .args .state) shaped
 
 loop-holds : tie.Need-loop-holds Inv-loop μ-loop
 loop-holds c =
     let s = c .before .before in
     let v = s .args .state in
-    let eleven = state-head-length v (eight s) (six s) in (
+    let eleven = state-head-length v (shaped s) in (
       omega arith,
       already (none-filled (s .pre .0 ∙ sym (size s))) (head-kept (now (s .args .to)) v (s .pre .1))
-          (state-head v (eight s) (six s)) headLength (omega (arith, eleven)),
+          (state-head v (shaped s)) headLength (omega (arith, eleven)),
     )
 
 -- the bytes of this turn's train are made
@@ -61,27 +63,35 @@ loop-again c =
     let v = s .args .state in
     let t = a .loop .t in
     let route = already (a .loop .inv .1) (route-kept (now (s .args .to)) v (s .pre .1) t (omega arith))
-    (at-ends v (eight s) (six s) t (omega arith)) (trainAt t + routeLength) (omega arith) in (
+    (at-ends v (shaped s) t (omega arith)) (trainAt t + routeLength) (omega arith) in (
       omega arith,
-      rw (c .standing-bytes .ensures) (four-more route _ _ _ _ (at-standing v (eight s) (six s) t (omega arith))
+      rw (c .standing-bytes .ensures) (four-more route _ _ _ _ (at-standing v (shaped s) t (omega arith))
           (omega (arith, size s)) (trainAt (t + 1)) (omega arith)),
     )
 
--- the loop has put all trains, and the count comes last
+-- the loop has put all trains
 module _ (c : tie.After-loop Inv-loop μ-loop) where
   abbrev from : tie.Start Inv-loop μ-loop
   from = c .before .before .before .before
 
-  written : set (c .before .loop .to) loggedAt (from .args .state .logged) ≡ stateBytes (from .args .state)
-  written =
-      last-byte (c .before .loop .inv .1) loggedAt _ (omega (arith, c .before .loop .inv .0, c .loop-test .left))
-      (sym (at-logged (from .args .state) (eight from) (six from))) (size from)
+  long : length (c .before .loop .to) ≡ stateLength
+  long = c .before .loop .inv .1 .size ∙ size from
 
-slice-write-to-5 : tie.Need-slice-write-to-5 Inv-loop μ-loop
-slice-write-to-5 c = omega (arith, c .before .loop .inv .1 .size, size (from c))
+put-ending-requires : tie.Need-put-ending-requires Inv-loop μ-loop
+put-ending-requires c κs = long (c .before)
+
+-- and what comes after them is put
+module _ (c : tie.After-slice-known2 Inv-loop μ-loop) where
+  abbrev all : tie.After-loop Inv-loop μ-loop
+  all = c .before .before .before .before
+
+  written : c .before .before .put-ending .last .1 .0 ≡ stateBytes (from all .args .state)
+  written =
+      ending-last (from all .args .state) (shaped (from all)) (all .before .loop .inv .1)
+      (omega (arith, all .before .loop .inv .0, all .loop-test .left)) (c .before .before .put-ending .ensures)
 
 same-length : tie.Need-same-length Inv-loop μ-loop
-same-length c = rw (written c) (size (from c) ∙ sym (from c .pre .0))
+same-length c = rw (written c) (size (from (all c)) ∙ sym (from (all c) .pre .0))
 
 returns : tie.Need-returns Inv-loop μ-loop
 returns c = written c
@@ -113,6 +123,6 @@ put-changes-spec =
     (λ c. omega arith)
     (λ c. omega arith)
     loop-again
-    slice-write-to-5
+    put-ending-requires
     same-length
     returns)

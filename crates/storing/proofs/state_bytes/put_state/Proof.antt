@@ -2,11 +2,13 @@
 use mathlib.Core.Path.{_≡_, _∙_, sym}
 use Prim.Native.Nat.{_+_, _-_, _≤_}
 use native.Mathlib.Omega.{arith}
-use lib.ListN.{length, length-map, set}
+use lib.ListN.{length, length-map}
 use borrow.Author.Needs.{needs}
-use Rattle.encoding.specs.StateBytes.{stateLength, trainAt, loggedAt, stateBytes}
-use Rattle.encoding.proofs.Fields.{state-length, state-head, at-train, at-logged}
-use Rattle.placing.proofs.Filled.{Filled, part-more, last-byte, head-begun}
+use Rattle.encoding.specs.StateBytes.{stateLength, trainAt, stateBytes}
+use Rattle.encoding.specs.RoundTrip.{Shaped}
+use Rattle.encoding.proofs.Fields.{state-length, state-head, at-train}
+use Rattle.placing.proofs.Filled.{Filled, part-more, head-begun}
+use Rattle.storing.proofs.Ending.{ending-last}
 use Rattle.storing.proofs.state_bytes.put_state.Statement.{statement}
 use Rattle.storing.proofs.state_bytes.put_state.Tie as tie
 
@@ -18,22 +20,22 @@ abbrev μ-loop : tie.MeasureT-loop
 
 -- the state, whose lists have the lengths that its type gives them
 module _ (c : tie.Start Inv-loop μ-loop) where
-  eight : length (c .args .t1 .tracks) ≡ 8
-  eight = search needs
-
   -- the path goes down what is known of an argument of this type
   six : length (c .args .t1 .fleet) ≡ 6
   six = simp length-map at (c .good .0 .1 .1 .1 .1 .1 .1 .0 .1 .0 .1)
 
+  shaped : Shaped (c .args .t1)
+  shaped = record { eight = search needs; six = six; seven = search needs }
+
   size : length (stateBytes (c .args .t1)) ≡ stateLength
-  size = state-length (c .args .t1) eight six
+  size = state-length (c .args .t1) shaped
 
 loop-holds : tie.Need-loop-holds Inv-loop μ-loop
 loop-holds c =
     let s = c .before .before .before .before .before .before in (
       omega arith,
-      head-begun _ _ _ _ (eight s) _ (s .pre ∙ sym (size s)) (omega (arith, size s))
-          (c .before .before .put-head .ensures) (state-head (s .args .t1) (eight s) (six s)),
+      head-begun _ _ _ _ (shaped s .eight) _ (s .pre ∙ sym (size s)) (omega (arith, size s))
+          (c .before .before .put-head .ensures) (state-head (s .args .t1) (shaped s)),
     )
 
 loop-again : tie.Need-loop-again Inv-loop μ-loop
@@ -45,28 +47,36 @@ loop-again c =
     let v = s .args .t1 in
     let t = a .loop .t in (
       omega arith,
-      part-more (a .loop .inv .1) (at-train v (eight s) (six s) t (omega arith)) (b .train-bytes .ensures)
+      part-more (a .loop .inv .1) (at-train v (shaped s) t (omega arith)) (b .train-bytes .ensures)
           (p .put .ensures) (omega (arith, size s)) (trainAt (t + 1)) (omega arith),
     )
 
--- the loop has put all trains, and the count comes last
+-- the loop has put all trains
 module _ (c : tie.After-loop Inv-loop μ-loop) where
   abbrev from : tie.Start Inv-loop μ-loop
   from = c .before .before .before .before .before .before .before .before
 
-  written : set (c .before .loop .to) loggedAt (from .args .t1 .logged) ≡ stateBytes (from .args .t1)
-  written =
-      last-byte (c .before .loop .inv .1) loggedAt _ (omega (arith, c .before .loop .inv .0, c .loop-test .left))
-      (sym (at-logged (from .args .t1) (eight from) (six from))) (size from)
+  long : length (c .before .loop .to) ≡ stateLength
+  long = c .before .loop .inv .1 .size ∙ size from
 
-slice-write-to : tie.Need-slice-write-to Inv-loop μ-loop
-slice-write-to c = omega (arith, c .before .loop .inv .1 .size, size (from c))
+put-ending-requires : tie.Need-put-ending-requires Inv-loop μ-loop
+put-ending-requires c κs = long (c .before)
+
+-- and what comes after them is put
+module _ (c : tie.After-slice-known4 Inv-loop μ-loop) where
+  abbrev all : tie.After-loop Inv-loop μ-loop
+  all = c .before .before .before .before
+
+  written : c .before .before .put-ending .last .1 .0 ≡ stateBytes (from all .args .t1)
+  written =
+      ending-last (from all .args .t1) (shaped (from all)) (all .before .loop .inv .1)
+      (omega (arith, all .before .loop .inv .0, all .loop-test .left)) (c .before .before .put-ending .ensures)
+
+same-length : tie.Need-same-length Inv-loop μ-loop
+same-length c = rw (written c) (size (from (all c)) ∙ sym (from (all c) .pre))
 
 returns : tie.Need-returns Inv-loop μ-loop
 returns c = written c
-
-same-length : tie.Need-same-length Inv-loop μ-loop
-same-length c = rw (written c) (size (from c) ∙ sym (from c .pre))
 
 pub put-state-spec : {M : Type 1} → statement M
 put-state-spec =
@@ -86,6 +96,6 @@ put-state-spec =
     (λ c. omega arith)
     (λ c. omega arith)
     loop-again
-    slice-write-to
+    put-ending-requires
     same-length
     returns)

@@ -1,4 +1,4 @@
--- `encodes_state` meets its contract. The loop's invariant: the trains passed have a status.
+-- `encodes_trains` meets its contract. The loop's invariant: the trains passed have a status.
 use mathlib.Core.Path.{sym, _∙_}
 use Prim.Native.Nat.{_-_}
 use native.Mathlib.Omega.{arith}
@@ -6,9 +6,8 @@ use borrow.Author.Needs.{needs}
 use borrow.Author.Tests.{not-true, not-false}
 use Rattle.common.proofs.Below.{Passing, passing-none, passing-more, passing-fails, passing-all}
 use Rattle.encoding.specs.StateBytes.{trainAt, encodesTrain}
-use Rattle.encoding.proofs.Statuses.{other-length, by-trains}
-use Rattle.decoding.proofs.state_bytes.encodes_state.Statement.{statement}
-use Rattle.decoding.proofs.state_bytes.encodes_state.Tie as tie
+use Rattle.decoding.proofs.encodes.encodes_trains.Statement.{statement}
+use Rattle.decoding.proofs.encodes.encodes_trains.Tie as tie
 
 abbrev Inv-loop : tie.InvT-loop
 Inv-loop bytes t₀ t = Passing 6 (λ u. encodesTrain bytes (trainAt u)) t
@@ -16,41 +15,34 @@ Inv-loop bytes t₀ t = Passing 6 (λ u. encodesTrain bytes (trainAt u)) t
 abbrev μ-loop : tie.MeasureT-loop
 μ-loop bytes t₀ t = 6 - t
 
-returns : tie.Need-returns Inv-loop μ-loop
-returns c = other-length _ (c .if1 .taken)
-
 loop-holds : tie.Need-loop-holds Inv-loop μ-loop
 loop-holds c = passing-none _ _
 
 shared-slice-read-encodes-status : tie.Need-shared-slice-read-encodes-status Inv-loop μ-loop
-shared-slice-read-encodes-status c = let size = c .before .before .before .if1 .left in omega arith
+shared-slice-read-encodes-status c = let size = c .before .before .before .before .pre in omega arith
 
 shared-slice-read-encodes-status-2 : tie.Need-shared-slice-read-encodes-status-2 Inv-loop μ-loop
-shared-slice-read-encodes-status-2 c = let size = c .before .before .before .before .if1 .left in omega arith
+shared-slice-read-encodes-status-2 c = let size = c .before .before .before .before .before .pre in omega arith
 
-returns-2 : tie.Need-returns-2 Inv-loop μ-loop
-returns-2 c =
+returns : tie.Need-returns Inv-loop μ-loop
+returns c =
     let l = c .before .before .before .before .before in
-    passing-fails (l .loop .inv) (omega arith) (sym (c .before .encodes-status .ensures) ∙ not-true _ (c .if2 .taken))
-    ∙ by-trains _ (l .before .if1 .left)
+    passing-fails (l .loop .inv) (omega arith) (sym (c .before .encodes-status .ensures) ∙ not-true _ (c .if1 .taken))
 
 loop-again : tie.Need-loop-again Inv-loop μ-loop
 loop-again c =
     let l = c .before .before .before .before .before in
-    passing-more (l .loop .inv) (omega arith) (sym (c .before .encodes-status .ensures) ∙ not-false _ (c .if2 .left))
+    passing-more (l .loop .inv) (omega arith) (sym (c .before .encodes-status .ensures) ∙ not-false _ (c .if1 .left))
 
-returns-3 : tie.Need-returns-3 Inv-loop μ-loop
-returns-3 c =
-    let l = c .before in
-    passing-all (l .loop .inv) (omega arith) ∙ by-trains _ (l .before .if1 .left)
+returns-2 : tie.Need-returns-2 Inv-loop μ-loop
+returns-2 c = passing-all (c .before .loop .inv) (omega arith)
 
-pub encodes-state-spec : {M : Type 1} → statement M
-encodes-state-spec =
+pub encodes-trains-spec : {M : Type 1} → statement M
+encodes-trains-spec =
     tie.close
     (tie.spec
     Inv-loop
     μ-loop
-    returns
     loop-holds
     (λ c. omega arith)
     (λ c. omega arith)
@@ -59,8 +51,8 @@ encodes-state-spec =
     (λ c. omega arith)
     shared-slice-read-encodes-status-2
     (λ c κs. search needs)
-    returns-2
+    returns
     (λ c. omega arith)
     (λ c. omega arith)
     loop-again
-    returns-3)
+    returns-2)

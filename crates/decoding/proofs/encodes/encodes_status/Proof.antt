@@ -1,7 +1,7 @@
 -- `encodes_status` meets its contract: by the tests that led to each `return`.
 use Rattle.decoding.proofs.Statuses.{past-status, free-status, other-status}
-use Rattle.decoding.proofs.state_bytes.encodes_status.Statement.{statement}
-use Rattle.decoding.proofs.state_bytes.encodes_status.Tie as tie
+use Rattle.decoding.proofs.encodes.encodes_status.Statement.{statement}
+use Rattle.decoding.proofs.encodes.encodes_status.Tie as tie
 
 returns : tie.Need-returns
 returns c = past-status _ (c .before .args .detail) (c .if1 .taken)
