@@ -11,26 +11,28 @@ use lib.ListN.{length, set, length-append}
 use lib.Seq.{getD-set-same, getD-set-other}
 use Rattle.common.specs.Part.{replaced}
 use Rattle.common.proofs.Part.{replaced-more}
-use Rattle.common.proofs.Tests.{by-cases}
+use Rattle.common.proofs.Tests.{clash, by-cases}
 use Rattle.common.proofs.Below.{count-le, count-some}
 use Rattle.frame.specs.RoundTrip.{IsMessage}
-use Rattle.journal.specs.Journal.{journalLength, blank, frameOf}
+use Rattle.journal.specs.Journal.{journalLength, blank, recordOf, frameOf}
 use Rattle.journal.proofs.Records.{logged-as-sent}
 use Rattle.rules.specs.declared.state.Status.the-variants.{Asked}
-use Rattle.rules.specs.State.{isAsked, askedAs, trainOf, nextMove, withStatus, withTrain}
+use Rattle.rules.specs.State.{isAsked, askedAs, trainOf, holdersOf, nextMove, withStatus, withTrain, withPossession}
 use Rattle.rules.specs.State.{oneLogged}
+use Rattle.rules.specs.Valid.{mostGiven}
 use Rattle.rules.specs.Granting.{grantable, Work, begun, sends, granted, settled, granting, grantRecord}
 use Rattle.rules.specs.Answer.{mostLogged, taken, declined, accepted}
 use Rattle.rules.proofs.Changes.{grantable-facts}
 use Rattle.rules.proofs.Grants.{askedCount, Turn, grants-keep, granted-fewer}
 use Rattle.rules.proofs.Settling.{settled-settles}
-use Rattle.rules.proofs.Acceptance.{Taken, request, arrival}
-use Rattle.assurance.specs.Types.{Line, Move, Message, Fa, Fe, Afe, Am, Record, State}
+use Rattle.rules.proofs.Acceptance.{Section, Taken, request, arrival, lending, return}
+use Rattle.assurance.specs.Types.{Line, Move, Message, Fa, Fe, Afe, Am, La, Le, Lb, Record, State}
 use Rattle.assurance.specs.Observer.{Observer, noteFrame, noteAnswer, noteAnswers}
-use Rattle.assurance.specs.WholeList.{Requested}
+use Rattle.assurance.specs.WholeList.{Requested, isFeOf}
 use Rattle.assurance.proofs.Invariant.{Invariant}
 use Rattle.assurance.proofs.Logging.{replaced-one, later-set, requested-later, heard-more}
-use Rattle.assurance.proofs.Steps.{request-kept, arrival-kept, grant-kept, decline-kept}
+use Rattle.assurance.proofs.Steps.{own-authority, NoFe, request-kept, arrival-kept, grant-kept, logged-kept}
+use Rattle.assurance.proofs.Steps.{lent-kept, return-kept}
 
 -- room in the journal for a record of each Asked train
 abbrev pub Room : Work → Type 0
@@ -63,6 +65,12 @@ grant-requested table s j o inv t known space e =
           ∙ inv .each t known .request asks)
           ∙ sym (logged-as-sent (Fa m) tt);
     }
+
+-- a message whose record gives no authority is no FE
+pub not-fe : (a : Message) → NoFe a → (m : Move) → Fe m ≡ a → ⊥
+not-fe a plain m e =
+    clash (isFeOf (m .train .0) (recordOf a))
+    (ap (λ (b : Message). isFeOf (m .train .0) (recordOf b)) (sym e) ∙ own-authority m) (plain (m .train .0))
 
 module _ (table : List ℕ) (n : ℕ) (j : List Record) (o : Observer) (long : journalLength ≤ length j) where
   -- ---- one message more, logged by r
@@ -124,17 +132,33 @@ module _ (table : List ℕ) (n : ℕ) (j : List Record) (o : Observer) (long : j
 
   declined-worked : (m : Move) (w : Work) → m .train .0 < w .state .trains → Worked table n j o w × Room w
       → Worked table n j o (declined m w)
+  unfolding recordOf
   declined-worked m w known (k, room) = by-cases (isAsked (trainOf (w .state) (m .train .0) .status))
       (λ e. rw e (
       let one = count-some (w .state .trains) (λ t. isAsked (trainOf (w .state) t .status)) (m .train .0) known e in
       let space : w .state .logged < journalLength = omega arith in
       worked-more w k (w .state) _ (Afe m) refl space
-      (decline-kept table (w .state) _ _ (k .kept) m known e space)
-      (λ q z. absurd (other-message q m z))))
+      (logged-kept table (w .state) _ _ (k .kept) (Afe m) (λ u. refl) space)
+      (λ q z. absurd (not-fe (Afe m) (λ u. refl) q z))))
       (λ e. rw e k)
-    where
-      other-message : (q p : Move) → Fe q ≡ Afe p → ⊥
-      other-message q p z = let y : _≡_ {A = ℕ} 0 1 = cc in omega arith
+
+  -- ---- a section that is lent
+
+  lent-worked : (s : State) (m : Move) → s .logged ≡ n → n + mostLogged ≤ journalLength → Invariant table s j o
+      → Section s m → holdersOf s (m .from .0) ≡ 0 → s .given < mostGiven
+      → let w = begun s (recordOf (La m)) in
+      Worked table n j o
+      (sends (withPossession (w .state) (m .from .0) true (s .given + 1)) w (recordOf (Le m)) (Le m))
+  unfolding recordOf noteAnswers
+  lent-worked s m same space inv q free few =
+      let w = begun s (recordOf (La m)) in
+      let asked : Invariant table (oneLogged s) (set j n (recordOf (La m))) o =
+      rw (← same) (logged-kept table s j o inv (La m) (λ u. refl) (omega arith)) in
+      let k = begun-worked s (recordOf (La m)) same space asked .0 in
+      worked-more w k (withPossession (w .state) (m .from .0) true (s .given + 1)) (recordOf (Le m)) (Le m) refl
+      (omega arith)
+      (lent-kept table (w .state) _ o (k .kept) m (q .on) (omega arith) free few)
+      (λ r z. absurd (not-fe (Le m) (λ u. refl) r z))
 
 pub accepted-worked : (table : List ℕ) (s : State) (j : List Record) (o : Observer) → Invariant table s j o
     → (a : Message) → Taken s a
@@ -152,3 +176,9 @@ accepted-worked table s j o inv a (arrival m q runs) =
     settled-worked table (s .logged) j (noteFrame o (Am m)) (inv .room) _
     (begun-worked table (s .logged) j (noteFrame o (Am m)) (inv .room) _ _ refl (q .space)
     (arrival-kept table s j o inv m q runs)) .0
+accepted-worked table s j o inv a (lending m q free few) =
+    lent-worked table (s .logged) j o (inv .room) s m refl (q .space) inv q free few
+accepted-worked table s j o inv a (return m q held) =
+    settled-worked table (s .logged) j (noteFrame o (Lb m)) (inv .room) _
+    (begun-worked table (s .logged) j (noteFrame o (Lb m)) (inv .room) _ _ refl (q .space)
+    (return-kept table s j o inv m (q .on) (omega (arith, q .space)) held)) .0

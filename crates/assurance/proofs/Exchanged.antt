@@ -26,7 +26,7 @@ use Rattle.assurance.specs.Observer.{Observer, readFrames, answersOf, no
 use Rattle.assurance.specs.WholeList.{Requested}
 use Rattle.assurance.proofs.Invariant.{Invariant}
 use Rattle.assurance.proofs.Logging.{Later, later-same}
-use Rattle.assurance.proofs.Records.{recordsIn, few-records, accepted-bounded}
+use Rattle.assurance.proofs.Records.{recordsIn, lentIn, few-records, accepted-bounded}
 use Rattle.assurance.proofs.Accept.{accepted-worked}
 
 -- ---- frames read back
@@ -58,7 +58,7 @@ answers-back l out h = read-back l (drop (0 + length (framesOf l)) out) h
 pub record Settled (table : List ℕ) (s : State) (j : List Record) (o : Observer) : Type 0 where
   pub kept : Invariant table s j o
   pub nobody : Nobody table s (s .trains)
-  pub bounded : s .logged ≤ recordsIn s
+  pub bounded : s .logged + lentIn s ≤ recordsIn s
 
 -- so that the journal has room for the next frame, and the state is valid, its count included
 module _ {table : List ℕ} {s : State} {j : List Record} {o : Observer} (k : Settled table s j o) where
@@ -93,13 +93,14 @@ module _ (table : List ℕ) (s : State) (j : List Record) (o : Observer) (k : Se
       let w = accepted table s (readFrame frame) in
       let facts = accepted-facts table s (k .kept .valid-state) (readFrame frame) (p .message) in
       let worked = accepted-worked table s j o (k .kept) (readFrame frame) (p .message) in
-      let count = accepted-bounded table s (k .kept .valid-state) (readFrame frame) (p .message) (k .bounded) in
+      let count = accepted-bounded table s (k .kept .valid-state) (k .kept .seven) (readFrame frame) (p .message) 0
+      (record { spare = omega (arith, k .bounded); raised = omega (arith, k .bounded) }) in
       let back : readFrames (length (w .sent)) (replaced out 0 (framesOf (w .sent))) ≡ w .sent =
       answers-back (w .sent) out (facts .messages) in
       record {
         after = rw back (record {
           kept = worked .kept;
-          nobody = accepted-nobody table s (readFrame frame) (p .message);
+          nobody = accepted-nobody table s (readFrame frame) (p .message) (k .nobody);
           bounded = omega (arith, count .spare);
         });
         line = facts .line;

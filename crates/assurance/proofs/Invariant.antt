@@ -1,8 +1,8 @@
--- What ties the state, the journal and the observer together, and one law for every change of one train's record with
--- one record logged.
+-- What ties the state, the journal and the observer together, and two laws for a change with one record logged: of one
+-- train's record, and of the sections that gangs have.
 use mathlib.Core.Path.{_≡_, refl, sym, ap, subst, _∙_}
 use mathlib.Core.Logic.{_≢_}
-use mathlib.Core.Bool.{true, false}
+use mathlib.Core.Bool.{Bool, true, false}
 use mathlib.Core.List.{List}
 use Prim.Native.Nat.{ℕ, _+_, _≤_, _<_}
 use native.Mathlib.Omega.{arith}
@@ -23,10 +23,10 @@ use Rattle.completion.proofs.Agreement.{completable-cong}
 use Rattle.rules.specs.declared.state.Status.{Status}
 use Rattle.rules.specs.declared.state.Status.the-variants.{Free, Asked, Running}
 use Rattle.rules.specs.declared.state.Train.{Train}
-use Rattle.rules.specs.State.{isAsked, askedAs, nextOf, reachedBy, trainOf, lineOf, reached}
+use Rattle.rules.specs.State.{isAsked, askedAs, nextOf, reachedBy, trainOf, lineOf, possessed, reached, stateWith}
 use Rattle.rules.proofs.Trains.{changed, changed-own, changed-other, changed-each, changed-line}
 use Rattle.rules.proofs.Validity.{Consistent}
-use Rattle.assurance.specs.Types.{Line, Message, Fa, Fe, Afe, Am, Refused, Record, State}
+use Rattle.assurance.specs.Types.{Line, Message, Fa, Fe, Afe, Am, La, Le, Lb, Refused, Record, State}
 use Rattle.assurance.specs.Observer.{Claim, nothing, asked, authority, Seen, Observer}
 use Rattle.assurance.specs.WholeList.{isFeOf}
 
@@ -60,7 +60,10 @@ pub record Invariant (table : List ℕ) (s : State) (j : List Record) (o : Obser
   pub valid-state : Consistent s
   pub right : Right (lineOf s) table
   pub room : journalLength ≤ length j
-  pub each : (t : ℕ) → t < s .trains → Agrees (s .logged) j (o t) t (trainOf s t)
+  pub each : (t : ℕ) → t < s .trains → Agrees (s .logged) j (o .train t) t (trainOf s t)
+  -- a section has a gang where the observer counts one; the list of them has its declared length
+  pub gangs : (i : ℕ) → o .gangs i ≡ ofBool (possessed s i)
+  pub seven : length (s .possessions) ≡ 7
   -- with every Running train at its next post, all trains can still reach their ends
   pub completable : Completable (lineOf s) (reached s)
 
@@ -82,36 +85,39 @@ other-train (Fa m) u h = refl
 other-train (Fe m) u h = ne-eqb (m .train .0) u (λ e. h (sym e))
 other-train (Afe m) u h = refl
 other-train (Am m) u h = refl
+other-train (La m) u h = refl
+other-train (Le m) u h = refl
+other-train (Lb m) u h = refl
 other-train (Refused n) u h = refl
 
--- ---- one change
+-- a train that gets no authority by the record, and is seen as before, agrees as before
+still-agrees : (table : List ℕ) (s : State) (j : List Record) (o : Observer) → Invariant table s j o → (r : Record)
+    → s .logged < journalLength → (u : ℕ) → u < s .trains → isFeOf u r ≡ false → (y : Seen) → y ≡ o .train u
+    → Agrees (s .logged + 1) (set j (s .logged) r) y u (trainOf s u)
+still-agrees table s j o inv r space u k plain y same =
+    let v = inv .each u k in
+    record {
+      seen = same ∙ v .seen;
+      request = λ q.
+          getD-set-other j (s .logged) (askedAs (trainOf s u .status)) r blank
+          (λ z. omega (arith, inv .valid-state .each u k .numbered q))
+          ∙ v .request q;
+      authorities = given-more (s .logged) j r u (omega (arith, inv .room))
+          ∙ rw (plain, v .authorities) (omega arith);
+    }
+
+-- ---- one train's change
 
 module _ (table : List ℕ) (s : State) (j : List Record) (o o′ : Observer) (t : ℕ) (r : Record) (x : Train)
     (inv : Invariant table s j o)
     (own : (u : ℕ) → u ≢ t → isFeOf u r ≡ false) (space : s .logged < journalLength)
-    (others : (u : ℕ) → u ≢ t → o′ u ≡ o u)
+    (others : (u : ℕ) → u ≢ t → o′ .train u ≡ o .train u) (gangs : (i : ℕ) → o′ .gangs i ≡ o .gangs i)
     (place : t < length (s .fleet)) (route : x .route ≡ trainOf s t .route)
     (after : Consistent (changed s t x (s .logged + 1)))
-    (agreed : Agrees (s .logged + 1) (set j (s .logged) r) (o′ t) t x)
+    (agreed : Agrees (s .logged + 1) (set j (s .logged) r) (o′ .train t) t x)
     (onward : Completable (lineOf s) (update (reached s) t (reachedBy x))) where
-  journal-room : s .logged < length j
-  journal-room = omega (arith, inv .room)
-
   same-line : lineOf (changed s t x (s .logged + 1)) ≡ lineOf s
   same-line = changed-line s t x (s .logged + 1) route
-
-  agreed-other : (u : ℕ) → u < s .trains → u ≢ t
-      → Agrees (s .logged + 1) (set j (s .logged) r) (o′ u) u (trainOf s u)
-  agreed-other u k h =
-      let v = inv .each u k in
-      record {
-        seen = others u h ∙ v .seen;
-        request = λ q.
-            getD-set-other j (s .logged) (askedAs (trainOf s u .status)) r blank
-            (λ z. omega (arith, inv .valid-state .each u k .numbered q))
-            ∙ v .request q;
-        authorities = given-more (s .logged) j r u journal-room ∙ rw (own u h, v .authorities) (omega arith);
-      }
 
   agrees : (u : ℕ) → update (reached s) t (reachedBy x) u ≡ reached (changed s t x (s .logged + 1)) u
   agrees u = by-equality u t
@@ -124,9 +130,28 @@ module _ (table : List ℕ) (s : State) (j : List Record) (o o′ : Observer) (t
     right = subst (λ (l : Line). Right l table) (sym same-line) (inv .right);
     room = rw length-set (inv .room);
     each = λ u k.
-        changed-each s t x (s .logged + 1) (λ v y. Agrees (s .logged + 1) (set j (s .logged) r) (o′ v) v y)
-        place agreed u (agreed-other u k);
+        changed-each s t x (s .logged + 1) (λ v y. Agrees (s .logged + 1) (set j (s .logged) r) (o′ .train v) v y)
+        place agreed u (λ h. still-agrees table s j o inv r space u k (own u h) _ (others u h));
+    gangs = λ i. gangs i ∙ inv .gangs i;
+    seven = inv .seven;
     completable = subst (λ (l : Line). Completable l (reached (changed s t x (s .logged + 1)))) (sym same-line)
         (completable-cong (lineOf s) (update (reached s) t (reachedBy x)) (reached (changed s t x (s .logged + 1)))
         (λ u k. agrees u) onward);
   }
+
+-- ---- no train's change: other possessions, and a record that is no FE
+
+pub record-kept : (table : List ℕ) (s : State) (j : List Record) (o o′ : Observer) (r : Record) (ps : List Bool) (n : ℕ)
+    → Invariant table s j o → s .logged < journalLength → ((u : ℕ) → isFeOf u r ≡ false)
+    → let s′ = stateWith s (s .fleet) ps n (s .logged + 1) in
+    Consistent s′ → ((u : ℕ) → o′ .train u ≡ o .train u) → ((i : ℕ) → o′ .gangs i ≡ ofBool (possessed s′ i))
+    → length ps ≡ 7 → Invariant table s′ (set j (s .logged) r) o′
+record-kept table s j o o′ r ps n inv space plain after trains gangs seven = record {
+  valid-state = after;
+  right = inv .right;
+  room = rw length-set (inv .room);
+  each = λ u k. still-agrees table s j o inv r space u k (plain u) _ (trains u);
+  gangs = gangs;
+  seven = seven;
+  completable = inv .completable;
+}

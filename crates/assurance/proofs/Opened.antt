@@ -1,17 +1,17 @@
 -- An accepted opening establishes the invariant: the line is that of the book and well formed, the table is right, and
 -- every train stands at its start.
 use mathlib.Core.Path.{_≡_, refl, sym, subst, _∙_}
-use mathlib.Core.Bool.{Bool, true, not, false≢true, true≢false}
+use mathlib.Core.Bool.{Bool, true, false, not, and-false, false≢true, true≢false}
 use mathlib.Core.List.{List}
-use Prim.Native.Nat.{ℕ, _≤_, _<_}
+use Prim.Native.Nat.{ℕ, _+_, _≤_, _<_}
 use native.Mathlib.Omega.{arith}
-use lib.Dec.{leb}
-use lib.ListN.{length}
+use lib.Dec.{leb, ltb}
+use lib.ListN.{length, getD, replicate, getD-replicate, List·getD-eq-default}
 use borrow.Author.Tests.{leb-true}
 use Rattle.common.specs.Below.{countBelow}
 use Rattle.common.specs.Check.{refusal}
 use Rattle.common.specs.Tabulate.{valuesFrom, padded}
-use Rattle.common.proofs.Tests.{by-equality, not-passed, and-right}
+use Rattle.common.proofs.Tests.{by-equality, by-order, not-passed, and-right}
 use Rattle.common.proofs.Below.{count-none, count-cong}
 use Rattle.common.proofs.Tabulate.{at-tabulate}
 use Rattle.common.proofs.Check.{passed-by, accepts, refuses}
@@ -28,7 +28,7 @@ use Rattle.completion.specs.Table.{tableLength, bitOf, filled}
 use Rattle.completion.proofs.Feasibility.{feasible-of}
 use Rattle.completion.proofs.Agreement.{completable-cong}
 use Rattle.completion.proofs.Rule.{bit-completable, completable-bit}
-use Rattle.rules.specs.State.{trackAt, noTrain, trainOf, lineOf, located, reached}
+use Rattle.rules.specs.State.{trackAt, noTrain, trainOf, lineOf, located, possessed, reached}
 use Rattle.rules.specs.Granting.{grantable}
 use Rattle.rules.specs.Opening.{openingChecks, openedTrack, fresh, openedState, opened, refusedBook, opening}
 use Rattle.rules.specs.Opening.{openingWith}
@@ -99,6 +99,13 @@ module _ (l : Line) (table : List ℕ) (journal : List Record) (a : Accepted l t
       ∙ (rw (fresh-train t k) at h) in
       rw (fresh-train t k, and-right (not (isStabled (l .sidings) (routeOf l t .end .0) (routeOf l t .start .0))) _ e)
 
+  -- no gang has a section
+  pub opened-unlent : (i : ℕ) → possessed (openedState l) i ≡ false
+  opened-unlent i = rw none (and-false (ltb (i + 1) (l .posts)))
+    where
+      none : getD (replicate 7 false) i false ≡ false
+      none = by-order i 7 (getD-replicate 7 i false false) (List·getD-eq-default (replicate 7 false) false)
+
   opened-valid : Consistent (openedState l)
   opened-valid = record {
     line = subst WellFormed (sym same) (a .line);
@@ -111,7 +118,7 @@ module _ (l : Line) (table : List ℕ) (journal : List Record) (a : Accepted l t
         let holds : ℕ → Bool = λ t. holdsSection (located (openedState l) t) i in
         let none : countBelow (l .trains) holds ≡ 0 =
         count-none (l .trains) holds (λ t kt. rw (fresh-train t kt) (standing-section (l .sidings) _ _ i)) in
-        omega arith;
+        rw (none, opened-unlent i) (omega arith);
     posts = λ p k.
         rw (count-cong (l .trains) (λ t. holdsPost (located (openedState l) t) p)
         (λ t. holdsPost (whereabouts l start t) p) (opened-holds p))
@@ -123,6 +130,7 @@ module _ (l : Line) (table : List ℕ) (journal : List Record) (a : Accepted l t
         (sym (opened-track p t kt g) ∙ e ∙ opened-track p u ku h);
     away = λ t k. rw (fresh-train t k) (stabled-start l t k);
     distinct = λ t u kt ku p. absurd (false≢true (rw (fresh-train t kt) at p));
+    few-given = omega arith;
   }
 
   right : Right l (filled l table)
@@ -139,6 +147,8 @@ module _ (l : Line) (table : List ℕ) (journal : List Record) (a : Accepted l t
     room = a .room;
     each = λ t k.
         rw (fresh-train t k) (record { seen = refl; request = λ q. absurd (false≢true q); authorities = omega arith });
+    gangs = λ i. rw (opened-unlent i);
+    seven = refl;
     completable = subst (λ (z : Line). Completable z (reached (openedState l))) (sym same)
         (completable-cong l start (reached (openedState l)) (λ t k. rw (fresh-train t k) (omega arith))
         (bit-completable l (a .line) table start (a .fits .within) (a .bit)));
@@ -147,7 +157,7 @@ module _ (l : Line) (table : List ℕ) (journal : List Record) (a : Accepted l t
   pub opened-settled : Settled (filled l table) (openedState l) journal (atOpening l)
   opened-settled = record {
     kept = opened-kept;
-    bounded = omega arith;
+    bounded = omega (arith, count-none (l .posts) (possessed (openedState l)) (λ i k. opened-unlent i));
     nobody = record {
       barred = λ t k. not-passed (grantable (filled l table) (openedState l) t) (λ e.
           false≢true (rw (fresh-train t k) at (grantable-facts (filled l table) (openedState l) t e .asks)));

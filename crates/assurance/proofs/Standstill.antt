@@ -1,5 +1,5 @@
--- No standstill: where nobody can be granted, some train that is short of its end is not waiting. With no train
--- Running, the first move of a completion is one that can be granted.
+-- No standstill: where nobody can be granted and no gang has a section, some train that is short of its end is not
+-- waiting. With no train Running, the first move of a completion is one that can be granted.
 use mathlib.Core.Path.{_≡_, ap, _∙_}
 use mathlib.Core.Logic.{_≢_}
 use mathlib.Core.Bool.{Bool, true, false, not, _&&_}
@@ -19,7 +19,7 @@ use Rattle.completion.specs.Configuration.{Arrived, Completable, whereabouts, h
 use Rattle.completion.specs.Table.{Onward}
 use Rattle.completion.proofs.Agreement.{first-move}
 use Rattle.rules.specs.declared.state.Train.{Train}
-use Rattle.rules.specs.State.{isAsked, isRunning, atEnd, nextOf, trainOf, lineOf, located, reached}
+use Rattle.rules.specs.State.{isAsked, isRunning, atEnd, nextOf, trainOf, lineOf, located, possessed, reached}
 use Rattle.rules.specs.Granting.{grantable}
 use Rattle.rules.proofs.Trains.{asked-idle, running-busy, route-of}
 use Rattle.rules.proofs.Validity.{Consistent, next-post-below}
@@ -34,7 +34,7 @@ abbrev pub Short : State → ℕ → Type 0
 Short s t = trainOf s t .at .0 ≢ trainOf s t .route .end .0
 
 module _ (table : List ℕ) (s : State) (d : Consistent s) (right : Right (lineOf s) table)
-    (complete : Completable (lineOf s) (reached s)) where
+    (complete : Completable (lineOf s) (reached s)) (gone : (i : ℕ) → possessed s i ≡ false) where
   -- ---- no train is Running
 
   module _ (idle : (v : ℕ) → v < s .trains → isRunning (trainOf s v .status) ≡ false) where
@@ -85,7 +85,7 @@ module _ (table : List ℕ) (s : State) (d : Consistent s) (right : Right (lineO
       mover-grantable : isAsked (mover .status) ≡ true → grantable table s (m .train) ≡ true
       mover-grantable a = is-grantable table s (m .train) (record {
         asks = a;
-        section = free-section;
+        section = rw (gone (sectionOf (mover .at .0) (nextOf mover)), free-section);
         track = fewer-free s d (nextOf mover) (next-post-below s d (m .train) (m .known) away) (m .train) free-track;
         bit = right .full (moved (reached s) (m .train)) (m .next);
       })

@@ -1,13 +1,14 @@
--- A request, an arrival, a grant and an AFE keep the invariant: each is a change of one train's record with one record
--- logged.
-use mathlib.Core.Path.{_≡_, refl, sym, ap, subst, _∙_}
+-- A request, an arrival and a grant keep the invariant, each a change of one train's record with one record logged; so
+-- do an AFE and an LA, which are logged alone, and a section lent or given back.
+use mathlib.Core.Path.{_≡_, refl, sym, ap, _∙_}
 use mathlib.Core.Bool.{true, false, false≢true}
 use mathlib.Core.List.{List}
 use Prim.Native.Nat.{ℕ, _+_, _<_}
 use native.Mathlib.Omega.{arith}
-use lib.ListN.{length, set}
-use lib.Seq.{getD-set-same, getD-set-other, set-getD}
+use lib.ListN.{length, set, length-set}
+use lib.Seq.{getD-set-same}
 use borrow.Author.Tests.{eq-eqb}
+use Rattle.common.specs.Below.{ofBool}
 use Rattle.common.specs.Update.{update}
 use Rattle.common.proofs.Tests.{by-equality}
 use Rattle.common.proofs.Update.{update-own, update-other}
@@ -17,24 +18,29 @@ use Rattle.completion.specs.Configuration.{Completable, moved}
 use Rattle.completion.proofs.Agreement.{completable-cong}
 use Rattle.rules.specs.declared.state.Status.the-variants.{Asked}
 use Rattle.rules.specs.declared.state.Train.{Train}
-use Rattle.rules.specs.State.{isAsked, isRunning, askedAs, nextOf, reachedBy, noTrain, trainOf, lineOf, reached}
-use Rattle.rules.specs.State.{nextMove, withStatus, arrivedNext, withTrain, oneLogged}
+use Rattle.rules.specs.State.{isAsked, isRunning, nextOf, reachedBy, trainOf, lineOf, possessed, holdersOf, reached}
+use Rattle.rules.specs.State.{nextMove, withStatus, arrivedNext, withTrain, withPossession, oneLogged}
+use Rattle.rules.specs.Valid.{mostGiven}
 use Rattle.rules.specs.Granting.{grantable, granting, grantRecord}
-use Rattle.rules.proofs.Trains.{asked-idle, running-is, in-fleet, changed}
-use Rattle.rules.proofs.Validity.{Consistent}
+use Rattle.rules.proofs.Trains.{asked-idle, running-is, in-fleet}
 use Rattle.rules.proofs.Changes.{grantable-facts, short-place, valid-logged, valid-request, valid-arrival, valid-grant}
+use Rattle.rules.proofs.Possessions.{others-possessed, lent-possessed, back-unpossessed, valid-possession}
 use Rattle.rules.proofs.Acceptance.{NextMove}
 use Rattle.rules.proofs.Reached.{moved-within}
-use Rattle.assurance.specs.Types.{Move, Message, Fa, Fe, Afe, Am, Record, State}
+use Rattle.assurance.specs.Types.{Move, Message, Fa, Fe, Am, Le, Lb, Record, State}
 use Rattle.assurance.specs.Observer.{Claim, nothing, asked, authority, Seen, Observer, isFor, noteFrame}
-use Rattle.assurance.specs.Observer.{noteAnswer}
+use Rattle.assurance.specs.Observer.{withSeen, noteAnswer}
 use Rattle.assurance.specs.WholeList.{isFeOf}
-use Rattle.assurance.proofs.Invariant.{given, given-more, other-train, Invariant, changed-kept}
+use Rattle.assurance.proofs.Invariant.{given, given-more, other-train, Invariant, changed-kept, record-kept}
 
 -- the record of an FE is one of its train's
-own-authority : (m : Move) → isFeOf (m .train .0) (recordOf (Fe m)) ≡ true
+pub own-authority : (m : Move) → isFeOf (m .train .0) (recordOf (Fe m)) ≡ true
 unfolding recordOf
 own-authority m = eq-eqb (m .train .0) (m .train .0) refl
+
+-- the message's record gives no train an authority
+abbrev pub NoFe : Message → Type 0
+NoFe a = (u : ℕ) → isFeOf u (recordOf a) ≡ false
 
 abbrev seenWith : ℕ → Claim → Seen
 seenWith p c = record { post = p; claim = c }
@@ -56,10 +62,10 @@ module _ (table : List ℕ) (s : State) (j : List Record) (o : Observer) (inv : 
       let further : reachedBy x ≡ reached s t + 1 = rw idle (omega arith) in
       let a = Fe (nextMove s t) in
       changed-kept table s j o (noteAnswer o a) t (grantRecord s t) x inv (other-train a) space
-      (λ u h. update-other o t _ u h)
+      (λ u h. update-other (o .train) t _ u h) (λ i. refl)
       (in-fleet s t (λ y. isAsked (y .status)) refl (g .asks)) refl (valid-grant s d t known table e)
       (record {
-        seen = update-own o t _ ∙ ap (λ (y : Seen). seenWith (y .post) permit) (inv .each t known .seen);
+        seen = update-own (o .train) t _ ∙ ap (λ (y : Seen). seenWith (y .post) permit) (inv .each t known .seen);
         request = λ q. absurd (false≢true q);
         authorities = given-more (s .logged) j (grantRecord s t) t (omega (arith, inv .room))
             ∙ rw (own-authority (nextMove s t), inv .each t known .authorities, idle) (omega arith);
@@ -100,9 +106,10 @@ module _ (table : List ℕ) (s : State) (j : List Record) (o : Observer) (inv : 
         let t = m .train .0 in
         let x = withStatus (trainOf s t) (Asked (s .logged)) in
         changed-kept table s j o (noteFrame o (Fa m)) t (recordOf (Fa m)) x inv (other-train (Fa m)) space
-        (λ u h. update-other o t _ u h) place refl (valid-request s (inv .valid-state) t (n .known) (n .short) idle)
+        (λ u h. update-other (o .train) t _ u h) (λ i. refl) place refl
+        (valid-request s (inv .valid-state) t (n .known) (n .short) idle)
         (record {
-          seen = update-own o t _ ∙ ap (λ (y : Seen). seenWith (y .post) asked) (inv .each t (n .known) .seen);
+          seen = update-own (o .train) t _ ∙ ap (λ (y : Seen). seenWith (y .post) asked) (inv .each t (n .known) .seen);
           request = λ q.
               getD-set-same j (s .logged) (recordOf (Fa m)) blank (journal-room space) ∙ rw (← n .to, ← n .from);
           authorities = same-given (Fa m) t refl space ∙ inv .each t (n .known) .authorities ∙ rw idle;
@@ -111,7 +118,7 @@ module _ (table : List ℕ) (s : State) (j : List Record) (o : Observer) (inv : 
 
     -- an AM that is taken is for its train's authority
     pub authorised : isRunning (trainOf s (m .train .0) .status) ≡ true
-        → isFor (o (m .train .0) .claim) (m .from .0) (m .to .0) ≡ true
+        → isFor (o .train (m .train .0) .claim) (m .from .0) (m .to .0) ≡ true
     authorised runs = rw (
       inv .each (m .train .0) (n .known) .seen,
       running-is (trainOf s (m .train .0) .status) runs .1,
@@ -132,36 +139,65 @@ module _ (table : List ℕ) (s : State) (j : List Record) (o : Observer) (inv : 
         let v = inv .each t (n .known) in
         let further : reachedBy x ≡ reached s t =
         rw runs (omega (arith, next-travelled _ _ _ (inv .valid-state .each t (n .known) .inside) (n .short))) in
-        let arrived : Observer = update o t (seenWith (m .to .0) nothing) in
+        let arrived : Observer = withSeen o t (seenWith (m .to .0) nothing) in
         let heard : noteFrame o (Am m) ≡ arrived = rw (authorised runs) in
         rw heard (changed-kept table s j o arrived t (recordOf (Am m)) x inv (other-train (Am m)) space
-        (λ u h. update-other o t _ u h) place refl
+        (λ u h. update-other (o .train) t _ u h) (λ i. refl) place refl
         (valid-arrival s (inv .valid-state) t (n .known) (n .short) runs)
         (record {
-          seen = update-own o t _ ∙ rw (n .to);
+          seen = update-own (o .train) t _ ∙ rw (n .to);
           request = λ q. absurd (false≢true q);
           authorities = same-given (Am m) t refl space ∙ v .authorities ∙ sym further;
         })
         (stays t x further))
 
-  pub decline-kept : (m : Move) → m .train .0 < s .trains → isAsked (trainOf s (m .train .0) .status) ≡ true
-      → s .logged < journalLength
-      → Invariant table (oneLogged s) (set j (s .logged) (recordOf (Afe m))) (noteAnswer o (Afe m))
-  unfolding recordOf
-  decline-kept m known asks room =
-      let t = m .train .0 in
-      let v = inv .each t known in
-      let same : changed s t (trainOf s t) (s .logged + 1) ≡ oneLogged s = rw (set-getD (s .fleet) t noTrain) in
-      subst (λ (z : State). Invariant table z (set j (s .logged) (recordOf (Afe m))) o) same
-      (changed-kept table s j o o t (recordOf (Afe m)) (trainOf s t) inv (other-train (Afe m)) room (λ u h. refl)
-      (in-fleet s t (λ y. isAsked (y .status)) refl asks) refl
-      (subst Consistent (sym same) (valid-logged s (inv .valid-state)))
-      (record {
-        seen = v .seen;
-        request = λ q.
-            getD-set-other j (s .logged) (askedAs (trainOf s t .status)) (recordOf (Afe m)) blank
-            (λ z. omega (arith, inv .valid-state .each t known .numbered q))
-            ∙ v .request q;
-        authorities = same-given (Afe m) t refl room ∙ v .authorities;
-      })
-      (stays t (trainOf s t) refl))
+  -- an AFE, and a gang's LA, change nobody's record and no section
+  pub logged-kept : (a : Message) → NoFe a → s .logged < journalLength
+      → Invariant table (oneLogged s) (set j (s .logged) (recordOf a)) o
+  logged-kept a plain room =
+      record-kept table s j o o (recordOf a) (s .possessions) (s .given) inv room plain
+      (valid-logged s (inv .valid-state)) (λ u. refl) (inv .gangs) (inv .seven)
+
+  -- ---- a section that is lent or given back, as the observer hears it
+
+  module _ (m : Move) (on : m .from .0 + 1 < s .posts) (space : s .logged < journalLength) where
+    abbrev i : ℕ
+    i = m .from .0
+
+    section-place : i < length (s .possessions)
+    section-place = rw (inv .seven) (omega (arith, inv .valid-state .line .few-posts))
+
+    pub lent-kept : holdersOf s i ≡ 0 → s .given < mostGiven
+        → Invariant table (oneLogged (withPossession s i true (s .given + 1))) (set j (s .logged) (recordOf (Le m)))
+        (noteAnswer o (Le m))
+    unfolding recordOf
+    lent-kept free few =
+        let b = withPossession s i true (s .given + 1) in
+        record-kept table s j o (noteAnswer o (Le m)) (recordOf (Le m)) (b .possessions) (b .given) inv
+        space (λ u. refl)
+        (valid-logged b (valid-possession s (inv .valid-state) i true (s .given + 1) (λ e. free) (omega arith)))
+        (λ u. refl)
+        (λ k. by-equality k i
+        (λ e. rw e (update-own (o .gangs) i _
+        ∙ omega (arith, inv .gangs i, free, ap ofBool (lent-possessed s i (s .given + 1) on section-place))))
+        (λ e. update-other (o .gangs) i _ k e ∙ inv .gangs k
+        ∙ ap ofBool (sym (others-possessed s i true (s .given + 1) k e))))
+        (length-set (s .possessions) i true ∙ inv .seven)
+
+    pub return-kept : possessed s i ≡ true
+        → Invariant table (oneLogged (withPossession s i false (s .given))) (set j (s .logged) (recordOf (Lb m)))
+        (noteFrame o (Lb m))
+    unfolding recordOf
+    return-kept held =
+        let b = withPossession s i false (s .given) in
+        record-kept table s j o (noteFrame o (Lb m)) (recordOf (Lb m)) (b .possessions) (b .given) inv
+        space (λ u. refl)
+        (valid-logged b (valid-possession s (inv .valid-state) i false (s .given) (λ e. absurd (false≢true e))
+        (inv .valid-state .few-given)))
+        (λ u. refl)
+        (λ k. by-equality k i
+        (λ e. rw e (update-own (o .gangs) i _
+        ∙ omega (arith, inv .gangs i, ap ofBool held, ap ofBool (back-unpossessed s i (s .given)))))
+        (λ e. update-other (o .gangs) i _ k e ∙ inv .gangs k
+        ∙ ap ofBool (sym (others-possessed s i false (s .given) k e))))
+        (length-set (s .possessions) i false ∙ inv .seven)

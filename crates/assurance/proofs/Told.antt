@@ -6,6 +6,7 @@ use mathlib.Core.List.{List}
 use Prim.Native.Nat.{ℕ, _+_, _<_}
 use native.Mathlib.Omega.{arith}
 use Rattle.common.specs.Below.{ofBool}
+use Rattle.common.proofs.Tests.{not-passed}
 use Rattle.common.proofs.Below.{count-cong}
 use Rattle.line.specs.Route.{nextPost, distance}
 use Rattle.line.specs.Line.{routeOf}
@@ -14,13 +15,13 @@ use Rattle.rules.specs.declared.state.Status.{Status}
 use Rattle.rules.specs.declared.state.Status.the-variants.{Free, Asked, Running}
 use Rattle.rules.specs.declared.state.Train.{Train}
 use Rattle.rules.specs.State.{isFree, isAsked, isRunning, nextOf, trackAt, trainOf, lineOf, located as recorded}
-use Rattle.rules.specs.State.{reached}
+use Rattle.rules.specs.State.{possessed, holdersOf, reached}
 use Rattle.rules.proofs.Trains.{route-of}
-use Rattle.rules.proofs.Validity.{one-holder}
+use Rattle.rules.proofs.Validity.{section-one}
 use Rattle.assurance.specs.Types.{Record, State}
 use Rattle.assurance.specs.Run.{Ran}
 use Rattle.assurance.specs.Observer.{nothing, authority, Seen, Observer, locatedBy, locatedTold, hasAuthority}
-use Rattle.assurance.specs.Observer.{hasAsked, nextTold, reachedTold}
+use Rattle.assurance.specs.Observer.{holdersTold, hasAsked, nextTold, reachedTold}
 use Rattle.assurance.specs.Tracks.{Tracks, trackTold}
 use Rattle.assurance.specs.WholeList.{ShortOfEnd, Unhindered, Assured}
 use Rattle.assurance.proofs.Invariant.{claimOf, seenOf, Invariant}
@@ -64,7 +65,7 @@ module _ (table : List ℕ) (s : State) (j : List Record) (o : Observer) (inv : 
   abbrev x : Train
   x = trainOf s t
 
-  pub seen : o t ≡ seenOf x
+  pub seen : o .train t ≡ seenOf x
   seen = inv .each t kt .seen
 
   pub told : locatedTold (lineOf s) o t ≡ recorded s t
@@ -72,13 +73,13 @@ module _ (table : List ℕ) (s : State) (j : List Record) (o : Observer) (inv : 
       rw (seen, route-of s t)
       (located-as (x .status) (standing (s .sidings) (x .route .end .0) (x .at .0)) (x .at .0) (nextOf x))
 
-  pub at-post : o t .post ≡ x .at .0
+  pub at-post : o .train t .post ≡ x .at .0
   at-post = ap (λ (y : Seen). y .post) seen
 
-  pub asked-told : hasAsked (o t .claim) ≡ isAsked (x .status)
+  pub asked-told : hasAsked (o .train t .claim) ≡ isAsked (x .status)
   asked-told = ap (λ (y : Seen). hasAsked (y .claim)) seen ∙ asked-as (x .status) (x .at .0) (nextOf x)
 
-  pub authority-told : hasAuthority (o t .claim) ≡ isRunning (x .status)
+  pub authority-told : hasAuthority (o .train t .claim) ≡ isRunning (x .status)
   authority-told = ap (λ (y : Seen). hasAuthority (y .claim)) seen ∙ authority-as (x .status) (x .at .0) (nextOf x)
 
   pub next-told : nextTold (lineOf s) o t ≡ nextOf x
@@ -99,6 +100,10 @@ module _ (table : List ℕ) (s : State) (j : List Record) (o : Observer) (inv : 
   sections-told i = count-cong (s .trains) (λ u. holdsSection (seen-at u) i) (λ u. holdsSection (recorded s u) i)
       (λ u ku. ap (λ (w : Whereabouts). holdsSection w i) (told table s j o inv u ku))
 
+  -- the gangs among them
+  pub holders-told : (i : ℕ) → holdersTold (lineOf s) o i ≡ holdersOf s i
+  holders-told i = rw (sections-told i, inv .gangs i)
+
   pub posts-told : (p : ℕ) → postHolders (s .trains) seen-at p ≡ postHolders (s .trains) (recorded s) p
   posts-told p = count-cong (s .trains) (λ u. holdsPost (seen-at u) p) (λ u. holdsPost (recorded s u) p)
       (λ u ku. ap (λ (w : Whereabouts). holdsPost w p) (told table s j o inv u ku))
@@ -114,15 +119,15 @@ module _ (table : List ℕ) (r : Ran) (o : Observer) (settled : Settled table (r
   abbrev inv : Invariant table (r .state) (r .journal) o
   inv = settled .kept
 
-  onward-move : (t p q : ℕ) → t < r .state .trains → o t .claim ≡ authority p q
-      → (p ≡ o t .post) × (q ≡ nextTold (lineOf (r .state)) o t)
+  onward-move : (t p q : ℕ) → t < r .state .trains → o .train t .claim ≡ authority p q
+      → (p ≡ o .train t .post) × (q ≡ nextTold (lineOf (r .state)) o t)
   onward-move t p q kt e =
       let x = trainOf (r .state) t in
       let same = ap (λ (y : Seen). y .claim) (seen table (r .state) (r .journal) o inv t kt) in
       let m = claim-move (x .status) (x .at .0) (nextOf x) p q (sym same ∙ e) in
       (m .0 ∙ sym (at-post table _ _ o inv t kt), m .1 ∙ sym (next-told table _ _ o inv t kt))
 
-  short-of-end : (t : ℕ) → t < r .state .trains → o t .claim ≢ nothing → ShortOfEnd (lineOf (r .state)) o t
+  short-of-end : (t : ℕ) → t < r .state .trains → o .train t .claim ≢ nothing → ShortOfEnd (lineOf (r .state)) o t
   short-of-end t kt some e =
       let s = r .state in
       let here = at-post table _ _ o inv t kt in
@@ -130,12 +135,14 @@ module _ (table : List ℕ) (r : Ran) (o : Observer) (settled : Settled table (r
       inv .valid-state .each t kt .busy (some-claim (trainOf s t .status) _ _ (λ q. some (same ∙ q)))
       (sym here ∙ e ∙ rw (route-of s t))
 
-  pub not-waiting : (t : ℕ) → t < r .state .trains → ShortOfEnd (lineOf (r .state)) o t
+  pub not-waiting : ((i : ℕ) → o .gangs i ≡ 0) → (t : ℕ) → t < r .state .trains → ShortOfEnd (lineOf (r .state)) o t
       → Unhindered (lineOf (r .state)) o
-  not-waiting t kt short =
+  not-waiting none t kt short =
       let s = r .state in
+      let gone : (i : ℕ) → possessed s i ≡ false =
+      λ i. not-passed (possessed s i) (λ e. omega (arith, none i, inv .gangs i, ap ofBool e)) in
       let g =
-      goes-on table s (inv .valid-state) (inv .right) (inv .completable) (settled .nobody) t kt
+      goes-on table s (inv .valid-state) (inv .right) (inv .completable) gone (settled .nobody) t kt
       (λ e. short (at-post table _ _ o inv t kt ∙ e ∙ rw (route-of s t))) in
       record {
         train = g .0;
@@ -150,8 +157,7 @@ module _ (table : List ℕ) (r : Ran) (o : Observer) (settled : Settled table (r
       let told = told table s (r .journal) o inv in
       let track = track-as table s (r .journal) o inv k h in
       record {
-        sections = λ i t u kt ku p q.
-            one-holder s (inv .valid-state) i t u kt ku (rw (told t kt) at p) (rw (told u ku) at q);
+        sections = λ i. rw (holders-told table s (r .journal) o inv i) (section-one s (inv .valid-state) i);
         posts = λ p kp.
             rw (posts-told table s (r .journal) o inv p) (inv .valid-state .posts p kp);
         tracks = λ p t u kp kt ku a b e. inv .valid-state .differ p t u kp kt ku

@@ -15,14 +15,14 @@ use Rattle.journal.specs.Journal.{recordOf}
 use Rattle.rules.specs.declared.state.Train.{Train}
 use Rattle.rules.specs.declared.state.Status.the-variants.{Asked}
 use Rattle.rules.specs.State.{isAsked, isRunning, nextOf, trackAhead, trainOf, lineOf, freeTrack, withStatus}
-use Rattle.rules.specs.State.{arrivedNext}
-use Rattle.rules.specs.Granting.{Work, granted, settled, granting, grantRecord}
+use Rattle.rules.specs.State.{arrivedNext, withPossession}
+use Rattle.rules.specs.Granting.{Work, begun, granted, settled, granting, grantRecord}
 use Rattle.rules.specs.Answer.{taken, declined, accepted, answer}
 use Rattle.rules.proofs.Trains.{idle-ahead, route-of, changed, changed-each}
 use Rattle.rules.proofs.Changes.{short-place}
 use Rattle.rules.proofs.Grants.{Turn, grants-keep, granted-place}
-use Rattle.rules.proofs.Acceptance.{NextMove, Taken, request, arrival, by-verdict}
-use Rattle.assurance.specs.Types.{Line, Move, Message, Fa, Afe, Am, Record, State}
+use Rattle.rules.proofs.Acceptance.{NextMove, Taken, request, arrival, lending, return, by-verdict}
+use Rattle.assurance.specs.Types.{Line, Move, Message, Fa, Afe, Am, Lb, Record, State}
 use Rattle.assurance.specs.Run.{Input, newRecords, run}
 use Rattle.assurance.specs.Observer.{Observer, isFor, noteBy}
 use Rattle.assurance.specs.Tracks.{TracksTold, Tracks, trackFrame, trackRecord, trackRecords, trackBy}
@@ -99,7 +99,7 @@ module _ (s : State) (k : Tracks) (h : TracksAgree s k) (m : Move) (n : NextMove
       ∙ ap (λ (i : ℕ). record { here = trainOf s t .track .0; ahead = i }) (idle-ahead (trainOf s t .status) idle))
       (λ u z. refl)
 
-  pub arrived-tells : (table : List ℕ) (o : Observer) → isFor (o t .claim) (m .from .0) (m .to .0) ≡ true
+  pub arrived-tells : (table : List ℕ) (o : Observer) → isFor (o .train t .claim) (m .from .0) (m .to .0) ≡ true
       → Tells table (trackFrame (lineOf s) o k (Am m)) (taken s (Am m) (arrivedNext (s .sidings) (trainOf s t)))
   unfolding recordOf trackRecords
   arrived-tells table o authority =
@@ -116,15 +116,19 @@ module _ (s : State) (k : Tracks) (h : TracksAgree s k) (m : Move) (n : NextMove
 
 accepted-tells : (table : List ℕ) (s : State) (o : Observer) (k : Tracks) → TracksAgree s k → (a : Message) → Taken s a
     → ((m : Move) → NextMove s m → isRunning (trainOf s (m .train .0) .status) ≡ true
-    → isFor (o (m .train .0) .claim) (m .from .0) (m .to .0) ≡ true)
+    → isFor (o .train (m .train .0) .claim) (m .from .0) (m .to .0) ≡ true)
     → Tells table (trackFrame (lineOf s) o k a) (accepted table s a)
-unfolding accepted
+unfolding accepted recordOf trackRecords
 accepted-tells table s o k h a (request m n free idle) authority =
     let w = taken s (Fa m) (withStatus (trainOf s (m .train .0)) (Asked (s .logged))) in
     declined-tells table k m (settled table w) (settled-tells table k w (asked-tells s k h m n table idle))
 accepted-tells table s o k h a (arrival m n runs) authority =
     settled-tells table _ (taken s (Am m) (arrivedNext (s .sidings) (trainOf s (m .train .0))))
     (arrived-tells s k h m n table o (authority m n runs))
+accepted-tells table s o k h a (lending m n free few) authority = record { each = h .each }
+accepted-tells table s o k h a (return m n held) authority =
+    settled-tells table k (begun (withPossession s (m .from .0) false (s .given)) (recordOf (Lb m)))
+    (record { each = h .each })
 
 -- ---- a frame and a run
 

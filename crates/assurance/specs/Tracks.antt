@@ -9,7 +9,8 @@ use Rattle.line.specs.Line.{routeOf}
 use Rattle.tracks.specs.Tracks.{unlessAway}
 use Rattle.frame.specs.Frame.{FE, readFrame}
 use Rattle.rules.specs.Opening.{openedTrack}
-use Rattle.assurance.specs.Types.{Line, Message, Fa, Fe, Afe, Am, Refused, Record, Verdict, Sent, RefusedBy}
+use Rattle.assurance.specs.Types.{Line, Message, Fa, Fe, Afe, Am, La, Le, Lb, Refused, Record, Verdict}
+use Rattle.assurance.specs.Types.{Sent, RefusedBy}
 use Rattle.assurance.specs.Run.{Exchange}
 use Rattle.assurance.specs.Observer.{Observer, isFor, note}
 
@@ -30,7 +31,7 @@ tracksAtOpening l t = record { here = openedTrack l t; ahead = 0 }
 abbrev pub trackFrame : Line → Observer → Tracks → Message → Tracks
 trackFrame l o k (Am m) =
     let t = m .train .0 in
-    cond (isFor (o t .claim) (m .from .0) (m .to .0))
+    cond (isFor (o .train t .claim) (m .from .0) (m .to .0))
     (update k t (record {
       here = unlessAway (l .sidings) (routeOf l t .end .0) (m .to .0) (k t .ahead);
       ahead = 0;
@@ -39,6 +40,9 @@ trackFrame l o k (Am m) =
 trackFrame l o k (Fa m) = k
 trackFrame l o k (Fe m) = k
 trackFrame l o k (Afe m) = k
+trackFrame l o k (La m) = k
+trackFrame l o k (Le m) = k
+trackFrame l o k (Lb m) = k
 trackFrame l o k (Refused n) = k
 
 -- "then from each FE's record"
@@ -64,4 +68,4 @@ observeTracks l o k (e ∷ es) =
 
 -- the track that train t has at post p, where it holds one there
 abbrev pub trackTold : Observer → Tracks → ℕ → ℕ → ℕ
-trackTold o k t p = cond (eqb (o t .post) p) (k t .here) (k t .ahead)
+trackTold o k t p = cond (eqb (o .train t .post) p) (k t .here) (k t .ahead)

@@ -9,7 +9,7 @@ use Prim.Native.Nat.{ℕ, _≤_, _<_}
 use lib.Dec.{eqb}
 use Rattle.common.specs.Below.{countBelow}
 use Rattle.line.specs.Line.{routeOf, tracksAt}
-use Rattle.line.specs.Holding.{holdsPost, holdsSection, postHolders}
+use Rattle.line.specs.Holding.{holdsPost, postHolders}
 use Rattle.line.specs.Book.{lineIn}
 use Rattle.frame.specs.Frame.{FE, bytesOf}
 use Rattle.journal.specs.Journal.{frameOf, recordAt}
@@ -19,7 +19,7 @@ use Rattle.rules.specs.Opening.{opening}
 use Rattle.assurance.specs.Types.{Line, Move, Fa, Fe, Record}
 use Rattle.assurance.specs.Run.{Input, Exchange, Ran, run}
 use Rattle.assurance.specs.Observer.{nothing, authority, Observer, atOpening, answersOf, observe, locatedTold}
-use Rattle.assurance.specs.Observer.{hasAsked, nextTold, reachedTold}
+use Rattle.assurance.specs.Observer.{holdersTold, hasAsked, nextTold, reachedTold}
 use Rattle.assurance.specs.Tracks.{Tracks, tracksAtOpening, observeTracks, trackTold}
 
 -- "An authority written, that is an FE, has its logged request if, below the journal count, the journal has that FE
@@ -41,19 +41,18 @@ authorities r t = countBelow (r .state .logged) (λ i. isFeOf t (recordAt (r .jo
 
 -- "A train is short of its end if its post in the tally is not its end."
 abbrev pub ShortOfEnd : Line → Observer → ℕ → Type 0
-ShortOfEnd l o t = o t .post ≢ routeOf l t .end .0
+ShortOfEnd l o t = o .train t .post ≢ routeOf l t .end .0
 
 -- a train that is short of its end and has an authority or has not asked for its next section
 pub record Unhindered (l : Line) (o : Observer) : Type 0 where
   pub train : ℕ
   pub known : train < l .trains
   pub short : ShortOfEnd l o train
-  pub unasked : hasAsked (o train .claim) ≡ false
+  pub unasked : hasAsked (o .train train .claim) ≡ false
 
 pub record Assured (l : Line) (r : Ran) (o : Observer) (k : Tracks) : Type 0 where
-  -- "no section has two holders"
-  pub sections : (i t u : ℕ) → t < l .trains → u < l .trains → holdsSection (locatedTold l o t) i ≡ true
-      → holdsSection (locatedTold l o u) i ≡ true → t ≡ u
+  -- "no section has two holders"; 02, card 4: "a gang is a holder"
+  pub sections : (i : ℕ) → holdersTold l o i ≤ 1
   -- "no post is held by more trains than it has tracks"
   pub posts : (p : ℕ) → p < l .posts → postHolders (l .trains) (locatedTold l o) p ≤ tracksAt l p
   -- "no track has two trains", and each that is held is one of its post's
@@ -63,16 +62,16 @@ pub record Assured (l : Line) (r : Ran) (o : Observer) (k : Tracks) : Type 0 whe
   pub tracks-of-post : (p t : ℕ) → p < l .posts → t < l .trains → holdsPost (locatedTold l o t) p ≡ true
       → (1 ≤ trackTold o k t p) × (trackTold o k t p ≤ tracksAt l p)
   -- an authority is for the move from the train's post to its next one, so that the section between them is one
-  pub moves : (t p q : ℕ) → t < l .trains → o t .claim ≡ authority p q
-      → (p ≡ o t .post) × (q ≡ nextTold l o t)
+  pub moves : (t p q : ℕ) → t < l .trains → o .train t .claim ≡ authority p q
+      → (p ≡ o .train t .post) × (q ≡ nextTold l o t)
   -- a train that has asked or has an authority is short of its end
-  pub short : (t : ℕ) → t < l .trains → o t .claim ≢ nothing → ShortOfEnd l o t
+  pub short : (t : ℕ) → t < l .trains → o .train t .claim ≢ nothing → ShortOfEnd l o t
   -- "Every authority written has its logged request."
   pub requests : (e : Exchange) → List·Memᴰ e (r .exchanges) → (m : Move)
       → List·Memᴰ (Fe m) (answersOf (e .verdict) (e .out)) → Requested (r .state .logged) (r .journal) m
   -- "While any train is short of its end, at least one such train has an authority or has not asked for its next
-  -- section."
-  pub onward : (t : ℕ) → t < l .trains → ShortOfEnd l o t → Unhindered l o
+  -- section." Card 4: "The standstill clause is for lists after which no gang holds a section".
+  pub onward : ((i : ℕ) → o .gangs i ≡ 0) → (t : ℕ) → t < l .trains → ShortOfEnd l o t → Unhindered l o
   -- "a train's FE records number its posts travelled, plus one while it is Running": by the state, and as the observer
   -- tells it
   pub authorities-given : (t : ℕ) → t < l .trains → authorities r t ≡ reached (r .state) t
