@@ -1,36 +1,45 @@
--- How many frames were accepted: two for each post travelled, and one for a train that is Asked or Running. Each
--- accepted frame adds one to the sum, and a grant leaves it. For any table.
-use mathlib.Core.Path.{_≡_, refl}
+-- How many frames were accepted. Of trains: two for each post travelled, and one for a train that is Asked or Running;
+-- each accepted one adds one to the sum, and a grant leaves it. Of gangs: the count given has the LAs, and of those the
+-- ones without an LB are the sections that gangs have. For any table.
+use mathlib.Core.Path.{_≡_, refl, sym, ap, _∙_}
+use mathlib.Core.Bool.{Bool, true, false}
 use mathlib.Core.List.{List, [], _∷_}
 use Prim.Native.Nat.{ℕ, _+_, _*_, _≤_, _<_}
 use native.Mathlib.Nat.{mul-le-mul-right}
 use native.Mathlib.Omega.{arith}
+use lib.ListN.{length}
 use Rattle.common.specs.Below.{ofBool, sumBelow}
 use Rattle.common.proofs.Tests.{by-cases}
-use Rattle.common.proofs.Sums.{sum-cong, sum-mono, sum-le}
+use Rattle.common.proofs.Sums.{sum-cong, count-sum, sum-mono, sum-le}
 use Rattle.line.specs.Route.{distance}
 use Rattle.line.proofs.Travel.{travelled-within, next-within, next-travelled}
 use Rattle.line.proofs.WellFormed.{short-route}
 use Rattle.frame.specs.Frame.{readFrame}
+use Rattle.journal.specs.Journal.{recordOf}
 use Rattle.completion.specs.Configuration.{distanceOf}
 use Rattle.rules.specs.declared.state.Status.{Status}
 use Rattle.rules.specs.declared.state.Status.the-variants.{Free, Asked, Running}
 use Rattle.rules.specs.declared.state.Train.{Train}
-use Rattle.rules.specs.State.{isAsked, isRunning, reachedBy, trainOf, lineOf, withStatus, arrivedNext}
-use Rattle.rules.specs.Granting.{Work, granted, settled, granting}
+use Rattle.rules.specs.State.{isAsked, isRunning, reachedBy, trainOf, lineOf, possessed, withStatus, arrivedNext}
+use Rattle.rules.specs.State.{withPossession, oneLogged}
+use Rattle.rules.specs.Granting.{Work, begun, granted, settled, granting}
 use Rattle.rules.specs.Answer.{taken, declined, accepted, answer}
+use Rattle.rules.specs.Refusals.{ofTrain}
 use Rattle.rules.proofs.Trains.{asked-idle, running-is, route-of}
 use Rattle.rules.proofs.Validity.{Consistent}
 use Rattle.rules.proofs.Changes.{grantable-facts, short-place}
 use Rattle.rules.proofs.Grants.{Turn, grants-keep, granted-place}
-use Rattle.rules.proofs.Acceptance.{Taken, request, arrival, by-verdict}
-use Rattle.assurance.specs.Types.{Move, Message, Fa, Am, Record, State}
+use Rattle.rules.proofs.Possessions.{lent-possessed, back-unpossessed}
+use Rattle.rules.proofs.Acceptance.{Taken, request, arrival, lending, return, by-verdict}
+use Rattle.assurance.specs.Types.{Move, Message, Fa, Am, Lb, Record, State}
 use Rattle.assurance.specs.Run.{Input, run}
 use Rattle.assurance.specs.Observer.{Observer}
-use Rattle.conduct.specs.Arrival.{isSent, acceptedFrames, framesTold, mostFrames}
+use Rattle.conduct.specs.Arrival.{isAccepted, acceptedFrames, asksSection, givesBack, framesTold, mostFrames}
 use Rattle.assurance.proofs.Invariant.{Invariant}
-use Rattle.assurance.proofs.Records.{changed-sum}
+use Rattle.assurance.proofs.Records.{changed-sum, lentIn, lent-change}
+use Rattle.assurance.proofs.Exchanged.{Settled, answer-kept}
 use Rattle.assurance.proofs.Told.{at-post, asked-told, authority-told}
+use Rattle.conduct.proofs.LocalRuns.{settled-given}
 
 abbrev framesOf : Train → ℕ
 framesOf x =
@@ -57,20 +66,24 @@ module _ (table : List ℕ) where
   settled-frames : (n : ℕ) (w : Work) → framesIn (w .state) ≡ n → framesIn (settled table w .state) ≡ n
   settled-frames n w = grants-keep table (λ v. framesIn (v .state) ≡ n) (granted-frames n) (w .state .trains) w
 
-  declined-frames : (n : ℕ) (m : Move) (w : Work) → framesIn (w .state) ≡ n → framesIn (declined m w .state) ≡ n
-  declined-frames n m w b = by-cases (isAsked (trainOf (w .state) (m .train .0) .status)) (λ q. rw q b) (λ q. rw q b)
+  -- nor does an AFE, nor anything that a record logged alone leaves
+  declined-keeps : (f : State → ℕ) → ((s : State) → f (oneLogged s) ≡ f s) → (m : Move) (w : Work)
+      → f (declined m w .state) ≡ f (w .state)
+  declined-keeps f same m w = by-cases (isAsked (trainOf (w .state) (m .train .0) .status))
+      (λ q. rw q (same (w .state)))
+      (λ q. rw q)
 
-  -- an accepted frame is one more
+  -- an accepted frame of a train is one more
   accepted-frames : (s : State) → Consistent s → (a : Message) → Taken s a
-      → framesIn (accepted table s a .state) ≡ framesIn s + 1
+      → framesIn (accepted table s a .state) ≡ framesIn s + ofBool (ofTrain a)
   unfolding accepted
   accepted-frames s d a (request m q free idle) =
       let t = m .train .0 in
       let x = withStatus (trainOf s t) (Asked (s .logged)) in
       let one : framesOf (trainOf s t) + 1 ≡ framesOf x = rw (free, idle) (omega arith) in
       let c = changed-sum framesOf s t x (s .logged + 1) (q .known) (short-place s t (q .short)) in
-      declined-frames (framesIn s + 1) m (settled table (taken s (Fa m) x))
-      (settled-frames (framesIn s + 1) (taken s (Fa m) x) (omega arith))
+      declined-keeps framesIn (λ v. refl) m (settled table (taken s (Fa m) x))
+      ∙ settled-frames (framesIn s + 1) (taken s (Fa m) x) (omega arith)
   accepted-frames s d a (arrival m q runs) =
       let t = m .train .0 in
       let x = arrivedNext (s .sidings) (trainOf s t) in
@@ -79,21 +92,104 @@ module _ (table : List ℕ) where
       rw (running-is (trainOf s t .status) runs .1) (omega (arith, far)) in
       let c = changed-sum framesOf s t x (s .logged + 1) (q .known) (short-place s t (q .short)) in
       settled-frames (framesIn s + 1) (taken s (Am m) x) (omega arith)
+  accepted-frames s d a (lending m q free few) = omega arith
+  accepted-frames s d a (return m q held) =
+      settled-frames (framesIn s + 0) (begun (withPossession s (m .from .0) false (s .given)) (recordOf (Lb m)))
+      (omega arith)
 
-  answer-frames : (s : State) (j : List Record) (frame out : List ℕ)
-      → let a = answer s table j frame out in ofBool (isSent (a .verdict)) + framesIn s ≡ framesIn (a .state)
-  answer-frames s j frame out =
-      by-verdict s table j frame out (λ a. ofBool (isSent (a .verdict)) + framesIn s ≡ framesIn (a .state))
-      (λ n e. omega arith)
-      (λ p. omega (arith, accepted-frames s (p .valid-state) (readFrame frame) (p .message)))
+  -- ---- of gangs
+
+  accepted-given : (s : State) (a : Message) → Taken s a
+      → accepted table s a .state .given ≡ s .given + ofBool (asksSection a)
+  unfolding accepted
+  accepted-given s a (request m q free idle) =
+      let w = taken s (Fa m) (withStatus (trainOf s (m .train .0)) (Asked (s .logged))) in
+      declined-keeps (λ v. v .given) (λ v. refl) m (settled table w) ∙ settled-given table w ∙ omega arith
+  accepted-given s a (arrival m q runs) =
+      settled-given table (taken s (Am m) (arrivedNext (s .sidings) (trainOf s (m .train .0)))) ∙ omega arith
+  accepted-given s a (lending m q free few) = refl
+  accepted-given s a (return m q held) =
+      settled-given table (begun (withPossession s (m .from .0) false (s .given)) (recordOf (Lb m))) ∙ omega arith
+
+  settled-lent : (w : Work) → lentIn (settled table w .state) ≡ lentIn (w .state)
+  settled-lent w =
+      grants-keep table (λ v. lentIn (v .state) ≡ lentIn (w .state)) (λ v t e f. e) (w .state .trains) w refl
+
+  accepted-lent : (s : State) → Consistent s → length (s .possessions) ≡ 7 → (a : Message) → Taken s a
+      → ofBool (asksSection a) + lentIn s ≡ ofBool (givesBack a) + lentIn (accepted table s a .state)
+  unfolding accepted
+  accepted-lent s d seven a (request m q free idle) =
+      let w = taken s (Fa m) (withStatus (trainOf s (m .train .0)) (Asked (s .logged))) in
+      omega (arith, declined-keeps lentIn (λ v. refl) m (settled table w), settled-lent w)
+  accepted-lent s d seven a (arrival m q runs) =
+      omega (arith, settled-lent (taken s (Am m) (arrivedNext (s .sidings) (trainOf s (m .train .0)))))
+  accepted-lent s d seven a (lending m q free few) =
+      let i = m .from .0 in
+      let place : i < length (s .possessions) = rw seven (omega (arith, q .on, d .line .few-posts)) in
+      let c = lent-change s i true (s .given + 1) (omega (arith, q .on)) in
+      let has = ap ofBool (lent-possessed s i (s .given + 1) (q .on) place) in
+      omega (arith, free)
+  accepted-lent s d seven a (return m q held) =
+      let i = m .from .0 in
+      let c = lent-change s i false (s .given) (omega (arith, q .on)) in
+      let had = ap ofBool held in
+      let none = ap ofBool (back-unpossessed s i (s .given)) in
+      omega (arith, settled-lent (begun (withPossession s i false (s .given)) (recordOf (Lb m))))
+
+  -- ---- a run
+
+  -- a number of the state that each accepted frame of a kind raises by one counts them
+  run-counts : (kind : Message → Bool) (f : State → ℕ)
+      → ((s : State) → Consistent s → (a : Message) → Taken s a
+      → f (accepted table s a .state) ≡ f s + ofBool (kind a))
+      → (is : List Input) (s : State) (j : List Record)
+      → let r = run table s j is in acceptedFrames kind (r .exchanges) + f s ≡ f (r .state)
+  unfolding run acceptedFrames
+  run-counts kind f raises [] s j = omega arith
+  run-counts kind f raises (i ∷ is) s j =
+      let a = answer s table j (i .frame) (i .out) in
+      omega (arith, one, run-counts kind f raises is (a .state) (a .journal))
+    where
+      one : let a = answer s table j (i .frame) (i .out) in
+          ofBool (isAccepted kind (i .frame) (a .verdict)) + f s ≡ f (a .state)
+      one = by-verdict s table j (i .frame) (i .out)
+          (λ a. ofBool (isAccepted kind (i .frame) (a .verdict)) + f s ≡ f (a .state))
+          (λ n e. omega arith)
+          (λ p. omega (arith, raises s (p .valid-state) (readFrame (i .frame)) (p .message)))
 
   pub run-frames : (is : List Input) (s : State) (j : List Record)
-      → let r = run table s j is in acceptedFrames (r .exchanges) + framesIn s ≡ framesIn (r .state)
+      → let r = run table s j is in acceptedFrames ofTrain (r .exchanges) + framesIn s ≡ framesIn (r .state)
+  run-frames = run-counts ofTrain framesIn accepted-frames
+
+  pub run-given : (is : List Input) (s : State) (j : List Record)
+      → let r = run table s j is in acceptedFrames asksSection (r .exchanges) + s .given ≡ r .state .given
+  run-given = run-counts asksSection (λ s. s .given) (λ s d a t. accepted-given s a t)
+
+  -- the LAs are the LBs and the sections that gangs still have
+  pub run-lent : (is : List Input) (s : State) (j : List Record) (o : Observer) → Settled table s j o
+      → let r = run table s j is in
+      acceptedFrames asksSection (r .exchanges) + lentIn s
+      ≡ acceptedFrames givesBack (r .exchanges) + lentIn (r .state)
   unfolding run acceptedFrames
-  run-frames [] s j = omega arith
-  run-frames (i ∷ is) s j =
+  run-lent [] s j o k = refl
+  run-lent (i ∷ is) s j o k =
       let a = answer s table j (i .frame) (i .out) in
-      omega (arith, answer-frames s j (i .frame) (i .out), run-frames is (a .state) (a .journal))
+      let after = answer-kept table s j o k (i .frame) (i .out) .after in
+      omega (arith, one, run-lent is (a .state) (a .journal) _ after)
+    where
+      one : let a = answer s table j (i .frame) (i .out) in
+          ofBool (isAccepted asksSection (i .frame) (a .verdict)) + lentIn s
+          ≡ ofBool (isAccepted givesBack (i .frame) (a .verdict)) + lentIn (a .state)
+      one = by-verdict s table j (i .frame) (i .out)
+          (λ a. ofBool (isAccepted asksSection (i .frame) (a .verdict)) + lentIn s
+          ≡ ofBool (isAccepted givesBack (i .frame) (a .verdict)) + lentIn (a .state))
+          (λ n e. refl)
+          (λ p. accepted-lent s (p .valid-state) (k .kept .seven) (readFrame (i .frame)) (p .message))
+
+  pub lent-told : (s : State) (j : List Record) (o : Observer) → Invariant table s j o
+      → lentIn s ≡ sumBelow (s .posts) (o .gangs)
+  lent-told s j o inv =
+      count-sum (s .posts) (possessed s) ∙ sum-cong (s .posts) _ (o .gangs) (λ i k. sym (inv .gangs i))
 
   pub frames-told : (s : State) (j : List Record) (o : Observer) → Invariant table s j o
       → framesIn s ≡ sumBelow (s .trains) (framesTold (lineOf s) o)

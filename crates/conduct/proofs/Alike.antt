@@ -1,20 +1,21 @@
 -- Alike states: the same tests pass, the same trains are granted, and a train's new record leaves them alike.
 use mathlib.Core.Path.{_≡_, refl, sym, ap, subst, _∙_}
-use mathlib.Core.Bool.{true, cond, _&&_}
+use mathlib.Core.Bool.{Bool, true, cond, _&&_}
 use mathlib.Core.Option.{Option, none, some}
 use mathlib.Core.List.{List, [], _∷_, _++_}
 use Prim.Native.Nat.{ℕ, zero, suc, _+_, _≤_, _<_}
 use native.Mathlib.Omega.{arith}
-use lib.Dec.{eqb}
-use lib.ListN.{length}
+use lib.Dec.{eqb, leb, ltb}
+use lib.ListN.{length, length-set}
 use borrow.Author.Tests.{ltb-true}
+use Rattle.common.specs.Below.{ofBool}
 use Rattle.common.specs.Update.{update}
 use Rattle.common.specs.Check.{Check, check, refusal}
 use Rattle.common.proofs.Tests.{by-cases, by-equality, same-test}
 use Rattle.common.proofs.Below.{count-cong, any-cong}
 use Rattle.common.proofs.Check.{check-passes, check-fails}
 use Rattle.line.specs.Route.{sectionOf}
-use Rattle.line.specs.Refusal.{unknownTrain}
+use Rattle.line.specs.Refusal.{unknownTrain, wrongPost, journalFull, sectionTaken, noLocalRun, twentyGiven}
 use Rattle.line.specs.Line.{routeOf, tracksAt}
 use Rattle.line.specs.Holding.{holdsPost, holdsSection, postHolders, sectionHolders}
 use Rattle.completion.specs.Configuration.{moved, codeBelow}
@@ -22,22 +23,24 @@ use Rattle.completion.specs.Table.{bitOf}
 use Rattle.completion.proofs.Codes.{code-cong}
 use Rattle.frame.specs.Frame.{moveOf, readFrame}
 use Rattle.tracks.proofs.Choice.{track-cong}
-use Rattle.journal.specs.Journal.{recordOn}
+use Rattle.journal.specs.Journal.{journalLength, recordOn}
 use Rattle.rules.specs.declared.state.Train.{Train}
 use Rattle.rules.specs.declared.state.Status.the-variants.{Running}
 use Rattle.rules.specs.State.{isAsked, nextOf, locatedAt, trackAt, reachedBy, trainOf, lineOf, located, trackHeld}
-use Rattle.rules.specs.State.{freeTrack, reached, nextMove, withStatus, oneLogged}
-use Rattle.rules.specs.Valid.{valid}
+use Rattle.rules.specs.State.{possessed, holdersOf, freeTrack, reached, nextMove, withStatus, withPossession}
+use Rattle.rules.specs.State.{stateWith, oneLogged}
+use Rattle.rules.specs.Valid.{mostGiven, valid}
 use Rattle.rules.specs.Granting.{grantable, older, oldest, Work, granted, proceed, grants, granting, grantRecord}
-use Rattle.rules.specs.Answer.{outerChecks, knows, contentChecks, frameChecks}
+use Rattle.rules.specs.Answer.{mostLogged, outerChecks, knows, gangByte, contentChecks, frameChecks}
 use Rattle.rules.proofs.Trains.{route-of, in-fleet, changed, changed-own, changed-other}
 use Rattle.rules.proofs.Validity.{TrainValid, Consistent, valid-facts, few-logged, is-valid, asked-short}
 use Rattle.rules.proofs.Validity.{next-post-below}
 use Rattle.rules.proofs.Changes.{grantable-facts, is-grantable}
 use Rattle.rules.proofs.Oldest.{oldest-some}
+use Rattle.rules.proofs.Possessions.{others-possessed, own-possessed}
 use Rattle.rules.proofs.Grants.{Turn, granted-place}
 use Rattle.rules.proofs.Settling.{granted-valid}
-use Rattle.assurance.specs.Types.{Message, Fa, Fe, Afe, Am, Refused, State}
+use Rattle.assurance.specs.Types.{Move, Message, Fa, Fe, Afe, Am, La, Le, Lb, Refused, State}
 use Rattle.conduct.specs.Unread.{Alike}
 
 -- ---- checks that are the same where those before them pass
@@ -62,6 +65,9 @@ alike-back s u a = record {
   logged = sym (a .logged);
   tracks = λ p k. sym (a .tracks p (omega (arith, a .posts, a .trains)));
   train = λ t k. sym (a .train t (omega (arith, a .trains)));
+  given = sym (a .given);
+  sections = λ i. sym (a .sections i);
+  places = sym (a .places);
 }
 
 module _ (s u : State) (a : Alike s u) where
@@ -73,6 +79,10 @@ module _ (s u : State) (a : Alike s u) where
   section-same i =
       rw (a .trains, a .sidings)
       (count-cong (s .trains) _ _ (of-train (λ x. holdsSection (locatedAt (s .sidings) x) i)))
+
+  holders-same : (i : ℕ) → holdersOf u i ≡ holdersOf s i
+  holders-same i = ap (λ (b : Bool). sectionHolders (u .trains) (located u) i + ofBool b) (a .sections i)
+      ∙ ap (λ (n : ℕ). n + ofBool (possessed s i)) (section-same i)
 
   post-same : (p : ℕ) → postHolders (u .trains) (located u) p ≡ postHolders (s .trains) (located s) p
   post-same p =
@@ -109,7 +119,7 @@ module _ (s u : State) (a : Alike s u) where
         };
         each = λ t k. rw (a .train t (trains t k))
             (subst (TrainValid (trainOf s t)) (sym (a .logged)) (d .each t (trains t k)));
-        sections = λ i k. rw (section-same i) (d .sections i (posts i k));
+        sections = λ i k. subst (λ (n : ℕ). n ≤ 1) (sym (holders-same i)) (d .sections i (posts i k));
         posts = λ p k. rw (post-same p, a .tracks p (posts p k)) (d .posts p (posts p k));
         tracks = λ p t k kt. rw (a .sidings, a .train t (trains t kt), a .tracks p (posts p k))
             (d .tracks p t (posts p k) (trains t kt));
@@ -118,6 +128,7 @@ module _ (s u : State) (a : Alike s u) where
         away = λ t k. rw (a .sidings, a .train t (trains t k)) (d .away t (trains t k));
         distinct = λ t v kt kv. rw (a .train t (trains t kt), a .train v (trains v kv))
             (d .distinct t v (trains t kt) (trains v kv));
+        few-given = rw (a .given) (d .few-given);
       }
 
   code-same : (t : ℕ) → t < s .trains
@@ -137,13 +148,31 @@ module _ (s u : State) (a : Alike s u) where
       is-grantable table u t (record {
         asks = of-train (λ x. isAsked (x .status)) t k ∙ g .asks;
         section =
-            section-same _
-            ∙ of-train (λ x. sectionHolders (s .trains) (located s) (sectionOf (x .at .0) (nextOf x))) t k
+            holders-same _
+            ∙ of-train (λ x. holdersOf s (sectionOf (x .at .0) (nextOf x))) t k
             ∙ g .section;
         track = λ z. g .track (sym (free-same t next k below)
             ∙ ap (λ (x : Train). freeTrack u t (nextOf x)) (sym (a .train t k)) ∙ z);
         bit = ap (bitOf table) (code-same t k) ∙ g .bit;
       })
+
+-- the checks of an LA and of an LB, by what they read of a state
+abbrev lendingBy : ℕ → ℕ → ℕ → ℕ → Move → List Check
+lendingBy posts holders given logged m =
+    check unknownTrain (eqb (m .train .0) gangByte)
+    ∷ check wrongPost (eqb (m .to .0) (m .from .0 + 1) && ltb (m .to .0) posts)
+    ∷ check sectionTaken (eqb holders 0)
+    ∷ check twentyGiven (ltb given mostGiven)
+    ∷ check journalFull (leb (logged + mostLogged) journalLength)
+    ∷ []
+
+abbrev returnBy : ℕ → Bool → ℕ → Move → List Check
+returnBy posts held logged m =
+    check unknownTrain (eqb (m .train .0) gangByte)
+    ∷ check wrongPost (eqb (m .to .0) (m .from .0 + 1) && ltb (m .to .0) posts)
+    ∷ check noLocalRun held
+    ∷ check journalFull (leb (logged + mostLogged) journalLength)
+    ∷ []
 
 module _ (s u : State) (a : Alike s u) where
   valid-same : valid u ≡ valid s
@@ -157,8 +186,18 @@ module _ (s u : State) (a : Alike s u) where
       (λ e. rw (a .logged, a .train (m .train .0) (ltb-true (m .train .0) (s .trains) e))))
   content-same (Am m) = rw (a .trains) (check-same (check unknownTrain (knows s m)) _ _
       (λ e. rw (a .logged, a .train (m .train .0) (ltb-true (m .train .0) (s .trains) e))))
+  content-same (La m) =
+      ap (λ (n : ℕ). refusal (lendingBy n (holdersOf u (m .from .0)) (u .given) (u .logged) m)) (a .posts)
+      ∙ ap (λ (n : ℕ). refusal (lendingBy (s .posts) n (u .given) (u .logged) m)) (holders-same s u a (m .from .0))
+      ∙ ap (λ (n : ℕ). refusal (lendingBy (s .posts) (holdersOf s (m .from .0)) n (u .logged) m)) (a .given)
+      ∙ ap (λ (n : ℕ). refusal (lendingBy (s .posts) (holdersOf s (m .from .0)) (s .given) n m)) (a .logged)
+  content-same (Lb m) =
+      ap (λ (n : ℕ). refusal (returnBy n (possessed u (m .from .0)) (u .logged) m)) (a .posts)
+      ∙ ap (λ (b : Bool). refusal (returnBy (s .posts) b (u .logged) m)) (a .sections (m .from .0))
+      ∙ ap (λ (n : ℕ). refusal (returnBy (s .posts) (possessed s (m .from .0)) n m)) (a .logged)
   content-same (Fe m) = refl
   content-same (Afe m) = refl
+  content-same (Le m) = refl
   content-same (Refused n) = refl
 
   pub refusal-same : (table records : ℕ) (frame : List ℕ) (room : ℕ)
@@ -219,19 +258,47 @@ module _ (s u : State) (a : Alike s u) where
     train = λ v k. by-equality v t
         (λ q. rw q (changed-own u t y n ku ∙ e ∙ sym (changed-own s t x m ks)))
         (λ h. changed-other u t y n v h ∙ a .train v k ∙ sym (changed-other s t x m v h));
+    given = a .given;
+    sections = a .sections;
+    places = a .places;
   }
 
-  -- ---- a record logged alone
+  -- ---- other possessions and other counts
 
+  module _ (ps qs : List Bool) (given given′ logged logged′ : ℕ) where
+    abbrev before : State
+    before = stateWith s (s .fleet) ps given logged
+
+    abbrev after : State
+    after = stateWith u (u .fleet) qs given′ logged′
+
+    sections-alike : given′ ≡ given → logged′ ≡ logged → ((i : ℕ) → possessed after i ≡ possessed before i)
+        → length qs ≡ length ps → Alike before after
+    sections-alike e z same places = record {
+      posts = a .posts;
+      sidings = a .sidings;
+      trains = a .trains;
+      logged = z;
+      tracks = a .tracks;
+      train = a .train;
+      given = e;
+      sections = same;
+      places = places;
+    }
+
+  -- a section that is lent or given back
+  pub possession-alike : (i : ℕ) (held : Bool) (m n : ℕ) → n ≡ m
+      → Alike (withPossession s i held m) (withPossession u i held n)
+  possession-alike i held m n e = sections-alike _ _ _ _ _ _ e (a .logged)
+      (λ k. by-equality k i
+      (λ q. rw q (own-possessed u i held n ∙ rw (a .posts, a .places) (sym (own-possessed s i held m))))
+      (λ h. others-possessed u i held n k h ∙ a .sections k ∙ sym (others-possessed s i held m k h)))
+      (length-set (u .possessions) i held ∙ a .places ∙ sym (length-set (s .possessions) i held))
+
+  -- a record logged alone
   pub logged-alike : Alike (oneLogged s) (oneLogged u)
-  logged-alike = record {
-    posts = a .posts;
-    sidings = a .sidings;
-    trains = a .trains;
-    logged = ap (λ (n : ℕ). n + 1) (a .logged);
-    tracks = a .tracks;
-    train = a .train;
-  }
+  logged-alike =
+      sections-alike _ _ _ _ _ _ (a .given) (ap (λ (n : ℕ). n + 1) (a .logged)) (a .sections) (a .places)
 
 -- ---- the work
 

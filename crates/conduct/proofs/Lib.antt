@@ -1,5 +1,6 @@
 -- The claims on one frame and the further ones on runs, each file by its claim or by what it rests on.
 pub mod OneFrame
+pub mod LocalRuns
 pub mod TrackKept
 pub mod Alike
 pub mod Unread

@@ -39,14 +39,15 @@ module _ (table : List ℕ) where
     not-strange =
         not-by strangeState (not-given strangeState checks (omega arith)
         (and-both _ _ (valid-settled k)
-        (by-content s (λ cs. clear strangeState cs ≡ true) (λ m. refl) (λ m. refl) refl (readFrame frame))))
+        (by-content s (λ cs. clear strangeState cs ≡ true) (λ m. refl) (λ m. refl) (λ m. refl) (λ m. refl) refl
+        (readFrame frame))))
 
     not-full : answer s table j frame out .verdict ≢ RefusedBy journalFull
     not-full =
         let room : hasRoom s ≡ true = le-leb (s .logged + mostLogged) journalLength (room-settled k) in
         not-by journalFull (not-given journalFull checks (omega arith)
         (by-content s (λ cs. clear journalFull cs ≡ true) (λ m. and-both _ _ room refl) (λ m. and-both _ _ room refl)
-        refl (readFrame frame)))
+        (λ m. and-both _ _ room refl) (λ m. and-both _ _ room refl) refl (readFrame frame)))
 
   -- what holds of the answer to each frame that finds a settled state holds of every exchange of a run from one
   each-exchange : (P : Verdict → Type 0)

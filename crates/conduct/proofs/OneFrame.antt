@@ -14,7 +14,7 @@ use Rattle.completion.proofs.Rule.{bit-completable, completable-bit}
 use Rattle.rules.specs.State.{lineOf, reached, nextMove}
 use Rattle.rules.specs.Valid.{valid}
 use Rattle.rules.specs.Granting.{oldest, Work, granted, proceed, grants, granting}
-use Rattle.rules.specs.Answer.{accepted, answer}
+use Rattle.rules.specs.Answer.{accepted, runsGranting, answer}
 use Rattle.rules.proofs.Validity.{Distinct, valid-facts, next-post-below, asked-short}
 use Rattle.rules.proofs.FreeTrack.{free-fewer, fewer-free}
 use Rattle.rules.proofs.Changes.{distinct-change, grantable-facts, is-grantable}
@@ -24,7 +24,7 @@ use Rattle.rules.proofs.Grants.{askedCount, Turn, granted-fewer, granted-place,
 use Rattle.rules.proofs.Grants.{settled-next}
 use Rattle.rules.proofs.Settling.{settled-settles}
 use Rattle.rules.proofs.Acceptance.{by-verdict, refusal-leaves, paired, accepted-facts, accepted-valid}
-use Rattle.rules.proofs.Acceptance.{accepted-nobody}
+use Rattle.rules.proofs.Acceptance.{runs-nobody, accepted-nobody}
 use Rattle.assurance.specs.Types.{Fe, Record, State, Sent}
 use Rattle.conduct.specs.OneFrame.{ValidKept, RefusalsChangeNothing, AtMostSix, BitInTable, TrackFound}
 use Rattle.conduct.specs.OneFrame.{NoneLeft, First, Granting, done, next, ExactGrant, OldestFirst, RightGrant}
@@ -50,11 +50,18 @@ pub bit-in-table : BitInTable
 bit-in-table s t e k asks = moved-code s (valid-facts s e) t k asks
 
 none-left : (s : State) (table : List ℕ) (journal : List Record) (frame out : List ℕ) (n : ℕ)
+    → runsGranting (readFrame frame) ≡ true
     → answer s table journal frame out .verdict ≡ Sent n → NoneLeft table (answer s table journal frame out .state)
-none-left s table journal frame out n =
+none-left s table journal frame out n runs =
     by-verdict s table journal frame out (λ a. a .verdict ≡ Sent n → NoneLeft table (a .state))
     (λ k q e. absurd (let z : _≡_ {A = ℕ} 0 1 = cc in omega arith))
-    (λ p e. accepted-nobody table s (readFrame frame) (p .message) .barred)
+    (λ p e. runs-nobody table s (readFrame frame) (p .message) runs .barred)
+
+none-more : (s : State) (table : List ℕ) (journal : List Record) (frame out : List ℕ)
+    → NoneLeft table s → NoneLeft table (answer s table journal frame out .state)
+none-more s table journal frame out before =
+    by-verdict s table journal frame out (λ a. NoneLeft table (a .state)) (λ k q. before)
+    (λ p. accepted-nobody table s (readFrame frame) (p .message) (record { barred = before }) .barred)
 
 -- ---- the chain of grants
 
@@ -96,6 +103,7 @@ exact-grant = record {
   chain = λ table w e.
       chain table (w .state .trains) w (valid-facts (w .state) e .distinct) (few-asked table w);
   none-left = none-left;
+  none-more = none-more;
 }
 
 pub oldest-first : OldestFirst

@@ -1,7 +1,7 @@
 -- What an accepted frame is answered by: what `Serving` says of the granting, told of the state before the frame.
 use mathlib.Core.Path.{_≡_, refl, sym, ap, _∙_}
 use mathlib.Core.Logic.{inl, inr}
-use mathlib.Core.Bool.{true, false≢true}
+use mathlib.Core.Bool.{true, false, false≢true}
 use mathlib.Core.List.{List}
 use Prim.Native.Nat.{ℕ, zero, suc, _+_, _*_, _<_}
 use native.Mathlib.Omega.{arith}
@@ -13,14 +13,15 @@ use Rattle.frame.specs.Frame.{readFrame}
 use Rattle.journal.specs.Journal.{recordOf, withoutTrack}
 use Rattle.rules.specs.declared.state.Status.the-variants.{Asked}
 use Rattle.rules.specs.declared.state.Train.{Train}
-use Rattle.rules.specs.State.{isAsked, trainOf, nextMove, withStatus, arrivedNext}
-use Rattle.rules.specs.Granting.{Work, settled}
+use Rattle.rules.specs.State.{isAsked, trainOf, nextMove, withStatus, arrivedNext, withPossession}
+use Rattle.rules.specs.Granting.{Work, begun, settled}
 use Rattle.rules.specs.Answer.{taken, declined, accepted, framesOf, Answer, answer}
 use Rattle.rules.proofs.Trains.{changed-own, changed-other}
 use Rattle.rules.proofs.Changes.{short-place}
 use Rattle.rules.proofs.Frames.{frames-length}
-use Rattle.rules.proofs.Acceptance.{NextMove, Taken, request, arrival, by-verdict, accepted-facts}
-use Rattle.assurance.specs.Types.{Move, Message, Fa, Fe, Am, Record, State, Sent}
+use Rattle.rules.proofs.Acceptance.{NextMove, Taken, request, arrival, lending, return, by-verdict}
+use Rattle.rules.proofs.Acceptance.{accepted-facts}
+use Rattle.assurance.specs.Types.{Move, Message, Fa, Fe, Am, Lb, Record, State, Sent}
 use Rattle.assurance.specs.Run.{newRecords}
 use Rattle.assurance.specs.Observer.{readFrames}
 use Rattle.conduct.specs.Replies.{Awaited, Authorities, Reply, OnlyAdded, Replies}
@@ -106,6 +107,10 @@ accepted-reply : (table : List ℕ) (s : State) (a : Message) → Taken s a → 
 unfolding accepted
 accepted-reply table s a (request m n free idle) = asking-reply s m n table
 accepted-reply table s a (arrival m n runs) = arriving-reply s m n table
+accepted-reply table s a (lending m n free few) = replies.lent m
+accepted-reply table s a (return m n held) = replies.returned m _ (authorities s _ (Lb m) _
+    (settled-serves table (begun (withPossession s (m .from .0) false (s .given)) (recordOf (Lb m))) (begins _ _))
+    (λ q known next waits. record { known = known; next = next; waits = inl waits }))
 
 -- ---- the claims
 

@@ -2,7 +2,7 @@
 -- turns.
 use mathlib.Core.Path.{_≡_, refl, sym, ap, subst, _∙_}
 use mathlib.Core.Logic.{⊎-elim}
-use mathlib.Core.Bool.{_&&_}
+use mathlib.Core.Bool.{false, _&&_}
 use mathlib.Core.List.{List, [], _∷_, _++_, append-assoc}
 use Prim.Native.Nat.{ℕ, suc, _+_, _≤_}
 use native.Mathlib.Omega.{arith}
@@ -20,21 +20,22 @@ use Rattle.journal.specs.Journal.{journalLength, recordOf, recordOn}
 use Rattle.completion.specs.Table.{filled}
 use Rattle.rules.specs.declared.state.Status.the-variants.{Asked}
 use Rattle.rules.specs.State.{isAsked, nextOf, trackAt, trainOf, lineOf, trackHeld, nextMove, withStatus, arrivedNext}
-use Rattle.rules.specs.Granting.{Work, granted, settled, grantRecord}
+use Rattle.rules.specs.State.{withPossession}
+use Rattle.rules.specs.Granting.{Work, begun, granted, settled, grantRecord}
 use Rattle.rules.specs.Answer.{taken, declined, accepted, answer}
 use Rattle.rules.specs.Opening.{openedState}
 use Rattle.rules.proofs.Trains.{route-of, changed-line}
 use Rattle.rules.proofs.Grants.{Turn, grants-keep, granted-line}
-use Rattle.rules.proofs.Acceptance.{Taken, request, arrival, by-verdict, accepted-facts}
-use Rattle.assurance.specs.Types.{Line, Move, Message, Fa, Fe, Afe, Am, Record, State}
+use Rattle.rules.proofs.Acceptance.{Taken, request, arrival, lending, return, by-verdict, accepted-facts}
+use Rattle.assurance.specs.Types.{Line, Move, Message, Fa, Fe, Afe, Am, La, Le, Lb, Record, State}
 use Rattle.assurance.specs.Run.{newRecords, run}
 use Rattle.assurance.specs.Observer.{Observer, atOpening, noteFrame, noteAnswers, answersOf, observe, locatedTold}
 use Rattle.assurance.specs.Tracks.{Tracks, tracksAtOpening, trackFrame, trackRecords, observeTracks}
 use Rattle.conduct.specs.RightTrack.{heldTold, dueRecord, OnTrack, RightTrack}
 use Rattle.assurance.proofs.Invariant.{Invariant}
 use Rattle.assurance.proofs.Logging.{split-last, new-logged}
-use Rattle.assurance.proofs.Steps.{authorised, request-kept, arrival-kept}
-use Rattle.assurance.proofs.Accept.{Room, Worked, granted-worked, begun-worked}
+use Rattle.assurance.proofs.Steps.{authorised, request-kept, arrival-kept, return-kept}
+use Rattle.assurance.proofs.Accept.{Room, Worked, not-fe, granted-worked, begun-worked}
 use Rattle.assurance.proofs.Exchanged.{answers-back}
 use Rattle.assurance.proofs.Tracking.{TracksAgree, Tells, granted-tells, asked-tells, arrived-tells}
 use Rattle.assurance.proofs.Opened.{opening-accepted, opened-line}
@@ -126,20 +127,18 @@ module _ (table : List ℕ) (c : ℕ) (j : List Record) (o : Observer) (long : j
 
   declined-given : (m : Move) (w : Work) → Platformed w
       → GivenOnTrack l o k (declined m w .sent) (declined m w .logged)
+  unfolding recordOf
   declined-given m w h = by-cases (isAsked (trainOf (w .state) (m .train .0) .status))
       (λ e. rw e (on-track-more l o k (w .sent) (w .logged) (Afe m) (recordOf (Afe m)) (h .paired) (h .given)
-      (λ q z. absurd (other q z))))
+      (λ q z. absurd (not-fe (Afe m) (λ u. refl) q z))))
       (λ e. rw e (h .given))
-    where
-      other : (q : Move) → Fe q ≡ Afe m → ⊥
-      other q z = let y : _≡_ {A = ℕ} 0 1 = cc in omega arith
 
 module _ (table : List ℕ) (s : State) (j : List Record) (o : Observer) (inv : Invariant table s j o) (k : Tracks)
     (h : TracksAgree s k) where
   accepted-given : (a : Message) → Taken s a
       → let w = accepted table s a in
       GivenOnTrack (lineOf s) (noteFrame o a) (trackFrame (lineOf s) o k a) (w .sent) (w .logged)
-  unfolding accepted noteAnswers
+  unfolding accepted noteAnswers recordOf trackRecords
   accepted-given a (request m q free idle) =
       let w = taken s (Fa m) (withStatus (trainOf s (m .train .0)) (Asked (s .logged))) in
       declined-given table (s .logged) j (noteFrame o (Fa m)) (inv .room) (lineOf s) k m (settled table w)
@@ -160,6 +159,19 @@ module _ (table : List ℕ) (s : State) (j : List Record) (o : Observer) (inv : 
         tells = arrived-tells s k h m q table o (authorised table s j o inv m q runs);
         paired = refl;
         given = on-track-none (lineOf s) (noteFrame o (Am m)) _ _;
+      }) .given
+  accepted-given a (lending m q free few) =
+      on-track-more (lineOf s) o k [] (recordOf (La m) ∷ []) (Le m) (recordOf (Le m)) refl
+      (on-track-none (lineOf s) o k _) (λ n z. absurd (not-fe (Le m) (λ u. refl) n z))
+  accepted-given a (return m q held) =
+      let w = begun (withPossession s (m .from .0) false (s .given)) (recordOf (Lb m)) in
+      settled-platformed table (s .logged) j (noteFrame o (Lb m)) (inv .room) (lineOf s) k w (record {
+        worked = begun-worked table (s .logged) j (noteFrame o (Lb m)) (inv .room) _ _ refl (q .space)
+            (return-kept table s j o inv m (q .on) (omega (arith, q .space)) held);
+        line = refl;
+        tells = record { each = h .each };
+        paired = refl;
+        given = on-track-none (lineOf s) (noteFrame o (Lb m)) _ _;
       }) .given
 
   answer-given : (frame out : List ℕ)

@@ -9,8 +9,9 @@ use Rattle.common.proofs.Tests.{clash, by-cases, by-equality}
 use Rattle.line.specs.Holding.{Whereabouts, holdsPost}
 use Rattle.frame.specs.Frame.{readFrame}
 use Rattle.rules.specs.declared.state.Status.the-variants.{Asked}
-use Rattle.rules.specs.State.{isAsked, locatedAt, trackAt, trainOf, located, withStatus, arrivedNext}
-use Rattle.rules.specs.Granting.{Work, granting, granted, settled}
+use Rattle.journal.specs.Journal.{recordOf}
+use Rattle.rules.specs.State.{isAsked, locatedAt, trackAt, trainOf, located, withStatus, arrivedNext, withPossession}
+use Rattle.rules.specs.Granting.{Work, begun, granting, granted, settled}
 use Rattle.rules.specs.Answer.{taken, declined, accepted}
 use Rattle.rules.proofs.Trains.{idle-ahead, changed-own, changed-other}
 use Rattle.rules.proofs.Validity.{Consistent}
@@ -18,8 +19,8 @@ use Rattle.rules.proofs.Changes.{grantable-facts, short-place, valid-request, v
 use Rattle.rules.proofs.Changes.{asker-stands}
 use Rattle.rules.proofs.Grants.{Turn, grants-keep, granted-place}
 use Rattle.rules.proofs.Settling.{settled-settles, granted-valid}
-use Rattle.rules.proofs.Acceptance.{Taken, request, arrival, by-verdict}
-use Rattle.assurance.specs.Types.{Line, Move, Message, Fa, Am, State}
+use Rattle.rules.proofs.Acceptance.{Taken, request, arrival, lending, return, by-verdict, return-begins}
+use Rattle.assurance.specs.Types.{Line, Move, Message, Fa, Am, Lb, State}
 use Rattle.conduct.specs.OneFrame.{TrackKept}
 
 -- where a train of s and of v holds the same post, it is on the same track
@@ -111,6 +112,12 @@ accepted-kept table s d a (arrival m n runs) =
     (λ e.
     let still : holdsPost (located (w .state) u) p ≡ true = rw (other u e) held in
     g .keeps u p still .1 ∙ rw (other u e))
+-- a gang holds no track
+accepted-kept table s d a (lending m n free few) = λ u p held after. refl
+accepted-kept table s d a (return m n back) =
+    let w = begun (withPossession s (m .from .0) false (s .given)) (recordOf (Lb m)) in
+    let k = return-begins s d (m .from .0) in
+    λ u p held after. settled-gives table w (k .valid-state) .keeps u p held .1
 
 pub track-kept : TrackKept
 track-kept s table journal frame out t p =

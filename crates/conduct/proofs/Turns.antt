@@ -13,27 +13,27 @@ use Rattle.common.specs.Update.{update}
 use Rattle.common.proofs.Tests.{clash, by-cases}
 use Rattle.line.specs.Book.{lineIn}
 use Rattle.frame.specs.Frame.{readFrame}
-use Rattle.journal.specs.Journal.{journalLength}
+use Rattle.journal.specs.Journal.{journalLength, recordOf}
 use Rattle.completion.specs.Table.{filled}
 use Rattle.rules.specs.declared.state.Status.the-variants.{Asked}
-use Rattle.rules.specs.State.{isAsked, trainOf, lineOf, nextMove, withStatus, arrivedNext}
-use Rattle.rules.specs.Granting.{Work, granted, settled, granting}
+use Rattle.rules.specs.State.{isAsked, trainOf, lineOf, nextMove, withStatus, arrivedNext, withPossession}
+use Rattle.rules.specs.Granting.{Work, begun, granted, settled, granting}
 use Rattle.rules.specs.Answer.{taken, declined, accepted, Answer, answer}
 use Rattle.rules.specs.Opening.{openedState}
 use Rattle.rules.proofs.Trains.{changed-line}
 use Rattle.rules.proofs.Changes.{grantable-facts, short-place}
 use Rattle.rules.proofs.Oldest.{earlier}
 use Rattle.rules.proofs.Grants.{Turn, grants-keep, granted-place, granted-line}
-use Rattle.rules.proofs.Acceptance.{Taken, request, arrival, by-verdict, accepted-facts}
-use Rattle.assurance.specs.Types.{Line, Move, Message, Fa, Fe, Afe, Am, Record, State}
+use Rattle.rules.proofs.Acceptance.{Taken, request, arrival, lending, return, by-verdict, accepted-facts}
+use Rattle.assurance.specs.Types.{Line, Move, Message, Fa, Fe, Afe, Am, Le, Lb, Record, State}
 use Rattle.assurance.specs.Run.{Input, run}
 use Rattle.assurance.specs.Observer.{Observer, atOpening, noteFrame, noteAnswers, answersOf, observe}
 use Rattle.conduct.specs.Turns.{Turns, turnBy, turnIn, turnsFrom, turns, InTurn, TurnByTurn}
 use Rattle.assurance.proofs.Invariant.{Invariant}
 use Rattle.conduct.proofs.Order.{InOrder, no-more-asked, asks-last}
 use Rattle.assurance.proofs.Logging.{split-last}
-use Rattle.assurance.proofs.Steps.{request-kept, arrival-kept}
-use Rattle.assurance.proofs.Accept.{Room, Worked, granted-worked, begun-worked}
+use Rattle.assurance.proofs.Steps.{request-kept, arrival-kept, return-kept}
+use Rattle.assurance.proofs.Accept.{Room, Worked, not-fe, granted-worked, begun-worked}
 use Rattle.assurance.proofs.Exchanged.{Settled, answers-back, answer-kept}
 use Rattle.assurance.proofs.Opened.{opening-accepted, opened-line, opened-settled}
 use Rattle.assurance.proofs.Told.{at-post, asked-told, next-told}
@@ -107,21 +107,23 @@ record Kept (l : Line) (n : ℕ) (k : Turns) (o : Observer) (w : Work) : Type 0 
 
 declined-kept : (table : List ℕ) (c : ℕ) (j : List Record) (o : Observer) (long : journalLength ≤ length j) (l : Line)
     (n : ℕ) (k : Turns) (m : Move) (w : Work) → Turned table c j o long l n k w → Kept l n k o (declined m w)
+unfolding recordOf
 declined-kept table c j o long l n k m w h = by-cases (isAsked (trainOf (w .state) (m .train .0) .status))
     (λ e. rw e (record {
       ordered = record { before = h .ordered .before; order = h .ordered .order };
-      given = given-more l k o (w .sent) (Afe m) (h .given) (λ q z. absurd (other q z));
+      given = given-more l k o (w .sent) (Afe m) (h .given) (λ q z. absurd (not-fe (Afe m) (λ u. refl) q z));
     }))
     (λ e. rw e (record { ordered = h .ordered; given = h .given }))
-  where
-    other : (q : Move) → Fe q ≡ Afe m → ⊥
-    other q z = let y : _≡_ {A = ℕ} 0 1 = cc in omega arith
 
 module _ (table : List ℕ) (s : State) (j : List Record) (o : Observer) (inv : Invariant table s j o) (n : ℕ) (k : Turns)
     (h : InOrder s n k) where
+  -- a frame that is no request leaves the order as it was
+  later : InOrder s (n + 1) k
+  later = record { before = λ u ku e. omega (arith, h .before u ku e); order = h .order }
+
   accepted-turned : (a : Message) → Taken s a
       → Kept (lineOf s) (n + 1) (turnBy n k a) (noteFrame o a) (accepted table s a)
-  unfolding accepted noteAnswers
+  unfolding accepted noteAnswers recordOf
   accepted-turned a (request m q free idle) =
       let t = m .train .0 in
       let x = withStatus (trainOf s t) (Asked (s .logged)) in
@@ -139,8 +141,6 @@ module _ (table : List ℕ) (s : State) (j : List Record) (o : Observer) (inv : 
       let t = m .train .0 in
       let x = arrivedNext (s .sidings) (trainOf s t) in
       let w = taken s (Am m) x in
-      let later : InOrder s (n + 1) k =
-      record { before = λ u ku e. omega (arith, h .before u ku e); order = h .order } in
       let v =
       settled-turned table (s .logged) j (noteFrame o (Am m)) (inv .room) (lineOf s) (n + 1) k w (record {
         worked = begun-worked table (s .logged) j (noteFrame o (Am m)) (inv .room) _ _ refl (q .space)
@@ -148,6 +148,22 @@ module _ (table : List ℕ) (s : State) (j : List Record) (o : Observer) (inv : 
         line = changed-line s t x (s .logged + 1) refl;
         ordered = no-more-asked s t x (s .logged + 1) (n + 1) k (short-place s t (q .short)) refl later;
         given = given-none (lineOf s) k (noteFrame o (Am m));
+      }) in
+      record { ordered = v .ordered; given = v .given }
+  accepted-turned a (lending m q free few) = record {
+    ordered = record { before = later .before; order = later .order };
+    given = given-more (lineOf s) k o [] (Le m) (given-none (lineOf s) k o)
+        (λ r z. absurd (not-fe (Le m) (λ u. refl) r z));
+  }
+  accepted-turned a (return m q held) =
+      let w = begun (withPossession s (m .from .0) false (s .given)) (recordOf (Lb m)) in
+      let v =
+      settled-turned table (s .logged) j (noteFrame o (Lb m)) (inv .room) (lineOf s) (n + 1) k w (record {
+        worked = begun-worked table (s .logged) j (noteFrame o (Lb m)) (inv .room) _ _ refl (q .space)
+            (return-kept table s j o inv m (q .on) (omega (arith, q .space)) held);
+        line = refl;
+        ordered = record { before = later .before; order = later .order };
+        given = given-none (lineOf s) k (noteFrame o (Lb m));
       }) in
       record { ordered = v .ordered; given = v .given }
 

@@ -1,10 +1,12 @@
 -- The claims of `specs/Unread.antt`, proved over the laws of alike states.
 use mathlib.Core.Path.{_≡_, refl, sym, ap, subst, _∙_}
 use mathlib.Core.Logic.{_≢_}
+use mathlib.Core.Bool.{Bool, true, false}
 use mathlib.Core.List.{List}
-use Prim.Native.Nat.{ℕ, _+_, _<_}
+use Prim.Native.Nat.{ℕ, _+_, _≤_, _<_}
 use native.Mathlib.Omega.{arith}
-use lib.ListN.{length, length-set}
+use lib.ListN.{length, set, getD, length-set}
+use lib.Seq.{getD-set-other}
 use Rattle.common.specs.Check.{refusal, unlessRefused}
 use Rattle.common.proofs.Tests.{by-cases, by-equality}
 use Rattle.common.proofs.Check.{refuses}
@@ -12,39 +14,42 @@ use Rattle.frame.specs.Frame.{moveIn, readFrame}
 use Rattle.journal.specs.Journal.{recordOf}
 use Rattle.rules.specs.declared.state.Train.{Train}
 use Rattle.rules.specs.declared.state.Status.the-variants.{Asked}
-use Rattle.rules.specs.State.{isAsked, trainOf, withStatus, arrivedNext, oneLogged}
-use Rattle.rules.specs.Granting.{Work, sends, grants, settled}
+use Rattle.rules.specs.State.{isAsked, trainOf, withStatus, arrivedNext, stateWith, withPossession, oneLogged}
+use Rattle.rules.specs.Granting.{Work, begun, sends, grants, settled}
 use Rattle.rules.specs.Answer.{frameChecks, taken, declined, accepted, answered, refused, answer}
 use Rattle.rules.proofs.Trains.{changed, changed-other, changed-each}
 use Rattle.rules.proofs.Validity.{Consistent}
 use Rattle.rules.proofs.Changes.{short-place, valid-request, valid-arrival}
 use Rattle.rules.proofs.Grants.{grants-keep, granted-place}
 use Rattle.rules.proofs.Settling.{settled-settles}
-use Rattle.rules.proofs.Acceptance.{NextMove, Taken, request, arrival, frame-passed, by-verdict}
-use Rattle.assurance.specs.Types.{Line, Move, Message, Fa, Afe, Am, Record, State}
+use Rattle.rules.proofs.Acceptance.{NextMove, Taken, request, arrival, lending, return, frame-passed, by-verdict}
+use Rattle.rules.proofs.Acceptance.{return-begins}
+use Rattle.assurance.specs.Types.{Line, Move, Message, Fa, Afe, Am, Lb, Record, State}
 use Rattle.conduct.specs.Unread.{Alike, SameAnswer, Unread, Kept, LeftAlone}
-use Rattle.conduct.proofs.Alike.{SameWork, refusal-same, changed-alike, logged-alike, grants-same}
+use Rattle.conduct.proofs.Alike.{SameWork, refusal-same, changed-alike, possession-alike, logged-alike}
+use Rattle.conduct.proofs.Alike.{grants-same}
 
 -- ---- the places are not read
 
--- the frame's own change of its train's record, and the granting
-module _ (table : List ℕ) (s u : State) (a : Alike s u) (b : Message) (x y : Train)
-    (same : y ≡ x) (v : Consistent (taken s b x .state))
-    (known : moveIn b .train .0 < s .trains)
-    (short : trainOf s (moveIn b .train .0) .at .0 ≢ trainOf s (moveIn b .train .0) .route .end .0) where
-  taken-same : SameWork (taken s b x) (taken u b y)
-  taken-same = record {
-    state = changed-alike s u a (moveIn b .train .0) x y _ _ (short-place s (moveIn b .train .0) short)
-        (short-place u (moveIn b .train .0) (rw (a .train (moveIn b .train .0) known) short))
-        same (ap (λ (n : ℕ). n + 1) (a .logged));
-    logged = refl;
-    sent = refl;
-  }
+-- the granting
+settled-same : (table : List ℕ) (w v : Work) → Consistent (w .state) → SameWork w v
+    → SameWork (settled table w) (settled table v)
+settled-same table w v d k =
+    subst (λ (n : ℕ). SameWork (settled table w) (grants table n v)) (sym (k .state .trains))
+    (grants-same table (w .state .trains) w v d k)
 
-  settled-same : SameWork (settled table (taken s b x)) (settled table (taken u b y))
-  settled-same = subst
-      (λ (n : ℕ). SameWork (settled table (taken s b x)) (grants table n (taken u b y))) (sym (a .trains))
-      (grants-same table (s .trains) (taken s b x) (taken u b y) v taken-same)
+-- the frame's own change of its train's record
+taken-same : (s u : State) → Alike s u → (b : Message) (x y : Train) → y ≡ x
+    → let t = moveIn b .train .0 in
+    t < s .trains → trainOf s t .at .0 ≢ trainOf s t .route .end .0 → SameWork (taken s b x) (taken u b y)
+taken-same s u a b x y same known short =
+    let t = moveIn b .train .0 in
+    record {
+      state = changed-alike s u a t x y _ _ (short-place s t short) (short-place u t (rw (a .train t known) short))
+          same (ap (λ (n : ℕ). n + 1) (a .logged));
+      logged = refl;
+      sent = refl;
+    }
 
 -- "If the asker was not granted, its AFE comes last."
 declined-same : (m : Move) (w v : Work) → SameWork w v → m .train .0 < w .state .trains
@@ -68,14 +73,27 @@ accepted-same table s u a d b (request m n free idle) =
     let same : y ≡ x = rw (a .train (m .train .0) (n .known), a .logged) in
     let v = valid-request s d (m .train .0) (n .known) (n .short) idle in
     let line = settled-settles table (taken s (Fa m) x) .line in
-    declined-same m _ _ (settled-same table s u a (Fa m) x y same v (n .known) (n .short))
+    declined-same m _ _ (settled-same table _ _ v (taken-same s u a (Fa m) x y same (n .known) (n .short)))
     (rw (ap (λ (l : Line). l .trains) line) (n .known))
 accepted-same table s u a d b (arrival m n runs) =
     let x = arrivedNext (s .sidings) (trainOf s (m .train .0)) in
     let y = arrivedNext (u .sidings) (trainOf u (m .train .0)) in
     let same : y ≡ x = rw (a .sidings, a .train (m .train .0) (n .known)) in
     let v = valid-arrival s d (m .train .0) (n .known) (n .short) runs in
-    settled-same table s u a (Am m) x y same v (n .known) (n .short)
+    settled-same table _ _ v (taken-same s u a (Am m) x y same (n .known) (n .short))
+accepted-same table s u a d b (lending m n free few) = record {
+  state = possession-alike (oneLogged (oneLogged s)) (oneLogged (oneLogged u))
+      (logged-alike _ _ (logged-alike s u a)) (m .from .0) true _ _ (ap (λ (k : ℕ). k + 1) (a .given));
+  logged = refl;
+  sent = refl;
+}
+accepted-same table s u a d b (return m n held) =
+    let k = return-begins s d (m .from .0) in
+    settled-same table _ _ (k .valid-state) (record {
+      state = logged-alike _ _ (possession-alike s u a (m .from .0) false _ _ (a .given));
+      logged = refl;
+      sent = refl;
+    })
 
 answered-same : (s u : State) (journal : List Record) (out : List ℕ) (w v : Work) → Alike s u → SameWork w v
     → SameAnswer (answered (s .logged) journal out w) (answered (u .logged) journal out v)
@@ -114,10 +132,14 @@ kept-changed s v t x n k known place same = record {
   routes = λ i. changed-each v t x n (λ u y. y .route ≡ trainOf s u .route) place (same ∙ k .routes t) i
       (λ h. k .routes i);
   places = λ i h. changed-other v t x n i (λ e. omega arith) ∙ k .places i h;
+  sections = k .sections;
 }
 
-kept-logged : (s v : State) → Kept s v → Kept s (oneLogged v)
-kept-logged s v k = record {
+-- other possessions on the line, and another count
+kept-sections : (s v : State) (ps : List Bool) (given logged : ℕ) → Kept s v
+    → ((i : ℕ) → s .posts ≤ i + 1 → getD ps i false ≡ getD (v .possessions) i false)
+    → Kept s (stateWith v (v .fleet) ps given logged)
+kept-sections s v ps given logged k same = record {
   posts = k .posts;
   tracks = k .tracks;
   sidings = k .sidings;
@@ -125,7 +147,16 @@ kept-logged s v k = record {
   size = k .size;
   routes = k .routes;
   places = k .places;
+  sections = λ i h. same i h ∙ k .sections i h;
 }
+
+kept-possession : (s v : State) (i : ℕ) (held : Bool) (n : ℕ) → Kept s v → i + 1 < s .posts
+    → Kept s (withPossession v i held n)
+kept-possession s v i held n k on = kept-sections s v (set (v .possessions) i held) n (v .logged) k
+    (λ p h. getD-set-other (v .possessions) i p held false (λ e. omega arith))
+
+kept-logged : (s v : State) → Kept s v → Kept s (oneLogged v)
+kept-logged s v k = kept-sections s v (v .possessions) (v .given) (v .logged + 1) k (λ i h. refl)
 
 unchanged : (s : State) → Kept s s
 unchanged s = record {
@@ -136,6 +167,7 @@ unchanged s = record {
   size = refl;
   routes = λ t. refl;
   places = λ t h. refl;
+  sections = λ i h. refl;
 }
 
 settled-kept : (table : List ℕ) (s : State) (w : Work) → Kept s (w .state)
@@ -164,6 +196,11 @@ accepted-kept table s b (request m n free idle) =
 accepted-kept table s b (arrival m n runs) =
     settled-kept table s (taken s (Am m) (arrivedNext (s .sidings) (trainOf s (m .train .0))))
     (own-kept s m n _ refl)
+accepted-kept table s b (lending m n free few) =
+    kept-logged s _ (kept-logged s _ (kept-possession s s (m .from .0) true _ (unchanged s) (n .on)))
+accepted-kept table s b (return m n held) =
+    settled-kept table s (begun (withPossession s (m .from .0) false (s .given)) (recordOf (Lb m)))
+    (kept-logged s _ (kept-possession s s (m .from .0) false _ (unchanged s) (n .on)))
 
 pub left-alone : LeftAlone
 left-alone s table journal frame out = by-verdict s table journal frame out (λ a. Kept s (a .state))

@@ -25,7 +25,7 @@ use Rattle.conduct.specs.Waiting.{CouldGo, Waiting, NoNeedlessWait}
 use Rattle.assurance.proofs.Invariant.{Invariant}
 use Rattle.assurance.proofs.Exchanged.{Settled}
 use Rattle.assurance.proofs.Opened.{opening-accepted, opened-line}
-use Rattle.assurance.proofs.Told.{at-post, asked-told, next-told, reached-told, sections-told, posts-told}
+use Rattle.assurance.proofs.Told.{at-post, asked-told, next-told, reached-told, holders-told, posts-told}
 use Rattle.assurance.proofs.WholeList.{opened-run}
 
 -- ---- what the observer tells of a train that could go, and the test
@@ -46,7 +46,7 @@ module _ (table : List ℕ) (s : State) (j : List Record) (o : Observer) (inv : 
     could-granted c =
         let here = at-post table s j o inv t kt in
         let next = next-told table s j o inv t kt in
-        let holders = sections-told table s j o inv (sectionOf (x .at .0) (nextOf x)) in
+        let holders = holders-told table s j o inv (sectionOf (x .at .0) (nextOf x)) in
         is-grantable table s t (record {
           asks = sym (asked-told table s j o inv t kt) ∙ c .asks;
           section = sym holders ∙ rw (next, here) at (c .section);
@@ -61,10 +61,10 @@ module _ (table : List ℕ) (s : State) (j : List Record) (o : Observer) (inv : 
         let g = grantable-facts table s t e in
         let here = at-post table s j o inv t kt in
         let next = next-told table s j o inv t kt in
-        let holders = sections-told table s j o inv (sectionOf (x .at .0) (nextOf x)) in
+        let holders = holders-told table s j o inv (sectionOf (x .at .0) (nextOf x)) in
         record {
           asks = asked-told table s j o inv t kt ∙ g .asks;
-          section = rw (next, here, holders) (g .section);
+          section = rw (next, here) (holders ∙ g .section);
           post = rw (next, posts-told table s j o inv (nextOf x))
               (free-fewer s (inv .valid-state) (nextOf x) (below (g .asks)) t (g .track));
           completable = completable-cong (lineOf s) (moved (reached s) t) (moved (reachedTold (lineOf s) o) t)

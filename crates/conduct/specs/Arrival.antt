@@ -1,22 +1,26 @@
 -- Arrival in whatever order the frames come, told by the observer: which frames are accepted after a list, how many can
--- be in all, and that every train is at its end where none is accepted any more.
+-- be in all, and that every train is at its end where none is accepted any more, not counting a gang's LA.
 use mathlib.Core.Path.{_≡_}
-use mathlib.Core.Bool.{Bool, true, false}
+use mathlib.Core.Logic.{_≢_}
+use mathlib.Core.Bool.{Bool, true, false, not, _&&_}
 use mathlib.Core.List.{List, [], _∷_}
-use Prim.Native.Nat.{ℕ, _+_, _*_, _≤_}
+use Prim.Native.Nat.{ℕ, _+_, _*_, _≤_, _<_}
 use lib.ListN.{length}
 use Rattle.common.specs.Below.{ofBool, sumBelow}
 use Rattle.line.specs.Book.{lineIn}
-use Rattle.frame.specs.Frame.{moveOf, bytesOf}
+use Rattle.frame.specs.Frame.{moveOf, readFrame, bytesOf}
 use Rattle.completion.specs.Configuration.{distanceOf}
-use Rattle.rules.specs.Answer.{outLength}
+use Rattle.rules.specs.Valid.{mostGiven}
+use Rattle.rules.specs.Answer.{outLength, runsGranting}
+use Rattle.rules.specs.Refusals.{ofTrain, ofGang}
 use Rattle.rules.specs.Opening.{opening}
-use Rattle.assurance.specs.Types.{Line, Move, Message, Fa, Am, Record, Verdict, Sent, RefusedBy}
+use Rattle.assurance.specs.Types.{Line, Move, Message, Fa, Am, La, Lb, Record, Verdict, Sent, RefusedBy}
 use Rattle.assurance.specs.Run.{Input, Exchange, Ran, run, answerAfter}
 use Rattle.assurance.specs.Observer.{Claim, nothing, asked, authority, Observer, atOpening, observe, hasAsked}
-use Rattle.assurance.specs.Observer.{nextTold, travelledTold, reachedTold}
+use Rattle.assurance.specs.Observer.{holdersTold, nextTold, travelledTold, reachedTold}
 use Rattle.assurance.specs.WholeList.{Unhindered}
 use Rattle.conduct.specs.Homecoming.{AllAtEnds}
+use Rattle.conduct.specs.LocalRuns.{sectionMove}
 
 -- the frame that train t has before it: the AM of its authority, else the FA for its next section
 abbrev pub dueBy : Claim → Move → Message
@@ -25,42 +29,62 @@ dueBy asked m = Fa m
 dueBy (authority p q) m = Am m
 
 abbrev pub due : Line → Observer → ℕ → Message
-due l o t = dueBy (o t .claim) (moveOf t (o t .post) (nextTold l o t))
+due l o t = dueBy (o .train t .claim) (moveOf t (o .train t .post) (nextTold l o t))
 
--- the accepted frames among the exchanges
-abbrev pub isSent : Verdict → Bool
-isSent (RefusedBy n) = false
-isSent (Sent n) = true
+-- the frames that are accepted, where so many local runs were given
+pub data MayCome (l : Line) (o : Observer) (given : ℕ) : List ℕ → Type 0 where
+  -- a train that is short of its end and does not wait: its next frame. While any train is short of its end and no gang
+  -- has a section there is such a train (`onward` of `Assured`).
+  of-train : (u : Unhindered l o) → MayCome l o given (bytesOf (due l o (u .train)))
+  -- 02, card 4: "no train and no gang holds the section and fewer than 20 local runs were given since opening"
+  of-gang : (i : ℕ) → i + 1 < l .posts → holdersTold l o i ≡ 0 → given < mostGiven
+      → MayCome l o given (bytesOf (La (sectionMove i)))
+  -- a gang that has its section gives it back
+  of-return : (i : ℕ) → o .gangs i ≢ 0 → MayCome l o given (bytesOf (Lb (sectionMove i)))
 
-unfoldable pub acceptedFrames : List Exchange → ℕ
-acceptedFrames [] = 0
-acceptedFrames (e ∷ es) = ofBool (isSent (e .verdict)) + acceptedFrames es
+-- the accepted frames among the exchanges whose messages are of a kind
+abbrev pub isAccepted : (Message → Bool) → List ℕ → Verdict → Bool
+isAccepted kind frame (RefusedBy n) = false
+isAccepted kind frame (Sent n) = kind (readFrame frame)
+
+unfoldable pub acceptedFrames : (Message → Bool) → List Exchange → ℕ
+acceptedFrames kind [] = 0
+acceptedFrames kind (e ∷ es) = ofBool (isAccepted kind (e .frame) (e .verdict)) + acceptedFrames kind es
+
+-- of a gang's two messages LA asks for a section, and LB, which runs the granting, gives it back
+abbrev pub asksSection : Message → Bool
+asksSection a = ofGang a && not (runsGranting a)
+
+abbrev pub givesBack : Message → Bool
+givesBack a = ofGang a && runsGranting a
 
 -- those of train t so far: an AM for each post travelled, an FA for each authority and for one that it waits for
 abbrev pub framesTold : Line → Observer → ℕ → ℕ
-framesTold l o t = travelledTold l o t + (reachedTold l o t + ofBool (hasAsked (o t .claim)))
+framesTold l o t = travelledTold l o t + (reachedTold l o t + ofBool (hasAsked (o .train t .claim)))
 
 -- as many as there can be: an FA and an AM for each post of each train's way
 abbrev pub mostFrames : Line → ℕ
 mostFrames l = sumBelow (l .trains) (λ t. 2 * distanceOf l t)
 
 pub record Arrives (table : List ℕ) (l : Line) (r : Ran) (o : Observer) : Type 0 where
-  -- a train that is short of its end and does not wait: its next frame is accepted. While any train is short of its
-  -- end there is such a train (`onward` of `Assured`).
-  pub taken : (u : Unhindered l o) (out : List ℕ) → outLength ≤ length out
-      → (n : ℕ) × (answerAfter table r (bytesOf (due l o (u .train))) out .verdict ≡ Sent n)
-  -- no other frame is
+  -- these frames are accepted, and no other
+  pub taken : (frame out : List ℕ) → MayCome l o (acceptedFrames asksSection (r .exchanges)) frame
+      → outLength ≤ length out → (n : ℕ) × (answerAfter table r frame out .verdict ≡ Sent n)
   pub only : (frame out : List ℕ) (n : ℕ) → answerAfter table r frame out .verdict ≡ Sent n
-      → (u : Unhindered l o) × (frame ≡ bytesOf (due l o (u .train)))
-  -- where no frame is accepted any more, every train is at its end
-  pub ended : ((frame out : List ℕ) → outLength ≤ length out
+      → MayCome l o (acceptedFrames asksSection (r .exchanges)) frame
+  -- where no FA, AM or LB is accepted any more, every train is at its end
+  pub ended : ((frame out : List ℕ) → runsGranting (readFrame frame) ≡ true → outLength ≤ length out
       → (n : ℕ) × (answerAfter table r frame out .verdict ≡ RefusedBy n))
       → AllAtEnds l o
-  -- as many frames were accepted as it takes to bring the trains where they are, and never more than to their ends
-  pub frames : acceptedFrames (r .exchanges) ≡ sumBelow (l .trains) (framesTold l o)
-  pub bounded : acceptedFrames (r .exchanges) ≤ mostFrames l
+  -- as many frames of trains were accepted as it takes to bring them where they are, and never more than to their ends
+  pub frames : acceptedFrames ofTrain (r .exchanges) ≡ sumBelow (l .trains) (framesTold l o)
+  pub bounded : acceptedFrames ofTrain (r .exchanges) ≤ mostFrames l
   -- six trains over seven posts each
   pub few : mostFrames l ≤ 84
+  -- of the local runs given all came back but those that a gang still has, and they are at most twenty
+  pub local : acceptedFrames asksSection (r .exchanges)
+      ≡ acceptedFrames givesBack (r .exchanges) + sumBelow (l .posts) (o .gangs)
+  pub few-local : acceptedFrames asksSection (r .exchanges) ≤ mostGiven
 
 -- after every list of frames
 abbrev pub Arrival : Type 0

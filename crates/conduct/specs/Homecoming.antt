@@ -24,7 +24,7 @@ pub record NeverRefused : Type 0 where
 
 -- every train is at its end, as the observer tells it
 abbrev pub AllAtEnds : Line → Observer → Type 0
-AllAtEnds l o = (t : ℕ) → t < l .trains → o t .post ≡ routeOf l t .end .0
+AllAtEnds l o = (t : ℕ) → t < l .trains → o .train t .post ≡ routeOf l t .end .0
 
 -- after every list of frames some further list brings every train to its end
 abbrev pub Homecoming : Type 0

@@ -1,6 +1,7 @@
--- How the box conducts itself beside demand 3: `OneFrame`, `Unread` and `Replies` have claims on one frame for any
--- state and table, the files after them further ones on runs. Read in this order.
+-- How the box conducts itself beside demand 3: `OneFrame`, `LocalRuns`, `Unread` and `Replies` have claims on one frame
+-- for any state and table, the files after them further ones on runs. Read in this order.
 pub mod OneFrame
+pub mod LocalRuns
 pub mod Unread
 pub mod Replies
 pub mod Homecoming

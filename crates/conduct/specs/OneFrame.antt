@@ -7,14 +7,15 @@ use mathlib.Core.List.{List, _∷_, _++_}
 use Prim.Native.Nat.{ℕ, _≤_, _<_}
 use Rattle.line.specs.Route.{sectionOf}
 use Rattle.line.specs.Line.{tracksAt}
-use Rattle.line.specs.Holding.{holdsPost, postHolders, sectionHolders}
+use Rattle.line.specs.Holding.{holdsPost, postHolders}
+use Rattle.frame.specs.Frame.{readFrame}
 use Rattle.completion.specs.Configuration.{Completable, moved, codeBelow}
 use Rattle.completion.specs.Table.{codeCount, filled}
-use Rattle.rules.specs.State.{isAsked, askedAs, nextOf, trackAt, trainOf, lineOf, located, freeTrack, reached}
-use Rattle.rules.specs.State.{nextMove}
+use Rattle.rules.specs.State.{isAsked, askedAs, nextOf, trackAt, trainOf, lineOf, located, holdersOf, freeTrack}
+use Rattle.rules.specs.State.{reached, nextMove}
 use Rattle.rules.specs.Valid.{valid}
 use Rattle.rules.specs.Granting.{grantable, Work, granted, settled}
-use Rattle.rules.specs.Answer.{answer}
+use Rattle.rules.specs.Answer.{runsGranting, answer}
 use Rattle.assurance.specs.Types.{Message, Fe, Record, State, Sent, RefusedBy}
 
 -- a valid state stays valid
@@ -76,9 +77,13 @@ pub data Granting (table : List ℕ) : Work → Work → Type 0 where
 pub record ExactGrant : Type 0 where
   -- the granting of a frame is such a chain
   pub chain : (table : List ℕ) (w : Work) → valid (w .state) ≡ true → Granting table w (settled table w)
-  -- after an accepted frame none is left
+  -- after an accepted frame that runs the granting none is left
   pub none-left : (s : State) (table : List ℕ) (journal : List Record) (frame out : List ℕ) (n : ℕ)
+      → runsGranting (readFrame frame) ≡ true
       → answer s table journal frame out .verdict ≡ Sent n → NoneLeft table (answer s table journal frame out .state)
+  -- and after any other frame none is left where none was before
+  pub none-more : (s : State) (table : List ℕ) (journal : List Record) (frame out : List ℕ)
+      → NoneLeft table s → NoneLeft table (answer s table journal frame out .state)
 
 -- "crews can only foresee turns by order of asking": of the trains that can be granted the one that asked first gets
 -- the first authority
@@ -87,10 +92,10 @@ OldestFirst = (table : List ℕ) (w : Work) (t : ℕ) → valid (w .state) ≡ t
     → (others : List Message) × (settled table w .sent ≡ w .sent ++ Fe (nextMove (w .state) t) ∷ others)
 
 -- what demand 2 asks for an authority: the train asked, "the section is free, the next post has a free track, and all
--- trains could still reach their ends"
+-- trains could still reach their ends". 02, card 4: "A section held by a gang blocks authorities."
 pub record MayGo (s : State) (t : ℕ) : Type 0 where
   pub asks : isAsked (trainOf s t .status) ≡ true
-  pub section : sectionHolders (s .trains) (located s) (sectionOf (trainOf s t .at .0) (nextOf (trainOf s t))) ≡ 0
+  pub section : holdersOf s (sectionOf (trainOf s t .at .0) (nextOf (trainOf s t))) ≡ 0
   pub post : postHolders (s .trains) (located s) (nextOf (trainOf s t)) < tracksAt (lineOf s) (nextOf (trainOf s t))
   pub completable : Completable (lineOf s) (moved (reached s) t)
 

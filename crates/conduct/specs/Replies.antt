@@ -10,7 +10,8 @@ use Rattle.frame.specs.Frame.{readFrame}
 use Rattle.journal.specs.Journal.{recordOf, withoutTrack, Tracked}
 use Rattle.rules.specs.State.{isAsked, trainOf, lineOf, nextMove}
 use Rattle.rules.specs.Answer.{Answer, answer}
-use Rattle.assurance.specs.Types.{Move, Message, Fa, Fe, Afe, Am, Record, State, Verdict, Sent, RefusedBy}
+use Rattle.assurance.specs.Types.{Move, Message, Fa, Fe, Afe, Am, La, Le, Lb, Record, State, Verdict, Sent}
+use Rattle.assurance.specs.Types.{RefusedBy}
 use Rattle.assurance.specs.Run.{newRecords}
 use Rattle.assurance.specs.Observer.{readFrames}
 
@@ -34,6 +35,9 @@ pub data Reply (s : State) : Message → List Message → Type 0 where
   declined : (m : Move) (answers : List Message) → Authorities s (Fa m) answers
       → ((q : Move) → List·Memᴰ (Fe q) answers → q .train .0 ≢ m .train .0) → Reply s (Fa m) (answers ++ Afe m ∷ [])
   arrived : (m : Move) (answers : List Message) → Authorities s (Am m) answers → Reply s (Am m) answers
+  -- 02, card 4: "LA is answered by LE"; "LB .. starts the same granting as AM"
+  lent : (m : Move) → Reply s (La m) (Le m ∷ [])
+  returned : (m : Move) (answers : List Message) → Authorities s (Lb m) answers → Reply s (Lb m) answers
 
 -- the records of one exchange, but for the tracks: "An accepted frame is logged, then each answer in order of sending."
 abbrev pub loggedBy : Verdict → List ℕ → List ℕ → List Record

@@ -9,7 +9,8 @@ use Rattle.common.specs.Update.{update}
 use Rattle.line.specs.Book.{lineIn}
 use Rattle.frame.specs.Frame.{moveOf, readFrame}
 use Rattle.rules.specs.Opening.{opening}
-use Rattle.assurance.specs.Types.{Line, Move, Message, Fa, Fe, Afe, Am, Refused, Record, Verdict, Sent, RefusedBy}
+use Rattle.assurance.specs.Types.{Line, Move, Message, Fa, Fe, Afe, Am, La, Le, Lb, Refused, Record, Verdict}
+use Rattle.assurance.specs.Types.{Sent, RefusedBy}
 use Rattle.assurance.specs.Run.{Input, Exchange, run, answerAfter}
 use Rattle.assurance.specs.Observer.{Observer, atOpening, noteFrame, noteAnswers, answersOf, observe, nextTold}
 use Rattle.conduct.specs.Waiting.{CouldGo}
@@ -24,6 +25,9 @@ turnBy n k (Fa m) = update k (m .train .0) n
 turnBy n k (Fe m) = k
 turnBy n k (Afe m) = k
 turnBy n k (Am m) = k
+turnBy n k (La m) = k
+turnBy n k (Le m) = k
+turnBy n k (Lb m) = k
 turnBy n k (Refused c) = k
 
 -- one exchange: a refused frame changes nothing
@@ -44,7 +48,7 @@ turns es = turnsFrom 0 (λ t. 0) es
 -- asked after it: one that asked before it and still waits could not go.
 pub record InTurn (l : Line) (k : Turns) (o : Observer) (m : Move) : Type 0 where
   pub known : m .train .0 < l .trains
-  pub next : m ≡ moveOf (m .train .0) (o (m .train .0) .post) (nextTold l o (m .train .0))
+  pub next : m ≡ moveOf (m .train .0) (o .train (m .train .0) .post) (nextTold l o (m .train .0))
   pub could : CouldGo l o (m .train .0)
   pub first : (t : ℕ) → t < l .trains → t ≢ m .train .0 → CouldGo l o t → k (m .train .0) < k t
 

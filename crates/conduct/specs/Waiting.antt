@@ -5,18 +5,20 @@ use mathlib.Core.List.{List}
 use Prim.Native.Nat.{ℕ, _<_}
 use Rattle.line.specs.Route.{sectionOf}
 use Rattle.line.specs.Line.{tracksAt}
-use Rattle.line.specs.Holding.{postHolders, sectionHolders}
+use Rattle.line.specs.Holding.{postHolders}
 use Rattle.line.specs.Book.{lineIn}
 use Rattle.completion.specs.Configuration.{Completable, moved}
 use Rattle.rules.specs.Opening.{opening}
 use Rattle.assurance.specs.Types.{Line, Record}
 use Rattle.assurance.specs.Run.{Input, run}
-use Rattle.assurance.specs.Observer.{Observer, atOpening, observe, locatedTold, hasAsked, nextTold, reachedTold}
+use Rattle.assurance.specs.Observer.{Observer, atOpening, observe, locatedTold, holdersTold, hasAsked, nextTold}
+use Rattle.assurance.specs.Observer.{reachedTold}
 
--- train t has asked, "the section is free, the next post has a free track, and all trains could still reach their ends"
+-- train t has asked, "the section is free, the next post has a free track, and all trains could still reach their
+-- ends". 02, card 4: "A section held by a gang blocks authorities."
 pub record CouldGo (l : Line) (o : Observer) (t : ℕ) : Type 0 where
-  pub asks : hasAsked (o t .claim) ≡ true
-  pub section : sectionHolders (l .trains) (locatedTold l o) (sectionOf (o t .post) (nextTold l o t)) ≡ 0
+  pub asks : hasAsked (o .train t .claim) ≡ true
+  pub section : holdersTold l o (sectionOf (o .train t .post) (nextTold l o t)) ≡ 0
   pub post : postHolders (l .trains) (locatedTold l o) (nextTold l o t) < tracksAt l (nextTold l o t)
   pub completable : Completable l (moved (reachedTold l o) t)
 

@@ -1,0 +1,172 @@
+-- Runs under local responsibility: the claims of `specs/LocalRuns.antt`, by the cases of a frame that is taken.
+use mathlib.Core.Path.{_≡_, refl, ap, subst, _∙_}
+use mathlib.Core.Bool.{true, false}
+use mathlib.Core.List.{List, [], _∷_}
+use Prim.Native.Nat.{ℕ, _+_, _<_}
+use native.Mathlib.Omega.{arith}
+use lib.ListN.{length}
+use Rattle.common.specs.Below.{ofBool}
+use Rattle.common.proofs.Tests.{not-passed}
+use Rattle.common.proofs.Check.{accepts}
+use Rattle.frame.specs.Frame.{moveOf, readFrame, bytesOf}
+use Rattle.frame.specs.RoundTrip.{IsMessage}
+use Rattle.frame.proofs.RoundTrip.{round-trip}
+use Rattle.journal.specs.Journal.{recordOf}
+use Rattle.rules.specs.State.{possessed, withPossession}
+use Rattle.rules.specs.Granting.{Work, begun, settled}
+use Rattle.rules.specs.Answer.{gangByte, accepted, Answer, answered, refused, answer}
+use Rattle.rules.specs.Refusals.{Handed}
+use Rattle.rules.proofs.Changes.{grantable-facts}
+use Rattle.rules.proofs.Grants.{grants-keep}
+use Rattle.rules.proofs.Possessions.{others-possessed, lent-possessed, possessed-on, back-unpossessed}
+use Rattle.rules.proofs.Acceptance.{Section, Taken, request, arrival, lending, return, Passed, by-verdict}
+use Rattle.rules.proofs.Acceptance.{accepted-facts}
+use Rattle.rules.proofs.Taking.{taken-accepted}
+use Rattle.assurance.specs.Types.{Move, Message, La, Le, Lb, State, Sent}
+use Rattle.assurance.specs.Observer.{answersOf}
+use Rattle.conduct.specs.LocalRuns.{sectionMove, answerTo, WithRoom, MayLend, Changed, LocalRuns}
+use Rattle.assurance.proofs.Exchanged.{answers-back}
+
+-- ---- what is taken
+
+-- a message that is taken and names a section
+pub section-named : {s : State} (m : Move) → Section s m → m ≡ sectionMove (m .from .0)
+section-named m q =
+    ap (λ (n : ℕ). moveOf n (m .from .0) (m .to .0)) (q .gang)
+    ∙ ap (λ (n : ℕ). moveOf gangByte (m .from .0) n) (q .upper)
+
+pub taken-la : (s : State) (a : Message) (m : Move) → a ≡ La m → Taken s a → Section s m × MayLend s (m .from .0)
+taken-la s a m e (request n q free idle) = absurd (let z : _≡_ {A = ℕ} 0 1 = cc in omega arith)
+taken-la s a m e (arrival n q runs) = absurd (let z : _≡_ {A = ℕ} 0 1 = cc in omega arith)
+taken-la s a m e (lending n q free few) =
+    let same : n ≡ m = cc in
+    subst (λ (i : Move). Section s i × MayLend s (i .from .0)) same
+    (q, record { on = omega (arith, q .on); free = omega (arith, free); few = omega arith })
+taken-la s a m e (return n q held) = absurd (let z : _≡_ {A = ℕ} 0 1 = cc in omega arith)
+
+pub taken-lb : (s : State) (a : Message) (m : Move) → a ≡ Lb m → Taken s a
+    → Section s m × (possessed s (m .from .0) ≡ true)
+taken-lb s a m e (request n q free idle) = absurd (let z : _≡_ {A = ℕ} 0 1 = cc in omega arith)
+taken-lb s a m e (arrival n q runs) = absurd (let z : _≡_ {A = ℕ} 0 1 = cc in omega arith)
+taken-lb s a m e (lending n q free few) = absurd (let z : _≡_ {A = ℕ} 0 1 = cc in omega arith)
+taken-lb s a m e (return n q held) =
+    let same : n ≡ m = cc in
+    subst (λ (i : Move). Section s i × (possessed s (i .from .0) ≡ true)) same (q, held)
+
+-- ---- a frame handed in
+
+-- one that is taken is accepted
+taken-sent : (h : Handed) (a : Message) → WithRoom h → h .frame ≡ bytesOf a → Taken (h .state) a
+    → answerTo h .verdict ≡ Sent (length (accepted (h .table) (h .state) (readFrame (bytesOf a)) .sent))
+unfolding answer
+taken-sent h a r e t =
+    let p = r .prepared in
+    let w = accepted (h .table) (h .state) (readFrame (bytesOf a)) in
+    let passed = taken-accepted (h .state) (h .table) (h .journal) (h .out) (p .valid-state) (p .long-table)
+    (p .long-journal) (p .long-out) a t in
+    rw e (ap (λ (b : Answer). b .verdict)
+    (accepts (answered (h .state .logged) (h .journal) (h .out) w) (refused (h .state) (h .journal) (h .out)) passed))
+
+-- what holds of the answer to every frame that is taken holds of the answer to one that was not refused
+sent-taken : (h : Handed) (n : ℕ) (P : Answer → Type 0)
+    → (Passed (h .state) (h .table) (h .journal) (h .frame) (h .out)
+    → P (answered (h .state .logged) (h .journal) (h .out) (accepted (h .table) (h .state) (readFrame (h .frame)))))
+    → answerTo h .verdict ≡ Sent n → P (answerTo h)
+sent-taken h n P takes =
+    by-verdict (h .state) (h .table) (h .journal) (h .frame) (h .out) (λ a. a .verdict ≡ Sent n → P a)
+    (λ k q e. absurd (let z : _≡_ {A = ℕ} 0 1 = cc in omega arith))
+    (λ p e. takes p)
+
+-- ---- the sections
+
+-- the granting changes none
+pub settled-sections : (table : List ℕ) (w : Work) (i : ℕ)
+    → possessed (settled table w .state) i ≡ possessed (w .state) i
+settled-sections table w i =
+    grants-keep table (λ v. possessed (v .state) i ≡ possessed (w .state) i) (λ v t e f. e) (w .state .trains) w refl
+
+pub settled-given : (table : List ℕ) (w : Work) → settled table w .state .given ≡ w .state .given
+settled-given table w =
+    grants-keep table (λ v. v .state .given ≡ w .state .given) (λ v t e f. e) (w .state .trains) w refl
+
+lent-changed : (table : List ℕ) (s : State) (m : Move) → length (s .possessions) ≡ 7 → m .from .0 < 7
+    → m .from .0 + 1 < s .posts
+    → Changed s (m .from .0) true (s .given + 1) (accepted table s (La m) .state)
+unfolding accepted
+lent-changed table s m seven low on = record {
+  own = lent-possessed s (m .from .0) (s .given + 1) on (rw seven low);
+  others = others-possessed s (m .from .0) true (s .given + 1);
+  given = refl;
+}
+
+back-changed : (table : List ℕ) (s : State) (m : Move)
+    → Changed s (m .from .0) false (s .given) (accepted table s (Lb m) .state)
+unfolding accepted
+back-changed table s m =
+    let w = begun (withPossession s (m .from .0) false (s .given)) (recordOf (Lb m)) in
+    record {
+      own = settled-sections table w (m .from .0) ∙ back-unpossessed s (m .from .0) (s .given);
+      others = λ k h. settled-sections table w k ∙ others-possessed s (m .from .0) false (s .given) k h;
+      given = settled-given table w;
+    }
+
+-- ---- the claims
+
+la-message : (m : Move) → IsMessage (La m)
+unfolding IsMessage
+la-message m = tt
+
+one-answer : (table : List ℕ) (s : State) (m : Move) → accepted table s (La m) .sent ≡ Le m ∷ []
+unfolding accepted
+one-answer table s m = refl
+
+same-fleet : (table : List ℕ) (s : State) (m : Move) → accepted table s (La m) .state .fleet ≡ s .fleet
+unfolding accepted
+same-fleet table s m = refl
+
+lent : (h : Handed) (m : Move) (n : ℕ) → length (h .state .possessions) ≡ 7
+    → readFrame (h .frame) ≡ La m → answerTo h .verdict ≡ Sent n
+    → let a = answerTo h in
+    (answersOf (a .verdict) (a .out) ≡ Le m ∷ [])
+    × (Changed (h .state) (m .from .0) true (h .state .given + 1) (a .state))
+    × (a .state .fleet ≡ h .state .fleet)
+lent h m n seven e = sent-taken h n
+    (λ a. (answersOf (a .verdict) (a .out) ≡ Le m ∷ [])
+    × (Changed (h .state) (m .from .0) true (h .state .given + 1) (a .state))
+    × (a .state .fleet ≡ h .state .fleet))
+    (λ p.
+    let t = taken-la (h .state) (readFrame (h .frame)) m e (p .message) in
+    let facts = accepted-facts (h .table) (h .state) (p .valid-state) (readFrame (h .frame)) (p .message) in
+    let w = accepted (h .table) (h .state) (readFrame (h .frame)) in
+    let back = answers-back (w .sent) (h .out) (facts .messages) in
+    let low : m .from .0 < 7 = omega (arith, t .0 .on, p .valid-state .line .few-posts) in (
+      back ∙ rw e (one-answer (h .table) (h .state) m),
+      rw e (lent-changed (h .table) (h .state) m seven low (t .0 .on)),
+      rw e (same-fleet (h .table) (h .state) m),
+    ))
+
+pub local-runs : LocalRuns
+local-runs = record {
+  then = λ h i r e may.
+      let m = sectionMove i in
+      let q : Section (h .state) m = record { gang = refl; upper = refl; on = may .on; space = r .room } in
+      taken-sent h (La m) r e (lending m q (may .free) (may .few))
+      ∙ rw (round-trip .back (La m) (la-message m), one-answer (h .table) (h .state) m);
+  only = λ h m n e. sent-taken h n (λ a. (m ≡ sectionMove (m .from .0)) × MayLend (h .state) (m .from .0)) (λ p.
+      let t = taken-la (h .state) (readFrame (h .frame)) m e (p .message) in
+      (section-named m (t .0), t .1));
+  lent = lent;
+  blocks = λ s table t e. not-passed _ (λ g.
+      omega (arith, grantable-facts table s t g .section, ap ofBool e));
+  back = λ h i r e held.
+      let m = sectionMove i in
+      let on = possessed-on (h .state) i held in
+      let q : Section (h .state) m = record { gang = refl; upper = refl; on = on; space = r .room } in
+      (_, taken-sent h (Lb m) r e (return m q held));
+  back-only = λ h m n e.
+      sent-taken h n (λ a. (m ≡ sectionMove (m .from .0)) × (possessed (h .state) (m .from .0) ≡ true)) (λ p.
+      let t = taken-lb (h .state) (readFrame (h .frame)) m e (p .message) in
+      (section-named m (t .0), t .1));
+  freed = λ h m n e. sent-taken h n (λ a. Changed (h .state) (m .from .0) false (h .state .given) (a .state)) (λ p.
+      rw e (back-changed (h .table) (h .state) m));
+}
