@@ -45,10 +45,10 @@ lentRecord i = recordOf (am i i i)
 abbrev pub lending : List ℕ → Input
 lending frame = record { frame = frame; out = tabulate 50 lentByte }
 
--- book Z, a table without a bit and a journal of 178 records: train 0 asks
+-- book Z, a table without a bit and a journal of 238 records: train 0 asks
 abbrev pub withoutBits : Ran
 withoutBits =
-    ranWith (openedBlank bookZ .state) (replicate tableLength 0) (tabulate 178 lentRecord)
+    ranWith (openedBlank bookZ .state) (replicate tableLength 0) (tabulate 238 lentRecord)
     (lending (bytesOf (fa 0 0 1)) ∷ [])
 
 -- then a table with the bit of code 1 alone, by which train 0 may move on: train 1 asks, and reports an arrival
@@ -67,7 +67,7 @@ pub record Stores : Type 0 where
   pub journal : withBit1 .journal
       ≡ (recordOf (fa 0 0 1) ∷ recordOf (afe 0 0 1) ∷ recordOf (fa 1 3 2) ∷ recordOn 1 (fe 0 0 1)
       ∷ recordOf (afe 1 3 2) ∷ [])
-      ++ valuesFrom 5 173 lentRecord
+      ++ valuesFrom 5 233 lentRecord
 
 -- ---- a full post, a parked train, six trains
 
@@ -116,7 +116,7 @@ frameWith size version kind t p q = 0 ∷ size ∷ version ∷ kind ∷ t ∷ p 
 abbrev pub ranWithRecords : ℕ → List (List ℕ) → Ran
 ranWithRecords n frames =
     let s = openedBlank bookX .state in
-    ranFrom (stateWith s (s .fleet) n) (openedBlank bookX .table) frames
+    ranFrom (stateWith s (s .fleet) (s .possessions) (s .given) n) (openedBlank bookX .table) frames
 
 -- the verdict on a frame of a torn length, by the lengths of table, journal and out buffer
 abbrev pub shortStores : State → ℕ → ℕ → ℕ → Verdict
@@ -140,8 +140,8 @@ pub record Precedence : Type 0 where
       ≡ Sent 1 ∷ RefusedBy 9 ∷ RefusedBy 11 ∷ Sent 1 ∷ Sent 0 ∷ Sent 1 ∷ RefusedBy 9 ∷ RefusedBy 10 ∷ RefusedBy 12
       ∷ Sent 1 ∷ Sent 0 ∷ RefusedBy 8 ∷ RefusedBy 8 ∷ RefusedBy 8 ∷ []
   -- 13 with six records left and not with seven, and after 12
-  pub full : verdictsOf (ranWithRecords 170 (map bytesOf (fa 0 0 1 ∷ am 0 0 1 ∷ []))) ≡ RefusedBy 13 ∷ RefusedBy 12 ∷ []
-  pub room : verdictsOf (ranWithRecords 169 (bytesOf (fa 0 0 1) ∷ [])) ≡ Sent 1 ∷ []
+  pub full : verdictsOf (ranWithRecords 230 (map bytesOf (fa 0 0 1 ∷ am 0 0 1 ∷ []))) ≡ RefusedBy 13 ∷ RefusedBy 12 ∷ []
+  pub room : verdictsOf (ranWithRecords 229 (bytesOf (fa 0 0 1) ∷ [])) ≡ Sent 1 ∷ []
   -- 1 before 2, and 2 before 3, for each of the stores
   pub strange : shortStores emptyState 0 0 0 ≡ RefusedBy 1
   pub table : shortStores (openedBlank bookX .state) (tableLength - 1) journalLength outLength ≡ RefusedBy 2

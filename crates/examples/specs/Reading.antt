@@ -26,7 +26,7 @@ use Rattle.rules.specs.Valid.{consistent, valid}
 use Rattle.rules.specs.Granting.{grantable, oldest, grants}
 use Rattle.rules.specs.Answer.{outLength, accepted, framesOf, answer}
 use Rattle.rules.specs.Opening.{Opening, startTracks, openingWith, opening}
-use Rattle.assurance.specs.Types.{Message, Fa, Fe, Afe, Am, Record, State, Verdict}
+use Rattle.assurance.specs.Types.{Message, Fa, Fe, Afe, Am, La, Le, Lb, Record, State, Verdict}
 use Rattle.assurance.specs.Run.{Input, Ran, run}
 use Rattle.assurance.specs.Observer.{Seen, readFrames, answersOf, atOpening, noteAnswers, observe}
 
@@ -43,6 +43,17 @@ afe t p q = Afe (moveOf t p q)
 
 abbrev pub am : ℕ → ℕ → ℕ → Message
 am t p q = Am (moveOf t p q)
+
+-- ---- and of gangs, by the two posts
+
+abbrev pub la : ℕ → ℕ → Message
+la p q = La (moveOf 255 p q)
+
+abbrev pub le : ℕ → ℕ → Message
+le p q = Le (moveOf 255 p q)
+
+abbrev pub lb : ℕ → ℕ → Message
+lb p q = Lb (moveOf 255 p q)
 
 -- ---- books read alone, and openings
 
@@ -112,4 +123,4 @@ tracksGiven r = tracksAmong (loggedRecords r)
 -- what the observer has of train t
 unfoldable pub seenIn : List ℕ → Ran → ℕ → Seen
 unfolding padded valuesFrom added observe noteAnswers update readFrames readFrame refusal unlessRefused messageOf
-seenIn book r t = observe (atOpening (lineIn book)) (r .exchanges) t
+seenIn book r t = observe (atOpening (lineIn book)) (r .exchanges) .train t

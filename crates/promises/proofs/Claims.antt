@@ -17,6 +17,7 @@ use Rattle.rules.proofs.Refusals.{refusals}
 use Rattle.assurance.proofs.WholeList.{whole-list}
 use Rattle.conduct.proofs.OneFrame.{valid-kept, refusals-change-nothing, at-most-six, bit-in-table}
 use Rattle.conduct.proofs.OneFrame.{track-found, exact-grant, oldest-first, right-grant}
+use Rattle.conduct.proofs.LocalRuns.{local-runs}
 use Rattle.conduct.proofs.TrackKept.{track-kept}
 use Rattle.conduct.proofs.Unread.{unread, left-alone}
 use Rattle.conduct.proofs.Replies.{all-replies}
@@ -36,6 +37,8 @@ use Rattle.examples.proofs.Books.{books}
 use Rattle.cases.proofs.Further.{older-then, stores, full-post, parked, six-trains, both-home, precedence}
 use Rattle.stabling.proofs.Sidings.{siding-byte, still-needs-a-track, put-away, siding-state}
 use Rattle.platforms.proofs.Tracks.{opened-tracks, tracks-in-turn, tracks-seen, track-states}
+use Rattle.possessions.proofs.Gangs.{gang-on-x, named, beside-trains, other-section, granting-after-lb, twenty-runs}
+use Rattle.possessions.proofs.Gangs.{gang-states, gangs-seen}
 use Rattle.promises.specs.Claims.{Parts, Cab, OneFrame, WholeLists, InUse, Evaluated}
 
 pub parts : Parts
@@ -70,6 +73,7 @@ one-frame = record {
   oldest = oldest-first;
   right = right-grant;
   bit = bit-in-table;
+  local-runs = local-runs;
   at-most-six = at-most-six;
   replies = all-replies;
 }
@@ -114,4 +118,12 @@ evaluated = record {
   tracks-in-turn = tracks-in-turn;
   tracks-seen = tracks-seen;
   track-states = track-states;
+  gang-on-x = gang-on-x;
+  named = named;
+  beside-trains = beside-trains;
+  other-section = other-section;
+  granting-after-lb = granting-after-lb;
+  twenty-runs = twenty-runs;
+  gang-states = gang-states;
+  gangs-seen = gangs-seen;
 }

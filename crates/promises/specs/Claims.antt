@@ -13,6 +13,7 @@ use Rattle.rules.specs.Refusals.{Refusals}
 use Rattle.assurance.specs.WholeList.{WholeList}
 use Rattle.conduct.specs.OneFrame.{ValidKept, RefusalsChangeNothing, AtMostSix, BitInTable}
 use Rattle.conduct.specs.OneFrame.{TrackFound, TrackKept, ExactGrant, OldestFirst, RightGrant}
+use Rattle.conduct.specs.LocalRuns.{LocalRuns}
 use Rattle.conduct.specs.Unread.{Unread, LeftAlone}
 use Rattle.conduct.specs.Replies.{Replies}
 use Rattle.conduct.specs.Homecoming.{NeverRefused, Homecoming}
@@ -30,6 +31,8 @@ use Rattle.examples.specs.Books.{Books}
 use Rattle.cases.specs.Further.{OlderThen, Stores, FullPost, Parked, SixTrains, BothHome, Precedence}
 use Rattle.stabling.specs.Sidings.{SidingByte, StillNeedsATrack, PutAway, SidingState}
 use Rattle.platforms.specs.Tracks.{OpenedTracks, TracksInTurn, TracksSeen, TrackStates}
+use Rattle.possessions.specs.Gangs.{GangOnX, Named, BesideTrains, OtherSection, GrantingAfterLb, TwentyRuns}
+use Rattle.possessions.specs.Gangs.{GangStates, GangsSeen}
 
 -- any book, frame, record, table
 pub record Parts : Type 0 where
@@ -55,7 +58,7 @@ pub record Parts : Type 0 where
 
 -- the unit: any press and any frame, and any list of them
 pub record Cab : Type 0 where
-  -- a unit that is made is valid and stays so; which number refuses a press or a frame
+  -- a unit that is made is valid and stays so; which number refuses a press or a frame; LA, LE and LB change nothing
   pub validity : Validity
   pub numbers : UnitRefusals
   -- it asks once for each move, goes by its authority, and moves one post at a time
@@ -67,7 +70,7 @@ pub record OneFrame : Type 0 where
   pub numbers : Refusals
   pub told : NumbersTold
   pub refusals : RefusalsChangeNothing
-  -- a valid state stays valid; what is past the posts and trains is neither read nor written
+  -- a valid state stays valid; what is past the posts, trains and sections is neither read nor written
   pub valid : ValidKept
   pub unread : Unread
   pub left-alone : LeftAlone
@@ -80,6 +83,8 @@ pub record OneFrame : Type 0 where
   pub oldest : OldestFirst
   pub right : RightGrant
   pub bit : BitInTable
+  -- a gang gets a section exactly if it may, blocks it for trains, and gives it back
+  pub local-runs : LocalRuns
   -- what is sent
   pub at-most-six : AtMostSix
   pub replies : Replies
@@ -128,3 +133,11 @@ pub record Evaluated : Type 0 where
   pub tracks-in-turn : TracksInTurn
   pub tracks-seen : TracksSeen
   pub track-states : TrackStates
+  pub gang-on-x : GangOnX
+  pub named : Named
+  pub beside-trains : BesideTrains
+  pub other-section : OtherSection
+  pub granting-after-lb : GrantingAfterLb
+  pub twenty-runs : TwentyRuns
+  pub gang-states : GangStates
+  pub gangs-seen : GangsSeen

@@ -115,6 +115,8 @@ withSidings s n = record {
   sidings = n;
   trains = s .trains;
   fleet = s .fleet;
+  possessions = s .possessions;
+  given = s .given;
   logged = s .logged;
 }
 

@@ -1,0 +1,2 @@
+-- The examples with gangs, evaluated.
+pub mod Gangs

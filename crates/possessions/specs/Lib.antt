@@ -1,0 +1,2 @@
+-- Further examples for 02, card 4: runs under local responsibility.
+pub mod Gangs

@@ -1,0 +1,1 @@
+// Examples with gangs. There is no code here: specs/ has the statements and proofs/ evaluates them.
