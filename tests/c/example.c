@@ -1,7 +1,7 @@
 /*
  * The run of 01 from C: opens book X, answers eight frames that two drivers' units give, and prints
- * the journal. Then one unit goes once through its flow, and books with sidings and with several
- * tracks are opened. Exit status 0 where all went as the paper says, else 1.
+ * the journal. Then one unit goes once through its flow, books with sidings and with several tracks
+ * are opened, and gangs get a section. Exit status 0 where all went as the paper says, else 1.
  *
  *   rt staticlib quangevit
  *   cc -Wall -Wextra -I crates/quangevit tests/c/example.c target/staticlib/libquangevit.a -o example
@@ -55,10 +55,15 @@ static uint32_t hear(unsigned t, const uint8_t *frame) {
         quangevit_hear(units[t], QUANGEVIT_UNIT_BYTES, frame, QUANGEVIT_FRAME_BYTES));
 }
 
+/* Puts a frame to the dispatcher. */
+static uint32_t answer(const uint8_t *frame) {
+    return quangevit_answer(state, sizeof state, table, sizeof table, journal, sizeof journal,
+                            frame, QUANGEVIT_FRAME_BYTES, out, sizeof out);
+}
+
 /* Sends a frame to the dispatcher; every unit hears the answers. */
 static void send(const uint8_t *frame) {
-    uint32_t r = quangevit_answer(state, sizeof state, table, sizeof table, journal, sizeof journal,
-                                  frame, QUANGEVIT_FRAME_BYTES, out, sizeof out);
+    uint32_t r = answer(frame);
     uint32_t k, t;
     if (QUANGEVIT_REFUSAL(r) != QUANGEVIT_ACCEPTED)
         refused_frames++;
@@ -91,13 +96,13 @@ static void travel(unsigned t) {
 }
 
 static void print_journal(void) {
-    static const char *const kinds[] = {"?", "FA", "FE", "AFE", "AM"};
+    static const char *const kinds[] = {"?", "FA", "FE", "AFE", "AM", "LA", "LE", "LB"};
     unsigned count = state[QUANGEVIT_STATE_LOGGED_AT];
     unsigned i;
     for (i = 0; i < count; i++) {
         const uint8_t *r = journal + QUANGEVIT_RECORD_BYTES * i;
         uint8_t kind = r[QUANGEVIT_RECORD_KIND_AT];
-        printf("%u %s %u %u %u %u\n", i, kinds[kind <= QUANGEVIT_AM ? kind : 0],
+        printf("%u %s %u %u %u %u\n", i, kinds[kind <= QUANGEVIT_LB ? kind : 0],
                r[QUANGEVIT_RECORD_TRAIN_AT], r[QUANGEVIT_RECORD_FROM_AT],
                r[QUANGEVIT_RECORD_TO_AT], r[QUANGEVIT_RECORD_TRACK_AT]);
     }
@@ -166,6 +171,36 @@ static void tracks(void) {
         expect(train[QUANGEVIT_TRAIN_TRACK_AT] == opened[t], "a train is on another track");
 }
 
+/* The dispatcher accepts a frame and answers it by one frame of a kind. */
+static void expect_one(const uint8_t *frame, enum quangevit_kind kind) {
+    uint32_t r = answer(frame);
+    expect(QUANGEVIT_REFUSAL(r) == QUANGEVIT_ACCEPTED && QUANGEVIT_SENT(r) == 1, "not one answer");
+    expect(out[QUANGEVIT_FRAME_KIND_AT] == kind, "an answer of another kind");
+}
+
+/* A gang gets section 0 of X, and train 0 waits for it. Only twenty times is a section given. */
+static void local_runs(void) {
+    static const uint8_t la[] = {0, 5, 1, QUANGEVIT_LA, 255, 0, 1};
+    static const uint8_t lb[] = {0, 5, 1, QUANGEVIT_LB, 255, 0, 1};
+    static const uint8_t fa[] = {0, 5, 1, QUANGEVIT_FA, 0, 0, 1};
+    static const uint8_t am[] = {0, 5, 1, QUANGEVIT_AM, 0, 0, 1};
+    unsigned given;
+    expect(open_book(BOOK_X, sizeof BOOK_X) == QUANGEVIT_ACCEPTED, "book X does not open");
+    expect_one(la, QUANGEVIT_LE);
+    expect(hear(0, out) == QUANGEVIT_ACCEPTED, "the LE is not heard");
+    expect(answer(la) == QUANGEVIT_SECTION_TAKEN, "a section is given twice");
+    expect_one(fa, QUANGEVIT_AFE);
+    expect_one(lb, QUANGEVIT_FE);
+    expect(answer(la) == QUANGEVIT_SECTION_TAKEN, "the section of a train is given");
+    expect(answer(am) == QUANGEVIT_ACCEPTED, "an arrival is refused");
+    expect(answer(lb) == QUANGEVIT_NO_LOCAL_RUN, "a section comes back that nobody has");
+    for (given = 1; given < 20; given++) {
+        expect_one(la, QUANGEVIT_LE);
+        expect(answer(lb) == QUANGEVIT_ACCEPTED, "a section does not come back");
+    }
+    expect(answer(la) == QUANGEVIT_TWENTY_GIVEN, "a section is given the twenty-first time");
+}
+
 int main(void) {
     static const uint8_t line_x[QUANGEVIT_LINE_BYTES] = {3, 1, 2, 1, 0, 0, 0, 0,
                                                          0, 0, 2, 0, 2, 2, 0};
@@ -196,5 +231,6 @@ int main(void) {
     flow();
     sidings();
     tracks();
+    local_runs();
     return off;
 }

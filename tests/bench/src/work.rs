@@ -23,7 +23,9 @@ pub enum Work {
     Answer { table: Vec<u8>, samples: Vec<Turn> },
 }
 
-pub const WORKS: [&str; 6] = ["fill", "granted", "declined", "arrival", "refused", "mix"];
+pub const WORKS: [&str; 8] = [
+    "fill", "granted", "declined", "arrival", "given", "back", "refused", "mix",
+];
 
 impl Work {
     /// The work of this name on a line. With one train no frame is declined.
@@ -34,6 +36,8 @@ impl Work {
             "granted" => Some(Class::Granted),
             "declined" => Some(Class::Declined),
             "arrival" => Some(Class::Arrival),
+            "given" => Some(Class::Given),
+            "back" => Some(Class::Back),
             "refused" => Some(Class::Refused),
             "mix" => None,
             _ => return None,

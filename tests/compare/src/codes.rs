@@ -1,6 +1,6 @@
 //! By which codes authorities were given, told by the model's state.
 
-use crate::counts::CodeCase;
+use crate::cases::CodeCase;
 use inputs::encoding::state_of;
 use inputs::frames::{FE, KIND_AT};
 use inputs::sizes::FRAME_BYTES;

@@ -1,5 +1,7 @@
 //! What a run has reached, and what it must have reached to be worth anything.
 
+use crate::cases::{Case, SUBJECTS};
+use inputs::frames::LA;
 use inputs::sizes::{FRAME_BYTES, OUT_BYTES};
 use std::collections::BTreeMap;
 
@@ -17,7 +19,10 @@ pub enum Entry {
 const ENTRIES: [(&str, &[u8]); 6] = [
     ("read_book", &[1, 4, 14, 15, 16, 17, 18, 23]),
     ("open", &[1, 2, 4, 14, 15, 16, 17, 18, 19, 20, 23]),
-    ("answer", &[1, 2, 3, 4, 5, 6, 7, 8, 9, 10, 11, 12, 13]),
+    (
+        "answer",
+        &[1, 2, 3, 4, 5, 6, 7, 8, 9, 10, 11, 12, 13, 24, 25, 26],
+    ),
     ("make_unit", &[1, 18]),
     ("press", &[1, 2, 8, 21]),
     ("hear", &[1, 3, 4, 5, 6, 22]),
@@ -34,96 +39,16 @@ const PHASES: [&str; 6] = [
     "Arrived",
 ];
 
-/// What comes of sidings alone, in the order of the names.
-#[derive(Debug, Clone, Copy, PartialEq, Eq)]
-pub enum SidingCase {
-    StartFits,
-    WayFits,
-    TrackBefore,
-    PutAway,
-    Crowded,
-    Declined,
-    OffTheLine,
-    NoSiding,
-}
-
-const SIDINGS: [&str; 8] = [
-    "opened, overfull without them",
-    "opened, no way through without them",
-    "no way through, lawful placings all the way",
-    "a train put away",
-    "more trains put away than tracks",
-    "declined, no track before the siding",
-    "a strange state, siding off the line",
-    "a strange state, no siding for its trains",
-];
-
-/// What comes of tracks, in the order of the names. A strange state is sound but for the one track.
-#[derive(Debug, Clone, Copy, PartialEq, Eq)]
-pub enum TrackCase {
-    OnNone,
-    OnOneAbove,
-    OnAnothers,
-    OnOnePutAway,
-    ToNone,
-    ToOneAbove,
-    ToAnothers,
-    Unread,
-    OpenedApart,
-    OpenedParked,
-    OpenedPutAway,
-    First,
-    Second,
-    Third,
-    Fourth,
-    UpPastOthers,
-    DownPastOthers,
-    TwoAtOnce,
-    FreedAndTaken,
-    PutAway,
-}
-
-const TRACKS: [&str; 20] = [
-    "a strange state, a train on no track",
-    "a strange state, on a track above the count",
-    "a strange state, on another's track",
-    "a strange state, put away and on a track",
-    "a strange state, running to no track",
-    "a strange state, to a track above the count",
-    "a strange state, running to another's track",
-    "answered, tracks in places not read",
-    "opened, two trains at a post, tracks apart",
-    "opened, a parked train on a track",
-    "opened, a parked train put away, no track",
-    "authority to track 1",
-    "authority to track 2",
-    "authority to track 3",
-    "authority to track 4",
-    "authority, up, lower tracks held",
-    "authority, down, higher tracks held",
-    "two authorities to a post in one answer",
-    "a track freed and taken in one answer",
-    "arrived and put away, no track",
-];
-
-/// By which code the last authority of an answer was given, in the order of the names.
-#[derive(Debug, Clone, Copy, PartialEq, Eq)]
-pub enum CodeCase {
-    In16Bits,
-    Past16Bits,
-    Largest,
-}
-
-const CODES: [&str; 3] = [
-    "authority by a code up to 65,535",
-    "authority by a code above, below the largest",
-    "authority by the largest code, 262,143",
-];
+/// The kinds of frames that gangs send and get, from LA on: a unit that hears them stays as it is.
+const OF_GANGS: [&str; 3] = ["LA", "LE", "LB"];
 
 /// Kinds of inputs that a run must have had, beside what must have come of inputs.
-const DUE_INPUTS: [&str; 9] = [
+const DUE_INPUTS: [&str; 12] = [
     "state: valid",
     "state: a track altered",
+    "state: a gang or the number given altered",
+    "frame: as a gang sends it",
+    "frame: LA or LB named wrongly",
     "table: of the book, bits flipped",
     "table: all ones",
     "table: all zero",
@@ -133,8 +58,8 @@ const DUE_INPUTS: [&str; 9] = [
     "table: short",
 ];
 
-/// Refusal numbers 0 (none) to 23.
-const NUMBERS: usize = 24;
+/// Refusal numbers 0 (none) to 26.
+const NUMBERS: usize = 27;
 
 const MOST_SENT: usize = OUT_BYTES / FRAME_BYTES;
 
@@ -144,9 +69,10 @@ pub struct Counts {
     sent: [u64; MOST_SENT + 1],
     statuses: [u64; STATUSES.len()],
     phases: [u64; PHASES.len()],
-    sidings: [u64; SIDINGS.len()],
-    tracks: [u64; TRACKS.len()],
-    codes: [u64; CODES.len()],
+    /// Of each kind, by the unit's phase.
+    heard: [[u64; PHASES.len()]; OF_GANGS.len()],
+    /// Of each subject.
+    cases: [Vec<u64>; SUBJECTS.len()],
 }
 
 impl Counts {
@@ -157,9 +83,8 @@ impl Counts {
             sent: [0; MOST_SENT + 1],
             statuses: [0; STATUSES.len()],
             phases: [0; PHASES.len()],
-            sidings: [0; SIDINGS.len()],
-            tracks: [0; TRACKS.len()],
-            codes: [0; CODES.len()],
+            heard: [[0; PHASES.len()]; OF_GANGS.len()],
+            cases: SUBJECTS.map(|(_, names)| vec![0; names.len()]),
         }
     }
 
@@ -182,29 +107,27 @@ impl Counts {
         self.sent[frames] += 1;
     }
 
+    /// Of a train after an accepted frame.
     pub fn status(&mut self, status: u8) {
         self.statuses[usize::from(status)] += 1;
     }
 
+    /// Of a unit after what it accepted.
     pub fn phase(&mut self, phase: u8) {
         self.phases[usize::from(phase)] += 1;
     }
 
-    pub fn sidings(&mut self, cases: impl IntoIterator<Item = SidingCase>) {
-        for case in cases {
-            self.sidings[case as usize] += 1;
+    /// A unit in this phase has heard a frame. Only kinds of gangs are counted.
+    pub fn heard(&mut self, kind: u8, phase: u8) {
+        let of_kind = kind.checked_sub(LA).map(usize::from);
+        if let Some(counts) = of_kind.and_then(|n| self.heard.get_mut(n)) {
+            counts[usize::from(phase)] += 1;
         }
     }
 
-    pub fn tracks(&mut self, cases: impl IntoIterator<Item = TrackCase>) {
+    pub fn cases<C: Case>(&mut self, cases: impl IntoIterator<Item = C>) {
         for case in cases {
-            self.tracks[case as usize] += 1;
-        }
-    }
-
-    pub fn codes(&mut self, cases: impl IntoIterator<Item = CodeCase>) {
-        for case in cases {
-            self.codes[case as usize] += 1;
+            self.cases[C::SUBJECT as usize][case.place()] += 1;
         }
     }
 
@@ -215,31 +138,50 @@ impl Counts {
 
     /// What was to be reached and was not, or was reached and cannot be.
     pub fn failings(&self) -> Vec<String> {
-        let mut failings = Vec::new();
-        for (entry, (name, reachable)) in ENTRIES.iter().enumerate() {
-            for number in 0..NUMBERS as u8 {
-                let due = number == 0 || reachable.contains(&number);
-                let met = self.refusals[entry][usize::from(number)] > 0;
-                match (due, met) {
-                    (true, false) => failings.push(format!("{name} never answered {number}")),
-                    (false, true) => failings.push(format!("{name} answered {number}")),
-                    _ => (),
-                }
-            }
-        }
+        let mut failings = self.wrong_numbers();
         for (frames, count) in self.sent.iter().enumerate() {
             if *count == 0 {
                 failings.push(format!("never {frames} frames sent"));
             }
         }
-        failings.extend(never("status", &STATUSES, &self.statuses));
-        failings.extend(never("phase", &PHASES, &self.phases));
-        failings.extend(never("case of sidings:", &SIDINGS, &self.sidings));
-        failings.extend(never("case of tracks:", &TRACKS, &self.tracks));
-        failings.extend(never("case of codes:", &CODES, &self.codes));
+        for (what, names, counts) in self.named() {
+            failings.extend(never(&what, names, counts));
+        }
         let had = DUE_INPUTS.map(|kind| self.inputs.get(kind).copied().unwrap_or(0));
         failings.extend(never("input", &DUE_INPUTS, &had));
         failings
+    }
+
+    /// The numbers that an entry point can give and never gave, and those that it gave and cannot give.
+    fn wrong_numbers(&self) -> Vec<String> {
+        let mut wrong = Vec::new();
+        for (entry, (name, reachable)) in ENTRIES.iter().enumerate() {
+            for number in 0..NUMBERS as u8 {
+                let due = number == 0 || reachable.contains(&number);
+                let met = self.refusals[entry][usize::from(number)] > 0;
+                match (due, met) {
+                    (true, false) => wrong.push(format!("{name} never answered {number}")),
+                    (false, true) => wrong.push(format!("{name} answered {number}")),
+                    _ => (),
+                }
+            }
+        }
+        wrong
+    }
+
+    /// All that is due under names: what it is, the names, and how often each was reached.
+    fn named(&self) -> Vec<(String, &[&str], &[u64])> {
+        let mut named: Vec<(String, &[&str], &[u64])> = vec![
+            ("status of a train".into(), &STATUSES, &self.statuses),
+            ("phase of a unit".into(), &PHASES, &self.phases),
+        ];
+        for (kind, counts) in OF_GANGS.iter().zip(&self.heard) {
+            named.push((format!("{kind} heard by a unit"), &PHASES, counts));
+        }
+        for ((subject, names), counts) in SUBJECTS.iter().zip(&self.cases) {
+            named.push((format!("case of {subject}"), names, counts));
+        }
+        named
     }
 
     pub fn print(&self) {
@@ -252,19 +194,12 @@ impl Counts {
         for (frames, count) in self.sent.iter().enumerate() {
             println!("  {frames:<44} {count:>12}");
         }
-        print_names(
-            "status of a train after an accepted frame",
-            &STATUSES,
-            &self.statuses,
-        );
-        print_names(
-            "phase of a unit after what it accepted",
-            &PHASES,
-            &self.phases,
-        );
-        print_names("what came of sidings", &SIDINGS, &self.sidings);
-        print_names("what came of tracks", &TRACKS, &self.tracks);
-        print_names("codes of authorities", &CODES, &self.codes);
+        for (what, names, counts) in self.named() {
+            println!("{what}");
+            for (name, count) in names.iter().zip(counts) {
+                println!("  {name:<44} {count:>12}");
+            }
+        }
         let accepted = self.refusals[Entry::Answer as usize][0];
         println!("frames answered: {}, accepted: {accepted}", self.frames());
     }
@@ -293,13 +228,6 @@ impl Counts {
 fn never(what: &str, names: &[&str], counts: &[u64]) -> Vec<String> {
     let missing = names.iter().zip(counts).filter(|(_, count)| **count == 0);
     missing
-        .map(|(name, _)| format!("{what} {name} never reached"))
+        .map(|(name, _)| format!("{what}: {name} never reached"))
         .collect()
-}
-
-fn print_names(title: &str, names: &[&str], counts: &[u64]) {
-    println!("{title}");
-    for (name, count) in names.iter().zip(counts) {
-        println!("  {name:<44} {count:>12}");
-    }
 }

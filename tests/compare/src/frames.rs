@@ -1,18 +1,78 @@
 //! Frames: what a crew would send in a state, and everything else.
 
 use inputs::encoding::{is_home, train_at, ASKED, RUNNING};
-use inputs::frames::{frame, AM, FA, KIND_AT};
+use inputs::frames::{frame, local_run, AM, FA, FROM_AT, KIND_AT, LA, LB, LE, TO_AT, TRAIN_AT};
 use inputs::random::Random;
-use inputs::sizes::{FLEET_AT, FRAME_BYTES, STATE_BYTES, TRAINS_AT, TRAIN_BYTES};
+use inputs::sizes::{FLEET_AT, FRAME_BYTES, SECTIONS_AT, STATE_BYTES, TRAINS_AT, TRAIN_BYTES};
 
 /// A frame put to the box in a state, which may be any bytes: mostly of a kind that gets far.
 pub fn to_box(state: &[u8], random: &mut Random) -> (&'static str, Vec<u8>) {
+    if random.one_in(5) {
+        return by_gang(state, random);
+    }
     let suitable = of_crew(state, random);
     match random.below(8) {
         0 => damaged(suitable, random),
         1 => ("frame: FA or AM, whatever the status", other_kind(suitable)),
         _ => ("frame: as a crew sends it", suitable.to_vec()),
     }
+}
+
+/// A frame of a gang: mostly a right one.
+fn by_gang(state: &[u8], random: &mut Random) -> (&'static str, Vec<u8>) {
+    let suitable = of_gang(state, random);
+    match random.below(8) {
+        0 => damaged(suitable, random),
+        1 => (
+            "frame: LA, LE or LB, whoever has the section",
+            any_local_kind(suitable, random),
+        ),
+        2 => (
+            "frame: LA or LB named wrongly",
+            misnamed(suitable, posts(state), random),
+        ),
+        _ => ("frame: as a gang sends it", suitable.to_vec()),
+    }
+}
+
+/// Some section of the line: it comes back where a gang has it, else it is asked for.
+pub fn of_gang(state: &[u8], random: &mut Random) -> [u8; FRAME_BYTES] {
+    let section = random.between(0, posts(state) - 2);
+    let kind = match state.get(SECTIONS_AT + usize::from(section)) {
+        Some(1) => LB,
+        _ => LA,
+    };
+    local_run(kind, section)
+}
+
+/// The posts that a state's bytes name, in their range.
+fn posts(state: &[u8]) -> u8 {
+    state.first().copied().unwrap_or(0).clamp(2, 8)
+}
+
+fn any_local_kind(mut frame: [u8; FRAME_BYTES], random: &mut Random) -> Vec<u8> {
+    frame[KIND_AT] = random.pick(&[LA, LE, LB]);
+    frame.to_vec()
+}
+
+/// Posts that are no section of the line with the lower one first, or a train's number, or both.
+fn misnamed(mut frame: [u8; FRAME_BYTES], posts: u8, random: &mut Random) -> Vec<u8> {
+    let right = [frame[FROM_AT], frame[TO_AT]];
+    let [from, to] = right;
+    let (far, train) = (random.byte(), random.between(0, 9));
+    let named = random.pick(&[
+        right,
+        [to, from],
+        [from, from],
+        [from, to + 1],
+        [posts - 1, posts],
+        [far, far.wrapping_add(1)],
+    ]);
+    [frame[FROM_AT], frame[TO_AT]] = named;
+    if named == right || random.one_in(4) {
+        frame[TRAIN_AT] = random.pick(&[train, 254]);
+    }
+    frame.to_vec()
 }
 
 /// The next move of some train, as a request or, where the train is Running, an arrival.

@@ -6,16 +6,19 @@
 //! outputs, with status 1; so it does if anything that a run is to reach was never reached.
 
 mod books;
+mod cases;
 mod codes;
 mod counts;
 mod desk;
 mod frames;
 mod lent;
+mod local_runs;
 mod model_ends;
 mod openings;
 mod pair;
 mod runs;
 mod sidings;
+mod state_gangs;
 mod state_tracks;
 mod states;
 mod stores;
@@ -28,6 +31,8 @@ mod units;
 mod wrong_boxes;
 #[cfg(test)]
 mod wrong_codes;
+#[cfg(test)]
+mod wrong_local_runs;
 #[cfg(test)]
 mod wrong_tracks;
 
@@ -131,7 +136,7 @@ fn one_run(
 ) -> Compared<()> {
     let opened = &opened[random.below(opened.len())];
     let strange = &strange[random.below(strange.len())];
-    match random.below(16) {
+    match random.below(24) {
         0 => runs::whole(pair, opened, strange, Crews::ByFrames, random),
         1 => runs::whole(pair, opened, strange, Crews::WithUnits, random),
         _ => runs::handed_in(pair, opened, strange, random),

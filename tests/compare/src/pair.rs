@@ -2,9 +2,10 @@
 
 use crate::counts::{Counts, Entry};
 use crate::lent::{Lent, Side};
-use crate::{codes, sidings, tracks};
+use crate::{codes, local_runs, sidings, tracks};
 use boundary::Ends;
 use inputs::encoding::{train_at, trains_in, PHASE_AT};
+use inputs::frames::KIND_AT;
 use inputs::sizes::FRAME_BYTES;
 
 /// The text of the first difference: the input in full and both outputs.
@@ -70,9 +71,9 @@ impl Pair {
         ];
         let reply = self.settle(Entry::Open, &[], results, &buffers, &[])?;
         self.counts
-            .sidings(sidings::of_opening(book.bytes(), reply.refusal));
+            .cases(sidings::of_opening(book.bytes(), reply.refusal));
         if reply.refusal == 0 {
-            self.counts.tracks(tracks::of_opening(state.bytes()));
+            self.counts.cases(tracks::of_opening(state.bytes()));
         }
         Ok(reply)
     }
@@ -106,16 +107,15 @@ impl Pair {
             ("out", out),
         ];
         let reply = self.settle(Entry::Answer, &[], results, &buffers, &[("table", table)])?;
-        if reply.refusal == 0 {
-            let sent = &out.bytes()[..FRAME_BYTES * reply.sent];
-            let cases = sidings::of_answer(state.bytes(), table.bytes(), sent);
-            self.counts.sent(reply.sent);
-            self.counts.sidings(cases);
-            self.counts.codes(codes::of_answer(state.bytes(), sent));
-            self.count_trains(state, journal);
-        } else if reply.refusal == 1 {
-            self.counts.sidings(sidings::of_strange(state.bytes()));
-            self.counts.tracks(tracks::of_strange(state.bytes()));
+        self.count_local_runs(state, frame, reply);
+        match reply.refusal {
+            0 => {
+                let sent = &out.bytes()[..FRAME_BYTES * reply.sent];
+                self.count_sent(state.bytes(), table.bytes(), sent);
+                self.count_trains(state, journal);
+            }
+            1 => self.count_strange(state.bytes()),
+            _ => {}
         }
         Ok(reply)
     }
@@ -155,6 +155,10 @@ impl Pair {
         let buffers = [("unit", &*unit), ("frame", frame)];
         let reply = self.settle(Entry::Hear, &[], results, &buffers, &[])?;
         self.count_phase(reply, unit);
+        if reply.refusal == 0 {
+            let phase = unit.kept()[PHASE_AT];
+            self.counts.heard(frame.bytes()[KIND_AT], phase);
+        }
         Ok(reply)
     }
 
@@ -192,13 +196,34 @@ impl Pair {
         Err(Difference(text))
     }
 
+    /// How a frame of a gang fared.
+    fn count_local_runs(&mut self, state: &Lent, frame: &Lent, reply: Reply) {
+        let cases = local_runs::of_frame(state.kept(), frame.bytes(), reply);
+        self.counts.cases(cases);
+    }
+
+    /// Of an accepted frame: what the frames sent tell of the state after it.
+    fn count_sent(&mut self, state: &[u8], table: &[u8], sent: &[u8]) {
+        self.counts.sent(sent.len() / FRAME_BYTES);
+        self.counts.cases(sidings::of_answer(state, table, sent));
+        self.counts.cases(codes::of_answer(state, sent));
+        self.counts.cases(local_runs::of_answer(state, table, sent));
+    }
+
+    /// Of bytes that were refused by 1: what alone is wrong with them.
+    fn count_strange(&mut self, state: &[u8]) {
+        self.counts.cases(sidings::of_strange(state));
+        self.counts.cases(tracks::of_strange(state));
+        self.counts.cases(local_runs::of_strange(state));
+    }
+
     /// Of an accepted frame: what the trains are about, and their tracks.
     fn count_trains(&mut self, state: &Lent, journal: &Lent) {
         for train in trains_in(state.bytes()) {
             self.counts.status(train[train_at::STATUS]);
         }
         let cases = tracks::of_answer(state.kept(), state.bytes(), journal.bytes());
-        self.counts.tracks(cases);
+        self.counts.cases(cases);
     }
 
     fn count_phase(&mut self, reply: Reply, unit: &Lent) {

@@ -6,7 +6,7 @@ use crate::lent::Lent;
 use crate::openings::Opened;
 use crate::pair::{Compared, Pair};
 use crate::{frames, states, stores};
-use inputs::encoding::{is_home, train_at, trains_in, ASKED, NO_BUTTON, PHASE_AT};
+use inputs::encoding::{is_home, state_of, train_at, trains_in, ASKED, NO_BUTTON, PHASE_AT};
 use inputs::random::Random;
 use inputs::sizes::{FRAME_BYTES, UNIT_BYTES};
 
@@ -20,7 +20,8 @@ const LONGEST_RUN: usize = 400;
 #[derive(Clone, Copy)]
 pub enum Crews {
     ByFrames,
-    /// Every frame of a crew comes from its unit, and every unit hears every answer.
+    /// Every frame of a crew comes from its unit, gangs send among them, and every unit hears all frames of gangs and
+    /// every answer.
     WithUnits,
 }
 
@@ -112,11 +113,18 @@ fn put_any(pair: &mut Pair, desk: &mut Desk, table: &Lent, random: &mut Random) 
     Ok(())
 }
 
-/// Every train is home or Asked, and no frame can be accepted any more. Two times in three the run
-/// goes on all the same, with a frame that has to be refused.
+/// No train can go any more: all are home, or those that are not are Asked and no gang is out. Two
+/// times in three the run goes on all the same, with a frame that has to be refused or one of a gang.
 fn is_over(desk: &Desk, random: &mut Random) -> bool {
+    let trains = || trains_in(desk.state());
     let waits = |train: &[u8]| is_home(train) || train[train_at::STATUS] == ASKED;
-    trains_in(desk.state()).all(waits) && random.one_in(3)
+    let no_train_can_go = trains().all(is_home) || trains().all(waits) && !gang_is_out(desk);
+    no_train_can_go && random.one_in(3)
+}
+
+fn gang_is_out(desk: &Desk) -> bool {
+    let state = state_of(desk.state());
+    state.is_some_and(|state| (0..7).any(|section| state.gang_holds(section)))
 }
 
 fn make_units(pair: &mut Pair, state: &[u8], random: &mut Random) -> Compared<Vec<Lent>> {
@@ -130,7 +138,7 @@ fn make_units(pair: &mut Pair, state: &[u8], random: &mut Random) -> Compared<Ve
     Ok(units)
 }
 
-/// One crew presses a button, mostly the one that is due; the box answers what comes of it.
+/// One crew presses a button or a gang sends; the box answers what comes of it, and all units hear the answers.
 fn step_with_units(
     pair: &mut Pair,
     desk: &mut Desk,
@@ -138,6 +146,27 @@ fn step_with_units(
     table: &Lent,
     random: &mut Random,
 ) -> Compared<()> {
+    let by_gang = random.one_in(6);
+    let frame = if by_gang {
+        Some(frames::of_gang(desk.state(), random).to_vec())
+    } else {
+        pressed(pair, units, random)?
+    };
+    let Some(frame) = frame else {
+        return Ok(());
+    };
+    if by_gang {
+        hear_all(pair, units, &frame, random)?;
+    }
+    let sent = desk.put(pair, table, &frame, random)?.sent;
+    for answer in desk.answers(sent) {
+        hear_all(pair, units, &answer, random)?;
+    }
+    Ok(())
+}
+
+/// Some crew presses a button, mostly the one that is due: the frame that comes of it.
+fn pressed(pair: &mut Pair, units: &mut [Lent], random: &mut Random) -> Compared<Option<Vec<u8>>> {
     let crew = random.below(units.len());
     let unit = &mut units[crew];
     let button = if random.one_in(8) {
@@ -146,17 +175,19 @@ fn step_with_units(
         button_due(unit.bytes()[PHASE_AT])
     };
     let mut given = Lent::random(FRAME_BYTES + random.below(4), random);
-    if pair.press(unit, button, &mut given)?.sent == 0 {
-        return Ok(());
-    }
-    let sent = desk
-        .put(pair, table, &given.bytes()[..FRAME_BYTES], random)?
-        .sent;
-    for answer in desk.answers(sent) {
-        let heard = Lent::new(&answer, random);
-        for unit in units.iter_mut() {
-            pair.hear(unit, &heard)?;
-        }
+    let sent = pair.press(unit, button, &mut given)?.sent;
+    Ok((sent > 0).then(|| given.bytes()[..FRAME_BYTES].to_vec()))
+}
+
+fn hear_all(
+    pair: &mut Pair,
+    units: &mut [Lent],
+    frame: &[u8],
+    random: &mut Random,
+) -> Compared<()> {
+    let heard = Lent::new(frame, random);
+    for unit in units {
+        pair.hear(unit, &heard)?;
     }
     Ok(())
 }

@@ -1,6 +1,6 @@
 //! What sidings brought about, by the model: how an opening would have gone without them, and why a train waits.
 
-use crate::counts::SidingCase;
+use crate::cases::SidingCase;
 use crate::{codes, state_tracks};
 use inputs::encoding::state_of;
 use inputs::frames::{AFE, KIND_AT, TO_AT, TRAIN_AT};

@@ -1,9 +1,11 @@
 //! States handed in: valid by construction, nearly valid, and such that no box ever had.
 
-use crate::state_tracks;
+use crate::{state_gangs, state_tracks};
 use inputs::encoding::{state_bytes, state_of, train_at, FREE, RUNNING};
 use inputs::random::Random;
-use inputs::sizes::{FLEET_AT, JOURNAL_RECORDS, RECORDS_A_FRAME, STATE_BYTES, TRAIN_BYTES};
+use inputs::sizes::{
+    FLEET_AT, GIVEN_AT, JOURNAL_RECORDS, RECORDS_A_FRAME, SECTIONS_AT, STATE_BYTES, TRAIN_BYTES,
+};
 use model::{Standing, State, Train};
 
 /// A state of some kind. `opened` is the first state of a book, for states of its line.
@@ -36,12 +38,16 @@ fn altered_bytes(mut bytes: Vec<u8>, random: &mut Random) -> (&'static str, Vec<
 
 /// A state with one thing changed. It may still be valid.
 fn altered(state: State, random: &mut Random) -> (&'static str, State) {
-    match random.below(5) {
+    match random.below(6) {
         0 | 1 => (
             "state: a track altered",
             state_tracks::altered(state, random),
         ),
         2 => (
+            "state: a gang or the number given altered",
+            state_gangs::altered(state, random),
+        ),
+        3 => (
             "state: sidings altered",
             on_right_tracks(sidings_altered(state, random), random),
         ),
@@ -73,6 +79,7 @@ pub fn valid(opened: &[u8], random: &mut Random) -> State {
         _ => made_up(random),
     });
     let numbers = give_standings(&mut state, random);
+    state_gangs::give(&mut state, random);
     give_count(&mut state, numbers, random);
     state_tracks::give(&mut state, |unheld| random.pick(unheld));
     if random.one_in(2) {
@@ -238,6 +245,7 @@ fn give_count(state: &mut State, asked: usize, random: &mut Random) {
 /// Anything in the places that are not read.
 fn fill_unread(state: &mut State, random: &mut Random) {
     random.fill(&mut state.tracks[usize::from(state.posts)..]);
+    state_gangs::fill_unread(state, random);
     for train in &mut state.train[usize::from(state.trains)..] {
         *train = Train {
             start: random.byte(),
@@ -293,8 +301,13 @@ fn with_a_rule_broken(mut state: State, random: &mut Random) -> State {
     state
 }
 
-/// A status above 2, or a detail of a Free train.
+/// A status above 2, a detail of a Free train, or a section's byte above 1.
 fn encoding_none(mut bytes: Vec<u8>, random: &mut Random) -> Vec<u8> {
+    if random.one_in(3) {
+        let any = random.between(2, 255);
+        bytes[SECTIONS_AT + random.below(7)] = random.pick(&[2, 255, any]);
+        return bytes;
+    }
     let train = &mut bytes[FLEET_AT + TRAIN_BYTES * random.below(6)..][..TRAIN_BYTES];
     if train[train_at::STATUS] == FREE && random.one_in(2) {
         train[train_at::DETAIL] = random.between(1, 255);
@@ -307,7 +320,11 @@ fn encoding_none(mut bytes: Vec<u8>, random: &mut Random) -> Vec<u8> {
 
 /// Bytes in which every number is small, so that some of them are states.
 fn small(random: &mut Random) -> Vec<u8> {
-    (0..STATE_BYTES).map(|_| random.between(0, 8)).collect()
+    let mut bytes: Vec<u8> = (0..STATE_BYTES).map(|_| random.between(0, 8)).collect();
+    for byte in &mut bytes[SECTIONS_AT..GIVEN_AT] {
+        *byte /= 8;
+    }
+    bytes
 }
 
 fn wrong_length(mut bytes: Vec<u8>, random: &mut Random) -> Vec<u8> {

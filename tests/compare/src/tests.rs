@@ -1,6 +1,7 @@
 //! The comparison can fail: whatever one side answers or writes otherwise is seen.
 
-use crate::counts::{CodeCase, Entry, SidingCase, TrackCase};
+use crate::cases::{CodeCase, SidingCase, TrackCase};
+use crate::counts::{Counts, Entry};
 use crate::model_ends::Model;
 use crate::pair::Pair;
 use crate::{all, codes, sidings, state_tracks, states, tracks, Options};
@@ -153,14 +154,22 @@ fn what_is_never_reached_fails() {
     let failings = pair.counts.failings();
     for due in [
         "answer never answered 13",
+        "answer never answered 26",
         "never 6 frames sent",
-        "status Running never reached",
+        "status of a train: Running never reached",
         "case of sidings: a train put away never reached",
         "case of tracks: authority to track 4 never reached",
         "case of codes: authority by the largest code, 262,143 never reached",
-        "input table: all ones never reached",
+        "case of local runs: LB, several trains granted never reached",
+        "input: table: all ones never reached",
     ] {
         assert!(failings.contains(&due.to_string()), "{failings:?}");
+    }
+    let none_heard = Counts::new().failings();
+    for kind in ["LA", "LE", "LB"] {
+        let due = format!("{kind} heard by a unit: Arrived never reached");
+        assert!(none_heard.contains(&due), "{none_heard:?}");
+        assert!(!failings.contains(&due), "{failings:?}");
     }
 }
 
@@ -168,6 +177,7 @@ fn what_is_never_reached_fails() {
 fn states_valid_by_construction_are_sound_and_come_back_from_their_bytes() {
     let random = &mut Random::new(5);
     let mut by_sidings = 0;
+    let mut with_gangs = 0;
     for _ in 0..200_000 {
         let state = states::valid(&[], random);
         assert!(model::sound(&state), "{state:?}");
@@ -177,8 +187,10 @@ fn states_valid_by_construction_are_sound_and_come_back_from_their_bytes() {
             ..state
         };
         by_sidings += u32::from(!model::sound(&state_tracks::set_right(without)));
+        with_gangs += u32::from((0..7).any(|section| state.gang_holds(section)));
     }
     assert!(by_sidings > 10_000, "{by_sidings}");
+    assert!(with_gangs > 50_000, "{with_gangs}");
 }
 
 #[test]
@@ -236,7 +248,7 @@ fn the_one_wrong_track_of_a_strange_state_is_told() {
         }),
         // Two wrong tracks, and a state that right tracks would not make sound.
         (None, |s| (s.train[0].track, s.train[1].track) = (0, 0)),
-        (None, |s| (s.train[0].track, s.journal) = (0, 177)),
+        (None, |s| (s.train[0].track, s.journal) = (0, 237)),
     ];
     for (number, (case, change)) in changes.into_iter().enumerate() {
         let mut state = x_with_both_at_post_1();

@@ -1,6 +1,6 @@
 //! What tracks brought about, by the model's state: who got which, and what is wrong in a state that is strange for one.
 
-use crate::counts::TrackCase;
+use crate::cases::TrackCase;
 use crate::state_tracks::{running_to, set_right};
 use inputs::encoding::{records_of, state_of};
 use inputs::frames::{AM, FE};

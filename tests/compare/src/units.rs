@@ -4,7 +4,7 @@ use crate::lent::Lent;
 use crate::pair::{Compared, Pair};
 use crate::{frames, stores};
 use inputs::encoding::NO_BUTTON;
-use inputs::frames::{frame, AFE, AM, FE};
+use inputs::frames::{frame, AFE, AM, FE, GANG, LB};
 use inputs::random::Random;
 use inputs::sizes::{FRAME_BYTES, UNIT_BYTES};
 
@@ -34,7 +34,7 @@ fn make_one(pair: &mut Pair, numbers: [u8; 3], random: &mut Random) -> Compared<
 }
 
 /// Every unit whose numbers are in the ranges or one above: each button, and each kind of frame
-/// for its own move and for the move back.
+/// for its own move and for the move back. Kinds of gangs come with their train byte as well.
 pub fn press_and_hear_all(pair: &mut Pair, random: &mut Random) -> Compared<()> {
     let mut unit = Lent::new(&[], random);
     let mut given = Lent::random(FRAME_BYTES, random);
@@ -48,7 +48,7 @@ pub fn press_and_hear_all(pair: &mut Pair, random: &mut Random) -> Compared<()> 
         }
         let [train, _, end, at, _] = bytes;
         let ahead = ahead(at, end);
-        for kind in 0..=AM + 1 {
+        for (kind, train) in kinds_heard(train) {
             for [from, to] in [[at, ahead], [ahead, at]] {
                 unit.set(&bytes);
                 heard.set(&frame(kind, train, from, to));
@@ -57,6 +57,12 @@ pub fn press_and_hear_all(pair: &mut Pair, random: &mut Random) -> Compared<()> 
         }
     }
     Ok(())
+}
+
+/// The kinds up to the first unknown one with the unit's own train, and from that after AM on with a gang's byte.
+fn kinds_heard(train: u8) -> impl Iterator<Item = (u8, u8)> {
+    let own = (0..=LB + 1).map(move |kind| (kind, train));
+    own.chain((AM + 1..=LB + 1).map(|kind| (kind, GANG)))
 }
 
 /// The post after this one on the way to the end. At the end, some other post.

@@ -1,22 +1,24 @@
-//! Boxes that are wrong, each the model with one fault. The comparison finds every one.
+//! Boxes and units that are wrong, each the model with one fault. The comparison finds every one.
 
 use crate::model_ends::Model;
 use crate::pair::Pair;
 use crate::{all, Options};
 use boundary::Ends;
-use inputs::encoding::{put_records, records_of, state_bytes, state_of};
+use inputs::encoding::{put_records, records_of, state_bytes, state_of, unit_bytes, unit_of};
+use inputs::frames::KIND_AT;
 use inputs::sizes::RECORD_BYTES;
 use model::table::bit;
-use model::{Record, State};
+use model::{Record, State, Unit};
 
-/// An accepted frame: the state before and after it, and the records of it and its answers.
+/// An accepted frame: the state before and after it, the records of it and its answers, and the table.
 pub struct Answered<'a> {
     pub before: &'a State,
     pub after: &'a mut State,
     pub records: &'a mut [Record],
+    pub table: &'a [u8],
 }
 
-/// Where a wrong box goes another way than the model.
+/// Where a wrong box or unit goes another way than the model.
 #[derive(Clone, Copy)]
 pub enum Fault {
     /// With the state that an accepted book is opened with.
@@ -25,8 +27,17 @@ pub enum Fault {
     Answered(fn(Answered)),
     /// It takes a state for another before it looks at the frame.
     TakenFor(fn(State) -> State),
+    /// It takes the bytes of the state and of the frame for others.
+    Reads(fn(&mut [u8], &mut [u8])),
     /// With the code that it looks up in the table.
     LooksUp(fn(u64) -> u64),
+    /// With the number that answers a frame in a sound state, 0 where it is accepted. One that the model refuses stays
+    /// refused.
+    Numbers(fn(&State, &[u8], u8) -> u8),
+    /// It answers a frame in a sound state as if that were another, and mends what comes of it.
+    AsIf(fn(State, &[u8]) -> State, fn(Answered)),
+    /// With a unit that accepted a frame of this kind: how it is then, and the number.
+    Heard(fn(&mut Unit, u8) -> u8),
 }
 
 struct Wrong(Fault);
@@ -53,33 +64,28 @@ impl Ends for Wrong {
         frame: &[u8],
         out: &mut [u8],
     ) -> u32 {
-        let Some(mut before) = state_of(state) else {
+        let (mut bytes, mut frame) = (state.to_vec(), frame.to_vec());
+        if let Fault::Reads(fault) = self.0 {
+            fault(&mut bytes, &mut frame);
+        }
+        let Some(before) = state_of(&bytes) else {
             return 1;
         };
-        if let Fault::TakenFor(fault) = self.0 {
-            before = fault(before);
-        }
-        let mut bytes = state_bytes(&before);
+        bytes.copy_from_slice(&state_bytes(&self.taken_for(before, &frame)));
         let table = match self.0 {
             Fault::LooksUp(fault) => &looked_up(table, fault),
             _ => table,
         };
-        let result = Model.answer(&mut bytes, table, journal, frame, out);
-        if result & 255 != 0 {
-            return result;
+        let (mut logged, mut sent) = (journal.to_vec(), out.to_vec());
+        let result = Model.answer(&mut bytes, table, &mut logged, &frame, &mut sent);
+        let number = self.number(&before, &frame, result as u8);
+        if number != 0 {
+            return number.into();
         }
+        self.mend(&before, table, &mut bytes, &mut logged);
         state.copy_from_slice(&bytes);
-        if let (Fault::Answered(fault), Some(mut after)) = (self.0, state_of(state)) {
-            let [from, to] = [&before, &after].map(|s| RECORD_BYTES * usize::from(s.journal));
-            let mut records = records_of(&journal[from..to]);
-            fault(Answered {
-                before: &before,
-                after: &mut after,
-                records: &mut records,
-            });
-            put_records(&records, &mut journal[from..to]);
-            state.copy_from_slice(&state_bytes(&after));
-        }
+        journal.copy_from_slice(&logged);
+        out.copy_from_slice(&sent);
         result
     }
 
@@ -92,7 +98,51 @@ impl Ends for Wrong {
     }
 
     fn hear(&self, unit: &mut [u8], frame: &[u8]) -> u32 {
-        Model.hear(unit, frame)
+        let result = Model.hear(unit, frame);
+        if let (0, Fault::Heard(fault), Some(mut heard)) = (result, self.0, unit_of(unit)) {
+            let number = fault(&mut heard, frame[KIND_AT]);
+            unit.copy_from_slice(&unit_bytes(&heard));
+            return number.into();
+        }
+        result
+    }
+}
+
+impl Wrong {
+    /// The state in which a frame is answered.
+    fn taken_for(&self, state: State, frame: &[u8]) -> State {
+        match self.0 {
+            Fault::TakenFor(fault) => fault(state),
+            Fault::AsIf(fault, _) if model::sound(&state) => fault(state, frame),
+            _ => state,
+        }
+    }
+
+    /// The number that answers a frame, where the model's is this.
+    fn number(&self, state: &State, frame: &[u8], number: u8) -> u8 {
+        match (self.0, number) {
+            (Fault::Numbers(fault), 0 | 3..) => fault(state, frame, number),
+            _ => number,
+        }
+    }
+
+    /// The state and the journal after an accepted frame.
+    fn mend(&self, before: &State, table: &[u8], state: &mut [u8], journal: &mut [u8]) {
+        let (Fault::Answered(fault) | Fault::AsIf(_, fault), Some(mut after)) =
+            (self.0, state_of(state))
+        else {
+            return;
+        };
+        let [from, to] = [before, &after].map(|s| RECORD_BYTES * usize::from(s.journal));
+        let mut records = records_of(&journal[from..to]);
+        fault(Answered {
+            before,
+            after: &mut after,
+            records: &mut records,
+            table,
+        });
+        put_records(&records, &mut journal[from..to]);
+        state.copy_from_slice(&state_bytes(&after));
     }
 }
 
@@ -126,6 +176,10 @@ fn a_box_without_a_fault_is_not_found() {
         (Fault::Opened(|_| ()), ENOUGH.frames),
         (Fault::Answered(|_| ()), ENOUGH.frames),
         (Fault::TakenFor(|s| s), ENOUGH.frames),
+        (Fault::Reads(|_, _| ()), ENOUGH.frames),
+        (Fault::Numbers(|_, _, number| number), ENOUGH.frames),
+        (Fault::AsIf(|s, _| s, |_| ()), ENOUGH.frames),
+        (Fault::Heard(|_, _| 0), ENOUGH.frames),
         // It makes a table for each frame.
         (Fault::LooksUp(|code| code), 5_000),
     ] {

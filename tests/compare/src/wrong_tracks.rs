@@ -1,6 +1,6 @@
 //! Boxes that are wrong with tracks.
 
-use crate::counts::TrackCase;
+use crate::cases::TrackCase;
 use crate::state_tracks::{give, set_ahead, set_right, unheld};
 use crate::tracks;
 use crate::wrong_boxes::{every_is_found, Answered, Fault};

@@ -1,13 +1,14 @@
 //! Every stored input by name: refused books, refused frames, torn tails, and whole runs.
 
+use crate::gangs;
 use inputs::books::{book, book_2, with_length, X, Y};
-use inputs::crews;
-use inputs::frames::{frame, AFE, AM, FA, FE};
+use inputs::crews::{self, Senders};
+use inputs::frames::{frame, AFE, AM, FA, FE, LA};
 use inputs::random::Random;
 use inputs::sizes::FRAME_BYTES;
 
-type Input = (String, Vec<u8>);
-type Frame = [u8; FRAME_BYTES];
+pub type Input = (String, Vec<u8>);
+pub type Frame = [u8; FRAME_BYTES];
 
 /// Book X as one of edition 2, with a siding at each end of the line.
 const X_2: [u8; 13] = [0, 11, 2, 3, 1, 2, 1, 5, 2, 0, 2, 2, 0];
@@ -59,7 +60,7 @@ const BOOKS: [(&str, &[u8]); 28] = [
     ("book-end-off-the-line", &x_with(11, 3)),
 ];
 
-const ASK: Frame = frame(FA, 0, 0, 1);
+pub const ASK: Frame = frame(FA, 0, 0, 1);
 
 /// The paper's run.
 const RUN: [Frame; 8] = [
@@ -74,7 +75,7 @@ const RUN: [Frame; 8] = [
 ];
 
 /// Frames after book X.
-const ON_X: [(&str, &[Frame]); 17] = [
+const ON_X: [(&str, &[Frame]); 18] = [
     ("frame-run-of-the-paper", &RUN),
     ("frame-none", &[]),
     ("frame-other-length", &[[0, 6, 1, 1, 0, 0, 1], ASK]),
@@ -82,8 +83,9 @@ const ON_X: [(&str, &[Frame]); 17] = [
     ("frame-other-edition", &[[0, 5, 2, 9, 0, 0, 1]]),
     ("frame-torn-and-other-edition", &[[0, 6, 2, 1, 0, 0, 1]]),
     ("frame-kind-0", &[frame(0, 0, 0, 1)]),
-    ("frame-kind-5", &[frame(5, 0, 0, 1)]),
+    ("frame-kind-8", &[frame(8, 0, 0, 1)]),
     ("frame-kind-255", &[frame(255, 255, 255, 255)]),
+    ("frame-local-run-of-a-train", &[frame(LA, 0, 0, 1)]),
     ("frame-authority-at-the-box", &[frame(FE, 0, 0, 1)]),
     (
         "frame-wrong-end-before-unknown-train",
@@ -127,6 +129,7 @@ pub fn all() -> Vec<Input> {
     inputs.extend(sidings());
     inputs.extend(tracks());
     inputs.extend(frames());
+    inputs.extend(gangs::all());
     inputs.extend(tails());
     inputs.extend(runs());
     inputs.sort();
@@ -150,8 +153,16 @@ fn largest() -> Vec<u8> {
     book(&LARGEST.0, &LARGEST.1)
 }
 
+/// Six trains go all the way: at their ends their code is the largest.
+pub fn end_to_end() -> Vec<u8> {
+    book(
+        &[3, 2, 2, 2, 2, 2, 2, 3],
+        &[[0, 7], [7, 0], [0, 7], [7, 0], [0, 7], [7, 0]],
+    )
+}
+
 /// A book and frames.
-fn on(book: &[u8], name: &str, frames: &[Frame]) -> Input {
+pub fn on(book: &[u8], name: &str, frames: &[Frame]) -> Input {
     (name.to_string(), [book, frames.as_flattened()].concat())
 }
 
@@ -269,7 +280,7 @@ fn tails() -> Vec<Input> {
     inputs
 }
 
-/// Runs in which crews ask and report in a random order, among stray frames, until all are home.
+/// Runs of crews that ask and report in a random order, among stray frames, until all are home; and such with gangs.
 fn runs() -> Vec<Input> {
     let mut inputs = Vec::new();
     // Three trains end at either single track.
@@ -278,32 +289,36 @@ fn runs() -> Vec<Input> {
         0x81,
         &[[0, 7], [7, 0], [1, 7], [6, 0], [2, 7], [5, 0]],
     );
-    // Six trains go all the way: at their ends their code is the largest.
-    let end_to_end = book(
-        &[3, 2, 2, 2, 2, 2, 2, 3],
-        &[[0, 7], [7, 0], [0, 7], [7, 0], [0, 7], [7, 0]],
-    );
     for (name, book) in [
         ("x", X.to_vec()),
         ("y", Y.to_vec()),
         ("largest", largest()),
         ("sidings", put_away),
-        ("end-to-end", end_to_end),
+        ("end-to-end", end_to_end()),
     ] {
-        for seed in 1..=6 {
-            let random = &mut Random::of_stored_runs(seed * 7919);
-            inputs.extend(run_home(format!("run-{name}-{seed}"), &book, random));
-        }
+        inputs.extend(runs_of(&book, name, Senders::Crews, 6));
+        let name = format!("gangs-{name}");
+        inputs.extend(runs_of(&book, &name, Senders::CrewsAndGangs, 3));
     }
     for seed in 1..=6 {
         let random = &mut Random::of_stored_runs(seed * 104_729);
         let book = random_book(random);
-        inputs.extend(run_home(format!("run-random-{seed}"), &book, random));
+        let name = format!("run-random-{seed}");
+        inputs.extend(run_home(name, &book, Senders::Crews, random));
         let book = random_book_2(random);
         let name = format!("run-random-sidings-{seed}");
-        inputs.extend(run_home(name, &book, random));
+        inputs.extend(run_home(name, &book, Senders::Crews, random));
     }
     inputs
+}
+
+/// So many runs of a book, by their seeds.
+fn runs_of(book: &[u8], name: &str, senders: Senders, runs: u64) -> Vec<Input> {
+    let run = |seed| {
+        let random = &mut Random::of_stored_runs(seed * 7919);
+        run_home(format!("run-{name}-{seed}"), book, senders, random)
+    };
+    (1..=runs).filter_map(run).collect()
 }
 
 /// A random book that opens.
@@ -339,8 +354,8 @@ fn random_line(random: &mut Random) -> (Vec<u8>, Vec<[u8; 2]>) {
 }
 
 /// The book and the frames of a run of it; none where the book is refused.
-fn run_home(name: String, book: &[u8], random: &mut Random) -> Option<Input> {
+fn run_home(name: String, book: &[u8], senders: Senders, random: &mut Random) -> Option<Input> {
     let opened = crews::open(book)?;
-    let frames = crews::run(&opened, random).flat_map(|turn| turn.frame);
+    let frames = crews::run(&opened, senders, random).flat_map(|turn| turn.frame);
     Some((name, book.iter().copied().chain(frames).collect()))
 }

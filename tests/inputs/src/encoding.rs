@@ -1,8 +1,8 @@
 //! States, units, lines and records as the bytes of the C interface.
 
 use crate::sizes::{
-    COUNT_AT, FLEET_AT, LINE_BYTES, RECORD_BYTES, ROUTE_BYTES, SIDINGS_AT, STATE_BYTES, TRACKS_AT,
-    TRAINS_AT, TRAIN_BYTES, UNIT_BYTES,
+    COUNT_AT, FLEET_AT, GIVEN_AT, LINE_BYTES, RECORD_BYTES, ROUTE_BYTES, SECTIONS_AT, SIDINGS_AT,
+    STATE_BYTES, TRACKS_AT, TRAINS_AT, TRAIN_BYTES, UNIT_BYTES,
 };
 use model::{Button, Line, Record, Standing, State, Train, Unit, UnitState};
 
@@ -75,12 +75,14 @@ pub fn state_bytes(state: &State) -> [u8; STATE_BYTES] {
         } = *train;
         place.copy_from_slice(&[start, end, at, track, status, detail]);
     }
+    bytes[SECTIONS_AT..GIVEN_AT].copy_from_slice(&state.possessions.map(u8::from));
+    bytes[GIVEN_AT] = state.given;
     bytes[COUNT_AT] = state.journal;
     bytes
 }
 
-/// The state that the bytes encode; none for another length, another status, or a detail where
-/// the status is Free.
+/// The state that the bytes encode; none for another length, another status, a detail where the
+/// status is Free, or a section's byte above 1.
 pub fn state_of(bytes: &[u8]) -> Option<State> {
     if bytes.len() != STATE_BYTES {
         return None;
@@ -89,6 +91,7 @@ pub fn state_of(bytes: &[u8]) -> Option<State> {
         posts: bytes[0],
         sidings: bytes[SIDINGS_AT],
         trains: bytes[TRAINS_AT],
+        given: bytes[GIVEN_AT],
         journal: bytes[COUNT_AT],
         ..State::EMPTY
     };
@@ -96,6 +99,13 @@ pub fn state_of(bytes: &[u8]) -> Option<State> {
     let places = bytes[FLEET_AT..].chunks_exact(TRAIN_BYTES);
     for (train, place) in state.train.iter_mut().zip(places) {
         *train = train_of(place)?;
+    }
+    for (held, byte) in state.possessions.iter_mut().zip(&bytes[SECTIONS_AT..]) {
+        *held = match byte {
+            0 => false,
+            1 => true,
+            _ => return None,
+        };
     }
     Some(state)
 }
@@ -121,7 +131,7 @@ fn train_of(place: &[u8]) -> Option<Train> {
 
 /// The bytes of the trains that a state's bytes say there are, whether or not they encode a state.
 pub fn trains_in(state: &[u8]) -> impl Iterator<Item = &[u8]> {
-    let trains = state.get(TRAINS_AT).copied().unwrap_or(0);
+    let trains = state.get(TRAINS_AT).copied().unwrap_or(0).min(6);
     let places = state.get(FLEET_AT..).unwrap_or(&[]);
     places.chunks_exact(TRAIN_BYTES).take(usize::from(trains))
 }
@@ -188,14 +198,16 @@ mod tests {
         let mut state = crews::open(&book).unwrap().state;
         state.train[0].standing = Standing::Running(2);
         state.train[1].standing = Standing::Asked(6);
+        state.possessions[1] = true;
+        state.given = 3;
         state.journal = 7;
         let bytes = state_bytes(&state);
         assert_eq!(bytes[..FLEET_AT], BEGINNING);
         let two = [0, 2, 0, 1, RUNNING, 2, 2, 1, 2, 1, ASKED, 6];
         assert_eq!(bytes[FLEET_AT..][..12], two);
-        assert!(bytes[FLEET_AT + 12..COUNT_AT].iter().all(|byte| *byte == 0));
-        assert_eq!(bytes[COUNT_AT..], [7]);
-        assert_eq!((line.len(), bytes.len()), (23, 48));
+        assert_eq!(bytes[FLEET_AT + 12..47], [0; 24]);
+        assert_eq!(bytes[47..], [0, 1, 0, 0, 0, 0, 0, 3, 7]);
+        assert_eq!((line.len(), bytes.len()), (23, 56));
         assert_eq!(state_of(&bytes), Some(state));
     }
 
@@ -222,6 +234,32 @@ mod tests {
     }
 
     #[test]
+    fn a_byte_above_1_for_a_section_encodes_none() {
+        let bytes = state_bytes(&crews::open(&X).unwrap().state);
+        for (held, encodes) in [(0, true), (1, true), (2, false), (255, false)] {
+            // Of sections that are not on the line, too.
+            for section in 0..7 {
+                let mut other = bytes;
+                other[SECTIONS_AT + section] = held;
+                assert_eq!(state_of(&other).is_some(), encodes, "{section} {held}");
+            }
+        }
+        let all_given = |state: State| state.given == 255;
+        let mut other = bytes;
+        other[GIVEN_AT] = 255;
+        assert!(state_of(&other).is_some_and(all_given));
+    }
+
+    #[test]
+    fn there_are_no_more_than_six_trains() {
+        let mut bytes = [1; STATE_BYTES];
+        for (trains, told) in [(0, 0), (5, 5), (6, 6), (7, 6), (255, 6)] {
+            bytes[TRAINS_AT] = trains;
+            assert_eq!(trains_in(&bytes).count(), told);
+        }
+    }
+
+    #[test]
     fn records_are_as_the_header_has_them() {
         let bytes: Vec<u8> = (1..=13).collect();
         let records = records_of(&bytes);
@@ -237,6 +275,6 @@ mod tests {
         put_records(&records, &mut journal);
         assert_eq!(journal[..10], bytes[..10]);
         assert_eq!(journal[10..], [0; 3]);
-        assert_eq!(JOURNAL_BYTES, 880);
+        assert_eq!(JOURNAL_BYTES, 1180);
     }
 }

@@ -1,7 +1,7 @@
 //! Sizes, each said once: the model's are the paper's, the others are those of the C interface.
 
 pub use model::{
-    FRAME_BYTES, JOURNAL_RECORDS, LONGEST_BOOK, OUT_BYTES, RECORDS_A_FRAME, TABLE_BYTES,
+    FRAME_BYTES, JOURNAL_RECORDS, LOCAL_RUNS, LONGEST_BOOK, OUT_BYTES, RECORDS_A_FRAME, TABLE_BYTES,
 };
 
 pub const RECORD_BYTES: usize = 5;
@@ -18,9 +18,12 @@ pub const FLEET_AT: usize = TRAINS_AT + 1;
 pub const ROUTE_BYTES: usize = 2;
 pub const LINE_BYTES: usize = FLEET_AT + 6 * ROUTE_BYTES;
 
-/// Of a train a state has six bytes; last comes the journal's count.
+/// Of a train a state has six bytes. Then come a byte for each of seven sections, how many local runs were given, and
+/// the journal's count.
 pub const TRAIN_BYTES: usize = 6;
-pub const COUNT_AT: usize = FLEET_AT + 6 * TRAIN_BYTES;
+pub const SECTIONS_AT: usize = FLEET_AT + 6 * TRAIN_BYTES;
+pub const GIVEN_AT: usize = SECTIONS_AT + 7;
+pub const COUNT_AT: usize = GIVEN_AT + 1;
 pub const STATE_BYTES: usize = COUNT_AT + 1;
 
 pub const UNIT_BYTES: usize = 5;
