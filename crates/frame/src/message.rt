@@ -2,7 +2,7 @@
 use line::PostNo;
 use line::TrainNo;
 
-// One train's move from a post to the next, or two neighbouring posts.
+// One train's move from a post to the next; of a gang's message, the two posts of its section.
 pub struct Move {
     pub train: TrainNo,
     pub from: PostNo,

@@ -87,8 +87,11 @@ abbrev pub located : State → ℕ → Whereabouts
 located s t = locatedAt (s .sidings) (trainOf s t)
 
 -- 02, card 4: a gang has section i. What stands for sections that are not on the line is not read.
+abbrev pub possessedOf : List Bool → ℕ → ℕ → Bool
+possessedOf possessions posts i = ltb (i + 1) posts && getD possessions i false
+
 abbrev pub possessed : State → ℕ → Bool
-possessed s i = ltb (i + 1) (s .posts) && getD (s .possessions) i false
+possessed s i = possessedOf (s .possessions) (s .posts) i
 
 -- the holders of section i: the trains', and "a gang is a holder"
 abbrev pub holdersOf : State → ℕ → ℕ

@@ -1,10 +1,7 @@
 // Sections in the hands of gangs. 02, card 4: "Track gangs need a section for an hour."
 ghost use mathlib.Core.Path.{_≡_};
-ghost use mathlib.Core.Bool.{_&&_, false};
-ghost use Prim.Native.Nat.{_+_, _≤_, _<_};
-ghost use lib.Dec.{ltb};
-ghost use lib.ListN.{getD};
-ghost use Rattle.rules.specs.State.{possessed, withPossession};
+ghost use Prim.Native.Nat.{_≤_, _<_};
+ghost use Rattle.rules.specs.State.{possessedOf, possessed, withPossession};
 use line::SectionNo;
 use rules::State;
 
@@ -23,7 +20,7 @@ pub fn possessed(state: State, i: SectionNo) -> bool
 // The same on a line of so many posts. Places for sections that are not on it are not read.
 pub fn possessed_of(possessions: [bool; 7], posts: u8, i: SectionNo) -> bool
     requires { ⌜ posts ≤ 8 ⌝ }
-    ensures { λ r. ⌜ r ≡ ltb (i .0 + 1) posts && getD possessions (i .0) false ⌝ }
+    ensures { λ r. ⌜ r ≡ possessedOf possessions posts (i .0) ⌝ }
 {
     let k = i.0 as usize;
     if posts as usize <= k + 1 {
