@@ -6,7 +6,7 @@ use mathlib.Core.List.{List, [], _∷_, _++_}
 use Prim.Native.Nat.{ℕ, _+_, _≤_, _<_}
 use native.Mathlib.Omega.{arith}
 use lib.Dec.{leb}
-use borrow.Author.Tests.{lt-ltb, le-ltb, eq-eqb, ne-eqb}
+use borrow.Author.Tests.{lt-ltb, le-ltb, eq-eqb, ne-eqb, ltb-true}
 use Rattle.common.specs.Check.{Check, check, refusal}
 use Rattle.common.proofs.Check.{Refuses, none, stop, pass, refusal-is, numbered, passed-by, check-passes, check-fails}
 use Rattle.common.proofs.Check.{first-part, second-part, refuses-of, pass-all}
@@ -30,27 +30,33 @@ use Rattle.checks.specs.Messages.{messageRefusal}
 -- ---- the checks of a move
 
 module _ (s : State) (m : Move) where
-  -- x is the train's record
-  module _ (x : Train) (own : x ≡ trainOf s (m .train .0)) where
+  pub no-train : s .trains ≤ m .train .0 → unknownTrain ≡ refusal (moveChecks s m)
+  no-train h = sym (refusal-is (stop (le-ltb _ _ h)))
+
+  -- the train is known, and x is its record
+  module _ (known : m .train .0 < s .trains) (x : Train) (own : x ≡ trainOf s (m .train .0)) where
+    known-train : knows s m ≡ true
+    known-train = lt-ltb _ _ known
+
     pub train-ended : atEnd x ≡ true → atItsEnd ≡ refusal (moveChecks s m)
-    train-ended e = sym (refusal-is (stop (rw (← own, e))))
+    train-ended e = sym (refusal-is (pass known-train (stop (rw (← own, e)))))
 
     module _ (short : atEnd x ≡ false) where
       onward : not (atEnd (trainOf s (m .train .0))) ≡ true
       onward = rw (← own, short)
 
       pub other-from : m .from .0 ≢ x .at .0 → wrongPost ≡ refusal (moveChecks s m)
-      other-from h = sym (refusal-is (pass onward (stop (rw (← own, ne-eqb _ _ h)))))
+      other-from h = sym (refusal-is (pass known-train (pass onward (stop (rw (← own, ne-eqb _ _ h))))))
 
       module _ (from : m .from .0 ≡ x .at .0) (q : ℕ) (next : q ≡ nextOf x) where
         pub other-to : m .to .0 ≢ q → wrongPost ≡ refusal (moveChecks s m)
         other-to h =
             let other = ne-eqb (m .to .0) (nextOf x) (λ z. h (z ∙ sym next)) in
-            sym (refusal-is (pass onward (stop (rw (← own, eq-eqb _ _ from, other)))))
+            sym (refusal-is (pass known-train (pass onward (stop (rw (← own, eq-eqb _ _ from, other))))))
 
         pub move-passes : m .to .0 ≡ q → 0 ≡ refusal (moveChecks s m)
-        move-passes to = sym (refusal-is (pass onward
-            (pass (rw (← own, eq-eqb _ _ from, eq-eqb _ _ (to ∙ next))) none)))
+        move-passes to = sym (refusal-is (pass known-train (pass onward
+            (pass (rw (← own, eq-eqb _ _ from, eq-eqb _ _ (to ∙ next))) none))))
 
 -- ---- checks in two parts, of which the first gives n
 
@@ -61,51 +67,47 @@ module _ (first : List Check) (numbers : numbered first ≡ true) {n : ℕ} (num
   after-part : n ≡ 0 → {cs : List Check} {k : ℕ} → Refuses cs k → k ≡ refusal (first ++ cs)
   after-part zero r = sym (refusal-is (pass-all first numbers (sym number ∙ zero) r))
 
--- ---- the checks of what a train's message says: 7, those of its move, and then cs
+-- ---- the checks of what a train's message says: those of its move, and then cs
 
-module _ (s : State) (m : Move) where
-  abbrev named : List Check
-  named = check unknownTrain (knows s m) ∷ moveChecks s m
-
-  pub no-train : (cs : List Check) → s .trains ≤ m .train .0 → unknownTrain ≡ refusal (named ++ cs)
-  no-train cs h = sym (refusal-is (stop (le-ltb _ _ h)))
-
--- the train is known, and n is what the checks of the move give
+-- n is what those of the move give
 pub record Moved (s : State) (m : Move) (n : ℕ) : Type 0 where
-  pub known : m .train .0 < s .trains
   pub number : n ≡ refusal (moveChecks s m)
 
 module _ {s : State} {m : Move} {n : ℕ} (x : Moved s m n) where
-  after-train : n ≡ refusal (named s m)
-  after-train = x .number ∙ sym (check-passes _ _ (lt-ltb _ _ (x .known)))
+  pub move-refuses : (cs : List Check) → n ≢ 0 → n ≡ refusal (moveChecks s m ++ cs)
+  move-refuses = part-refuses (moveChecks s m) refl (x .number)
 
-  pub move-refuses : (cs : List Check) → n ≢ 0 → n ≡ refusal (named s m ++ cs)
-  move-refuses = part-refuses (named s m) refl after-train
+  -- 7, 8 and 9 pass
+  module _ (zero : n ≡ 0) where
+    pub train-low : s .trains ≤ 6 → m .train .0 < 6
+    train-low few =
+        let known : knows s m ≡ true = passed-by (moveChecks s m) refl (sym (x .number) ∙ zero) unknownTrain in
+        omega (arith, few, ltb-true (m .train .0) (s .trains) known)
 
-  -- 7, 8 and 9 pass, and w is the train's status
+    after-move : {cs : List Check} {k : ℕ} → Refuses cs k → k ≡ refusal (moveChecks s m ++ cs)
+    after-move = after-part (moveChecks s m) refl (x .number) zero
+
+  -- and w is the train's status
   module _ (zero : n ≡ 0) {w : Status} (own : w ≡ trainOf s (m .train .0) .status) where
-    after-move : {cs : List Check} {k : ℕ} → Refuses cs k → k ≡ refusal (named s m ++ cs)
-    after-move = after-part (named s m) refl after-train zero
-
     -- of an FA 10, 11 and 13 are left
     pub already-asked : isAsked w ≡ true → alreadyAsked ≡ refusal (contentChecks s (Fa m))
-    already-asked e = after-move (stop (rw (← own, e)))
+    already-asked e = after-move zero (stop (rw (← own, e)))
 
     module _ (unasked : isAsked w ≡ false) where
       pub under-authority : isRunning w ≡ true → underAuthority ≡ refusal (contentChecks s (Fa m))
-      under-authority e = after-move (pass (rw (← own, unasked)) (stop (rw (← own, e))))
+      under-authority e = after-move zero (pass (rw (← own, unasked)) (stop (rw (← own, e))))
 
       pub request-room : isRunning w ≡ false → {k : ℕ} → k ≡ refusal (check journalFull (hasRoom s) ∷ [])
           → k ≡ refusal (contentChecks s (Fa m))
-      request-room e r = after-move (pass (rw (← own, unasked)) (pass (rw (← own, e)) (refuses-of _ (sym r))))
+      request-room e r = after-move zero (pass (rw (← own, unasked)) (pass (rw (← own, e)) (refuses-of _ (sym r))))
 
     -- of an AM 12 and 13 are left
     pub no-authority : isRunning w ≡ false → noAuthority ≡ refusal (contentChecks s (Am m))
-    no-authority e = after-move (stop (rw (← own, e)))
+    no-authority e = after-move zero (stop (rw (← own, e)))
 
     pub arrival-room : isRunning w ≡ true → {k : ℕ} → k ≡ refusal (check journalFull (hasRoom s) ∷ [])
         → k ≡ refusal (contentChecks s (Am m))
-    arrival-room e r = after-move (pass (rw (← own, e)) (refuses-of _ (sym r)))
+    arrival-room e r = after-move zero (pass (rw (← own, e)) (refuses-of _ (sym r)))
 
 -- ---- the checks of a section
 

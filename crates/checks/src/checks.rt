@@ -5,7 +5,7 @@
 ghost use mathlib.Core.Path.{_≡_};
 ghost use mathlib.Core.Bool.{true, _&&_};
 ghost use mathlib.Core.List.{[], _∷_};
-ghost use Prim.Native.Nat.{_≤_, _<_};
+ghost use Prim.Native.Nat.{_≤_};
 ghost use lib.Dec.{leb};
 ghost use Rattle.common.specs.Check.{check, refusal};
 ghost use Rattle.line.specs.Refusal.{journalFull};
@@ -87,9 +87,6 @@ fn request_refusal(state: State, m: Move) -> u8
     requires { ⌜ state .trains ≤ 6 ⌝ }
     ensures { λ r. ⌜ r ≡ refusal (contentChecks state (Fa m)) ⌝ }
 {
-    if state.trains <= m.train.0 {
-        return refusal::UNKNOWN_TRAIN;
-    }
     let number = move_refusal(state, m);
     if number != 0 {
         return number;
@@ -109,9 +106,6 @@ fn arrival_refusal(state: State, m: Move) -> u8
     requires { ⌜ state .trains ≤ 6 ⌝ }
     ensures { λ r. ⌜ r ≡ refusal (contentChecks state (Am m)) ⌝ }
 {
-    if state.trains <= m.train.0 {
-        return refusal::UNKNOWN_TRAIN;
-    }
     let number = move_refusal(state, m);
     if number != 0 {
         return number;
@@ -173,11 +167,14 @@ fn section_refusal(state: State, m: Move) -> u8
     0
 }
 
-// Whether the move is the next one of its train.
+// Whether the train is known and the move is its next one.
 fn move_refusal(state: State, m: Move) -> u8
-    requires { ⌜ m .train .0 < 6 ⌝ }
+    requires { ⌜ state .trains ≤ 6 ⌝ }
     ensures { λ r. ⌜ r ≡ refusal (moveChecks state m) ⌝ }
 {
+    if state.trains <= m.train.0 {
+        return refusal::UNKNOWN_TRAIN;
+    }
     let train = train_of(state, m.train);
     if at_end(train) {
         return refusal::AT_ITS_END;

@@ -11,7 +11,7 @@ use borrow.Author.Tests.{eq-eqb, ne-eqb, lt-ltb, le-ltb, le-leb, lt-leb}
 use Rattle.common.specs.Check.{Check, check}
 use Rattle.common.proofs.Tests.{and-both, not-of-false}
 use Rattle.common.proofs.Check.{Refuses, stop, pass, refusal-is, refuses, stop-within, pass-all}
-use Rattle.line.specs.Refusal.{wrongEnd, unknownTrain}
+use Rattle.line.specs.Refusal.{wrongEnd}
 use Rattle.frame.specs.Frame.{moveIn, readChecks, readFrame}
 use Rattle.frame.specs.RoundTrip.{IsMessage}
 use Rattle.frame.proofs.Outcome.{read-passed, read-refused}
@@ -19,7 +19,7 @@ use Rattle.journal.specs.Journal.{journalLength}
 use Rattle.completion.specs.Table.{tableLength}
 use Rattle.rules.specs.Types.{Move, Message, Fa, Fe, Afe, Am, La, Le, Lb, Refused, Status, Free, Asked, Running}
 use Rattle.rules.specs.State.{isFree, isAsked, isRunning, nextOf}
-use Rattle.rules.specs.Answer.{outLength, forBox, knows, moveChecks, requestChecks, arrivalChecks, contentChecks}
+use Rattle.rules.specs.Answer.{outLength, forBox, moveChecks, requestChecks, arrivalChecks, contentChecks}
 use Rattle.rules.specs.Answer.{sectionChecks, lendingChecks, returnChecks, frameChecks}
 use Rattle.rules.specs.Answer.{accepted, Answer, answered, refused, answer}
 use Rattle.rules.specs.Refusals.{Handed, RefusedAs, Prepared, ofTrain, ofGang, Reads, named, NamesNext}
@@ -121,14 +121,11 @@ module _ (h : Handed) where
 
     -- what of an FA and an AM is checked first, whatever is checked after it
     by-move : {n : ℕ} → Reads ofTrain h a
-        → ((cs : List Check)
-        → Refuses (check unknownTrain (knows (h .state) (moveIn a)) ∷ moveChecks (h .state) (moveIn a) ++ cs) n)
-        → Refuses checks n
+        → ((cs : List Check) → Refuses (moveChecks (h .state) (moveIn a) ++ cs) n) → Refuses checks n
     by-move {n = n} v r = after-kind v (train-for-box a (v .kind)) (at a (v .kind) r)
       where
         at : (b : Message) → ofTrain b ≡ true
-            → ((cs : List Check)
-            → Refuses (check unknownTrain (knows (h .state) (moveIn b)) ∷ moveChecks (h .state) (moveIn b) ++ cs) n)
+            → ((cs : List Check) → Refuses (moveChecks (h .state) (moveIn b) ++ cs) n)
             → Refuses (contentChecks (h .state) b) n
         at (Fa m) e f = f _
         at (Am m) e f = f _
@@ -158,7 +155,7 @@ module _ (h : Handed) where
 
     -- 7 to 9 pass too
     after-posts : {n : ℕ} (cs : List Check) → NamesNext h a → Refuses cs n
-        → Refuses (check unknownTrain (knows (h .state) (moveIn a)) ∷ moveChecks (h .state) (moveIn a) ++ cs) n
+        → Refuses (moveChecks (h .state) (moveIn a) ++ cs) n
     after-posts cs v r =
         pass (lt-ltb _ _ (v .known)) (pass (not-of-false _ (ne-eqb _ _ (v .short)))
         (pass (and-both _ _ (eq-eqb _ _ (v .from)) (eq-eqb _ _ (v .to))) r))

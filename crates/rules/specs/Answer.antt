@@ -53,11 +53,12 @@ outerChecks s table records frame room =
 abbrev pub knows : State → Move → Bool
 knows s m = ltb (m .train .0) (s .trains)
 
--- "8 (at its end), 9"
+-- "7, 8 (at its end), 9"
 abbrev pub moveChecks : State → Move → List Check
 moveChecks s m =
     let x = trainOf s (m .train .0) in
-    check atItsEnd (not (atEnd x))
+    check unknownTrain (knows s m)
+    ∷ check atItsEnd (not (atEnd x))
     ∷ check wrongPost (eqb (m .from .0) (x .at .0) && eqb (m .to .0) (nextOf x))
     ∷ []
 
@@ -107,8 +108,8 @@ returnChecks s m = check noLocalRun (possessed s (m .from .0)) ∷ check journal
 
 -- of what the message says; any other message was refused by 6 or by its reading
 abbrev pub contentChecks : State → Message → List Check
-contentChecks s (Fa m) = check unknownTrain (knows s m) ∷ moveChecks s m ++ requestChecks s m
-contentChecks s (Am m) = check unknownTrain (knows s m) ∷ moveChecks s m ++ arrivalChecks s m
+contentChecks s (Fa m) = moveChecks s m ++ requestChecks s m
+contentChecks s (Am m) = moveChecks s m ++ arrivalChecks s m
 contentChecks s (La m) = sectionChecks s m ++ lendingChecks s m
 contentChecks s (Lb m) = sectionChecks s m ++ returnChecks s m
 contentChecks s (Fe m) = []
