@@ -2,7 +2,7 @@
 //!
 //! Every public function is total: it answers for any bytes, any lent slice
 //! and any numbers in a state, and never panics. A refusal is the paper's
-//! number, 1 to 26; 0 stands for "not refused" where a number is returned.
+//! number, 1 to 28; 0 stands for "not refused" where a number is returned.
 
 #![forbid(unsafe_code)]
 
@@ -12,11 +12,13 @@ pub mod journal;
 pub mod line;
 pub mod program;
 pub mod table;
+pub mod timing;
 pub mod unit;
 
 pub use dispatcher::{answer, open, sound, Standing, State, Train, Verdict, LOCAL_RUNS, OUT_BYTES};
 pub use frame::{read_frame, write_frame, Message, Move, FRAME_BYTES, GANG};
 pub use journal::{Record, JOURNAL_RECORDS, RECORDS_A_FRAME};
-pub use line::{read_book, Line, LONGEST_BOOK};
+pub use line::{read_book, read_book_with_positions, Line, LONGEST_BOOK};
 pub use table::{fill, TABLE_BYTES};
+pub use timing::running_time;
 pub use unit::{Button, Unit, UnitState};

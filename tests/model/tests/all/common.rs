@@ -62,9 +62,26 @@ pub const OLD: Record = Record {
 /// edition 2 where it has a byte of sidings, else of edition 1.
 pub fn book_of(tracks: &[u8], sidings: Option<u8>, trains: &[(u8, u8)]) -> Vec<u8> {
     let edition = if sidings.is_some() { 2 } else { 1 };
+    book_with(edition, tracks, sidings.as_slice(), trains)
+}
+
+/// The book of edition 3 of such a line, with the position of each post.
+pub fn book_with_positions(
+    tracks: &[u8],
+    sidings: u8,
+    positions: &[u32],
+    trains: &[(u8, u8)],
+) -> Vec<u8> {
+    let mut between = vec![sidings];
+    between.extend(positions.iter().flat_map(|metres| metres.to_be_bytes()));
+    book_with(3, tracks, &between, trains)
+}
+
+/// The book with these bytes between its track counts and its number of trains.
+fn book_with(edition: u8, tracks: &[u8], between: &[u8], trains: &[(u8, u8)]) -> Vec<u8> {
     let mut rest = vec![edition, tracks.len() as u8];
     rest.extend(tracks);
-    rest.extend(sidings);
+    rest.extend(between);
     rest.push(trains.len() as u8);
     for (start, end) in trains {
         rest.extend([*start, *end]);
@@ -166,10 +183,16 @@ pub fn boxed(state: State, table: Vec<u8>) -> Box {
     }
 }
 
-/// The refusal of an opening, with stores of the right size.
+/// What an opening gives, with stores of the right size, and the table after it.
+pub fn opened(book: &[u8]) -> ((State, u8), Vec<u8>) {
+    let mut table = vec![0xA5; TABLE_BYTES];
+    let answer = open(book, &mut table, &[Record::BLANK; JOURNAL_RECORDS]);
+    (answer, table)
+}
+
+/// The refusal of an opening.
 pub fn refusal_of(book: &[u8]) -> u8 {
-    let mut table = vec![0; TABLE_BYTES];
-    let (state, refusal) = open(book, &mut table, &[Record::BLANK; JOURNAL_RECORDS]);
+    let ((state, refusal), _) = opened(book);
     assert_eq!(refusal != 0, state == State::EMPTY);
     assert_eq!(refusal == 0, sound(&state));
     refusal
@@ -223,5 +246,15 @@ impl Rng {
     pub fn sidings(&mut self, posts: usize) -> Option<u8> {
         let byte = self.byte() & (255 >> (8 - posts));
         self.chance(70).then_some(byte)
+    }
+
+    /// The positions of so many posts, 8 at the most: from 0, and near together or far apart.
+    pub fn positions(&mut self, posts: usize) -> Vec<u32> {
+        let farthest = [2, 3000, 8_388_607 / 7][self.below(3) as usize];
+        let mut positions = vec![0];
+        for post in 1..posts {
+            positions.push(positions[post - 1] + 1 + self.below(farthest) as u32);
+        }
+        positions
     }
 }

@@ -7,6 +7,7 @@ mod runs;
 mod sidings;
 mod table;
 mod tally;
+mod timing;
 mod total;
 mod tracks;
 mod vectors;

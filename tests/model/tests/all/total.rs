@@ -326,15 +326,26 @@ fn units_of_all_sorts() {
     }
 }
 
+/// A book of a random line, of any edition.
+fn whole_book(rng: &mut Rng) -> Vec<u8> {
+    let (tracks, trains) = rng.line(4, 3, 4);
+    match rng.sidings(tracks.len()) {
+        Some(sidings) if rng.chance(60) => {
+            let positions = rng.positions(tracks.len());
+            book_with_positions(&tracks, sidings, &positions, &trains)
+        }
+        sidings => book_of(&tracks, sidings, &trains),
+    }
+}
+
 /// A book of a random line, as it is, with one or two bytes altered, or of another length.
 fn some_book(rng: &mut Rng) -> Vec<u8> {
-    let (tracks, trains) = rng.line(4, 3, 4);
-    let mut b = book_of(&tracks, rng.sidings(tracks.len()), &trains);
+    let mut b = whole_book(rng);
     let altered = match rng.below(4) {
         0 => 0,
         1 => 1,
         2 => {
-            let length = rng.below(30) as usize;
+            let length = rng.below(40) as usize;
             b.resize(length, 1);
             if length >= 2 && rng.chance(70) {
                 b[0] = 0;
@@ -357,26 +368,35 @@ fn is_book_of(b: &[u8], line: &Line) -> bool {
     let t = usize::from(line.trains);
     let pairs: Vec<(u8, u8)> = (0..t).map(|t| (line.starts[t], line.ends[t])).collect();
     let unread = [&line.tracks[p..], &line.starts[t..], &line.ends[t..]].concat();
-    let sidings = if b[2] == 1 {
-        assert_eq!(line.sidings, 0);
-        None
-    } else {
-        Some(line.sidings)
+    let tracks = &line.tracks[..p];
+    let again = match b[2] {
+        1 => {
+            assert_eq!(line.sidings, 0);
+            book_of(tracks, None, &pairs)
+        }
+        2 => book_of(tracks, Some(line.sidings), &pairs),
+        _ => {
+            let (same, positions) = read_book_with_positions(b).unwrap();
+            assert_eq!(same, *line);
+            assert!(positions[p..].iter().all(|metres| *metres == 0));
+            book_with_positions(tracks, line.sidings, &positions[..p], &pairs)
+        }
     };
-    book_of(&line.tracks[..p], sidings, &pairs) == b && unread.iter().all(|n| *n == 0)
+    again == b && unread.iter().all(|n| *n == 0)
 }
 
 /// Random books: each is refused by the first check it fails.
 #[test]
 fn books_of_all_sorts() {
     let mut rng = Rng(0xB00C);
-    let mut met = [0u32; 24];
+    let mut met = [0u32; 28];
     let mut table = vec![0; TABLE_BYTES];
     let journal = [Record::BLANK; JOURNAL_RECORDS];
     for _ in 0..20_000 {
         let b = some_book(&mut rng);
         let (state, refusal) = open(&b, &mut table, &journal);
         assert_eq!(refusal == 0, sound(&state));
+        assert!(refusal != 27 || b[2] == 3, "{b:?}");
         met[usize::from(refusal)] += 1;
         match read_book(&b) {
             Ok(line) => {
@@ -386,8 +406,103 @@ fn books_of_all_sorts() {
             Err(n) => assert_eq!(refusal, n),
         }
     }
-    for n in [0, 4, 14, 15, 16, 17, 18, 19, 20, 23] {
+    for n in [0, 4, 14, 15, 16, 17, 18, 19, 20, 23, 27] {
         assert!(met[n] > 0, "{n}");
+    }
+}
+
+/// The position of a post in a book of edition 3, its four bytes found by their place.
+fn metres_of(b: &[u8], post: u8) -> u64 {
+    let at = 5 + usize::from(b[3]) + 4 * usize::from(post);
+    let worth = [1 << 24, 1 << 16, 1 << 8, 1];
+    (0..4).map(|n| worth[n] * u64::from(b[at + n])).sum()
+}
+
+/// In order and each once they are the same, from 0, and so none is above the last.
+fn rises_from_0(positions: &[u64]) -> bool {
+    let mut sorted = positions.to_vec();
+    sorted.sort();
+    sorted.dedup();
+    sorted == positions && sorted[0] == 0 && sorted[sorted.len() - 1] < 1 << 23
+}
+
+/// The refusal of a book of edition 3 once more, all bytes found by their place; 0 if none.
+fn refusal_due(b: &[u8]) -> u8 {
+    let n = b.len();
+    let at = |place: usize| usize::from(b[place]);
+    if n < 4 || at(0) * 256 + at(1) + 2 != n {
+        return 14;
+    }
+    if b[2] != 3 {
+        return 4;
+    }
+    let p = at(3);
+    if !(2..=8).contains(&p) {
+        return 15;
+    }
+    if n < 6 + 5 * p {
+        return 14;
+    }
+    let positions: Vec<u64> = (0..b[3]).map(|post| metres_of(b, post)).collect();
+    match at(5 + 5 * p) {
+        _ if (4..4 + p).any(|place| at(place) < 1 || at(place) > 4) => 16,
+        _ if at(4 + p) >= 1 << p => 23,
+        _ if !rises_from_0(&positions) => 27,
+        0 | 7.. => 17,
+        t if n != 6 + 5 * p + 2 * t => 14,
+        _ if (6 + 5 * p..n).any(|place| at(place) >= p) => 18,
+        _ => 0,
+    }
+}
+
+/// A speed that is mostly allowed, else anything.
+fn some_speed(rng: &mut Rng) -> u32 {
+    match rng.below(10) {
+        0 => rng.word() as u32,
+        1 => rng.below(600) as u32,
+        _ => rng.within(1, 160).into(),
+    }
+}
+
+/// Asks for a running time, and checks what came of it by the card's words. Gives the refusal.
+fn ask_for_time(b: &[u8], rng: &mut Rng) -> u8 {
+    let (one, any, speed) = (rng.within(0, 4), number(rng), some_speed(rng));
+    let (from, to) = if rng.chance(50) {
+        (one, any)
+    } else {
+        (any, one)
+    };
+    let due = match refusal_due(b) {
+        0 if from.max(to) >= b[3] => 9,
+        0 if speed == 0 || speed > 160 => 28,
+        number => number,
+    };
+    match running_time(b, from, to, speed) {
+        Ok((q, r)) => {
+            let [q, r, v] = [q, r, speed].map(u64::from);
+            let way = 18 * metres_of(b, from).abs_diff(metres_of(b, to));
+            assert!(way == 5 * v * q + r && r < 5 * v, "{b:?} {from} {to} {v}");
+            assert_eq!(due, 0);
+        }
+        Err(number) => assert_eq!(number, due, "{b:?} {from} {to} {speed}"),
+    }
+    due
+}
+
+/// Random questions for a running time: each is refused by the first check it fails.
+#[test]
+fn questions_of_all_sorts() {
+    let mut rng = Rng(0x71E);
+    let mut met = [0u32; 29];
+    for _ in 0..40_000 {
+        let b = some_book(&mut rng);
+        met[usize::from(ask_for_time(&b, &mut rng))] += 1;
+        if b.get(2) == Some(&3) {
+            assert_eq!(read_book(&b).err().unwrap_or(0), refusal_due(&b), "{b:?}");
+        }
+    }
+    for n in [0, 4, 9, 14, 15, 16, 17, 18, 23, 27, 28] {
+        assert!(met[n] > 50, "{n}: {met:?}");
     }
 }
 
@@ -401,14 +516,19 @@ fn noise_of_all_lengths() {
         let named = length >= 4 && rng.chance(50);
         if named {
             noise[..2].copy_from_slice(&[0, length as u8 - 2]);
+            if rng.chance(50) {
+                noise[2] = rng.within(0, 4);
+            }
         }
         match read_book(&noise) {
             Ok(line) => assert!(is_book_of(&noise, &line)),
             Err(number) => {
-                let other = named && !matches!(noise[2], 1 | 2);
+                let other = named && !matches!(noise[2], 1..=3);
                 assert_eq!(number == 4, other, "{noise:?}");
             }
         }
+        let other = named && noise[2] != 3;
+        assert_eq!(ask_for_time(&noise, &mut rng) == 4, other, "{noise:?}");
         let whole = length == FRAME_BYTES && noise[..2] == [0, 5];
         assert_eq!(read_frame(&noise) == Err(3), !whole);
         assert!(program::run(&mut &noise[..]).ends_with('\n'));

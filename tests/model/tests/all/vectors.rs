@@ -13,7 +13,7 @@ fn books_in_order_of_checks() {
     assert_eq!(number(&[0, 0]), 14);
     assert_eq!(number(&[0, 1, 1]), 14);
     assert_eq!(number(&[0, 2, 0, 9]), 4);
-    assert_eq!(number(&[0, 2, 3, 9]), 4);
+    assert_eq!(number(&[0, 2, 4, 9]), 4);
     assert_eq!(number(&[0, 2, 1, 9]), 15);
     assert_eq!(number(&[0, 2, 1, 2]), 14);
     assert_eq!(number(&[0, 4, 1, 2, 0, 0]), 14);
@@ -781,7 +781,7 @@ fn after_x(rest: &[u8]) -> String {
     printed(&[&X[..], rest].concat())
 }
 
-/// A book is two bytes and as many as they name, at most 26 in all, or what there is.
+/// A book is two bytes and as many as they name, at most 58 in all, or what there is.
 #[test]
 fn program_books() {
     assert_eq!(printed(&[]), "book 14\n");
@@ -791,29 +791,40 @@ fn program_books() {
     assert_eq!(printed(&[0, 2, 1, 9]), "book 15\n");
     assert_eq!(printed(&X[..11]), "book 14\n");
     assert_eq!(printed(&[255; 100]), "book 14\n");
-    // 25 after the length: 26 bytes are taken, never 27.
-    let mut long = vec![0; 60];
-    long[..4].copy_from_slice(&[0, 25, 3, 9]);
+    // 57 after the length: 58 bytes are taken, never 59.
+    let mut long = vec![0; 120];
+    long[..4].copy_from_slice(&[0, 57, 4, 9]);
     assert_eq!(printed(&long), "book 14\n");
-    assert_eq!(printed(&long[..27]), "book 14\n");
-    long[1] = 24;
+    assert_eq!(printed(&long[..59]), "book 14\n");
+    long[1] = 56;
     assert_eq!(printed(&long), "book 4\n");
-    // The longest book of each edition is read whole, and a frame after it. At post 1 a parked
-    // train has track 1, unless it is put away.
+    // A named length below the true one: the book ends where it says.
+    let mut short = book(&[1, 1], &[(0, 1), (1, 0)]);
+    short[1] = 7;
+    short[6] = 1;
+    assert_eq!(printed(&short), "end 0 1\n");
+}
+
+/// The longest book of each edition is read whole, and a frame after it. At post 1 a parked train
+/// has track 1, unless it is put away.
+#[test]
+fn program_longest_books() {
     let trains = [(0, 7), (7, 0), (3, 4), (4, 3), (1, 1), (6, 6)];
-    for (sidings, bytes, track) in [(None, 25, 2), (Some(0), 26, 2), (Some(255), 26, 1)] {
-        let longest = book_of(&[4; 8], sidings, &trains);
+    let positions = [0, 1, 2, 3, 4, 5, 6, 7];
+    let edition_3 = |sidings| book_with_positions(&[4; 8], sidings, &positions, &trains);
+    for (longest, bytes, track) in [
+        (book_of(&[4; 8], None, &trains), 25, 2),
+        (book_of(&[4; 8], Some(0), &trains), 26, 2),
+        (book_of(&[4; 8], Some(255), &trains), 26, 1),
+        (edition_3(0), 58, 2),
+        (edition_3(255), 58, 1),
+    ] {
         assert_eq!(longest.len(), bytes);
         assert_eq!(printed(&longest), "end 0 0\n");
         let one = [&longest[..], &frame(FA, 0, 0, 1)].concat();
         let granted = format!("0 FA 0 0 1 0\n1 FE 0 0 1 {track}\nend 2 0\n");
         assert_eq!(printed(&one), granted);
     }
-    // A named length below the true one: the book ends where it says.
-    let mut short = book(&[1, 1], &[(0, 1), (1, 0)]);
-    short[1] = 7;
-    short[6] = 1;
-    assert_eq!(printed(&short), "end 0 1\n");
 }
 
 /// Frames are cut every seven bytes, and a shorter rest is one torn frame.
