@@ -3,3 +3,4 @@ mod reading;
 
 pub use reading::number_of;
 pub use reading::read;
+pub use reading::read_positioned;

@@ -1,15 +1,16 @@
 // Reading a line book. 01: "Book: a two-byte big-endian length (the bytes after it), version byte 1,
 // P, P track counts, T, then start and end of each train, one byte each." 02, card 1: "Book edition 2
 // has one more byte after the track counts: the bit of value 2^i says that post i has a siding.
-// Edition 1 books have no sidings."
+// Edition 1 books have no sidings." Card 5: "Book edition 3 adds each post's position in metres as
+// four bytes after the siding byte".
 ghost use mathlib.Core.Path.{_≡_};
 ghost use Prim.Native.Nat.{_≤_};
 ghost use lib.ListN.{length};
 ghost use Rattle.common.specs.Tabulate.{padded};
 ghost use Rattle.line.specs.Line.{noRoute};
-ghost use Rattle.line.specs.Book.{countAt, sidingsAt, total, byteAt, routeIn, emptyLine, refusedBy, readBook};
-ghost use Rattle.line.specs.Book.{outcomeNumber};
-ghost use Rattle.stages.specs.Stages.{numberOf, tracksStage, routesStage};
+ghost use Rattle.line.specs.Book.{countAt, sidingsAt, total, byteAt, routeIn, emptyLine, refusedBy, readFrom};
+ghost use Rattle.line.specs.Book.{readBook, readPositioned, outcomeNumber};
+ghost use Rattle.stages.specs.Stages.{numberOf, tracksStage, routesStage, PostsRead, readTrains};
 use form::routes_on_line;
 use form::tracks_in_range;
 use line::Line;
@@ -20,8 +21,13 @@ use line::Reading;
 use line::Route;
 use line::refusal;
 use stages::COUNTS_AT;
+use stages::FIRST_EDITION;
+use stages::LAST_EDITION;
 use stages::Stage;
 use stages::VERSION_AT;
+use stages::check_positions;
+use stages::positioned;
+use stages::read_positions;
 use stages::read_posts;
 use stages::read_sidings;
 use stages::read_trains;
@@ -37,11 +43,26 @@ pub fn number_of(outcome: Outcome) -> u8
     }
 }
 
-// Reads a book. "A book that is not read in full is refused before any train is placed."
+// Reads a book of any edition.
 pub fn read(book: &[u8]) -> Reading
     ensures { λ r. ⌜ r ≡ readBook (now (book .entry)) ⌝ }
 {
-    let header = read_posts(book);
+    read_from(book, FIRST_EDITION)
+}
+
+// Reads a book that has positions: one of another edition is refused.
+pub fn read_positioned(book: &[u8]) -> Reading
+    ensures { λ r. ⌜ r ≡ readPositioned (now (book .entry)) ⌝ }
+{
+    read_from(book, LAST_EDITION)
+}
+
+// Reads a book of the editions from `least` on, its posts first. "A book that is not read in full is
+// refused before any train is placed."
+fn read_from(book: &[u8], least: u8) -> Reading
+    ensures { λ r. ⌜ r ≡ readFrom least (now (book .entry)) ⌝ }
+{
+    let header = read_posts(book, least);
     let Stage::Passed(posts) = header else {
         return refused(header);
     };
@@ -58,12 +79,27 @@ pub fn read(book: &[u8]) -> Reading
         return refused(named);
     };
     line.sidings = sidings;
-    let at = trains_at(posts, book[VERSION_AT]);
+    let placed = positioned(book[VERSION_AT], posts);
+    let positions = read_positions(book, posts, placed);
+    let order = check_positions(positions, placed);
+    let Stage::Passed(_) = order else {
+        return refused(order);
+    };
+    with_trains(book, line, positions)
+}
+
+// The rest of a book, its trains, where its posts have been read into the line.
+fn with_trains(book: &[u8], begun: Line, positions: [u32; 8]) -> Reading
+    requires { ⌜ PostsRead (now book) begun positions ⌝ }
+    ensures { λ r. ⌜ r ≡ readTrains (now (book .entry)) ⌝ }
+{
+    let at = trains_at(begun.posts, book[VERSION_AT]);
     let number = read_trains(book, at);
     let Stage::Passed(trains) = number else {
         return refused(number);
     };
     let routes = read_routes(book, at, trains);
+    let mut line = begun;
     line.trains = trains;
     line.routes = routes;
     let ends = check_routes(line);
@@ -73,6 +109,7 @@ pub fn read(book: &[u8]) -> Reading
     Reading {
         outcome: Outcome::Read,
         line: line,
+        positions: positions,
     }
 }
 
@@ -80,9 +117,11 @@ fn refused(stage: Stage) -> Reading
     ensures { λ r. ⌜ r ≡ refusedBy (numberOf stage) ⌝ }
 {
     let line = empty_line();
+    let positions = [0u32; 8];
     Reading {
         outcome: Outcome::Refused(stopped_at(stage)),
         line: line,
+        positions: positions,
     }
 }
 

@@ -91,6 +91,20 @@ not-given n (c ∷ cs) h k e = by-cases (c .passes)
     let passes : c .passes ≡ true = rw (eq-eqb (c .number) n same) at own in
     clash (c .passes) passes p)
 
+-- ---- numbers below a bound
+
+-- every number is below b
+abbrev pub numbersBelow : ℕ → List Check → Bool
+numbersBelow b [] = true
+numbersBelow b (c ∷ cs) = ltb (c .number) b && numbersBelow b cs
+
+pub refusal-below : (b : ℕ) (cs : List Check) → 0 < b → numbersBelow b cs ≡ true → refusal cs < b
+unfolding refusal
+refusal-below b [] h k = h
+refusal-below b (c ∷ cs) h k = by-cases (c .passes)
+    (λ p. rw p (refusal-below b cs h (and-right (ltb (c .number) b) (numbersBelow b cs) k)))
+    (λ p. rw p (ltb-true (c .number) b (and-left (ltb (c .number) b) (numbersBelow b cs) k)))
+
 -- ---- the first check, and the others
 
 pub check-passes : (c : Check) (cs : List Check) → c .passes ≡ true → refusal (c ∷ cs) ≡ refusal cs

@@ -8,4 +8,5 @@ pub mod Part
 pub mod Tabulate
 pub mod Update
 pub mod Bits
+pub mod Word
 pub mod First

@@ -22,8 +22,8 @@ unfoldable pub pieceWith : Piece → ℕ → Piece
 pieceWith p b =
     cond (ltb (p .length) longest) (record { bytes = set (p .bytes) (p .length) b; length = p .length + 1 }) p
 
--- "The book is two bytes and as many as they name, at most as many in all as the longest book has": 26 bytes from
--- edition 2 on
+-- "The book is two bytes and as many as they name, at most as many in all as the longest book has": 58 bytes with
+-- edition 3
 unfoldable pub bookLength : List ℕ → ℕ
 bookLength l = min longest (2 + word (getD l 0 0) (getD l 1 0))
 

@@ -22,7 +22,7 @@ runPrinted r = runLines (r .log .records) (r .state .logged) (r .refused)
 
 -- ---- in the paper's words
 
--- "two bytes and as many as they name, at most as many in all as the longest book has", which is 26 from edition 2 on,
+-- "two bytes and as many as they name, at most as many in all as the longest book has", which is 58 with edition 3,
 -- "or what there is if input ends"
 abbrev pub bookIn : List ℕ → List ℕ
 bookIn input = take (bookLength input) input

@@ -9,8 +9,8 @@ use Rattle.line.specs.Claims.{longest}
 use Rattle.examples.specs.Reading.{readAlone, numbersOf, refusalOf}
 use Rattle.examples.specs.Examples.{likeX, bookX}
 
--- a book: the length's low byte, version, posts; track counts, in edition 2 with the siding byte after them; trains;
--- their starts and ends
+-- a book: the length's low byte, version, posts; track counts, from edition 2 on with the siding byte after them and in
+-- edition 3 with the positions; trains; their starts and ends
 abbrev pub bookOf : ℕ → ℕ → ℕ → List ℕ → ℕ → List ℕ → List ℕ
 bookOf size version posts counts trains ends = 0 ∷ size ∷ version ∷ posts ∷ counts ++ (trains ∷ ends)
 
@@ -18,9 +18,18 @@ bookOf size version posts counts trains ends = 0 ∷ size ∷ version ∷ posts 
 abbrev pub withTrains : ℕ → ℕ → List ℕ → List ℕ
 withTrains size trains ends = bookOf size 1 3 (1 ∷ 2 ∷ 1 ∷ []) trains ends
 
--- edition 2, eight posts of four tracks, sidings at both ends of the line, six trains from one end to the other
+-- a position below 65,536 metres, by its two lower bytes
+abbrev pub position : ℕ → ℕ → List ℕ
+position high low = 0 ∷ 0 ∷ high ∷ low ∷ []
+
+-- edition 3, eight posts of four tracks, 256 metres apart, sidings at both ends of the line, six trains from one end to
+-- the other
 abbrev pub bookLong : List ℕ
-bookLong = bookOf 24 2 8 (replicate 8 4 ++ (129 ∷ [])) 6 (0 ∷ 7 ∷ 7 ∷ 0 ∷ 0 ∷ 7 ∷ 7 ∷ 0 ∷ 0 ∷ 7 ∷ 7 ∷ 0 ∷ [])
+bookLong =
+    bookOf 56 3 8
+    (replicate 8 4 ++ (129 ∷ position 0 0 ++ position 1 0 ++ position 2 0 ++ position 3 0 ++ position 4 0
+    ++ position 5 0 ++ position 6 0 ++ position 7 0))
+    6 (0 ∷ 7 ∷ 7 ∷ 0 ∷ 0 ∷ 7 ∷ 7 ∷ 0 ∷ 0 ∷ 7 ∷ 7 ∷ 0 ∷ [])
 
 pub record Books : Type 0 where
   -- what X says; the places for posts from 3 on and trains from 2 on are 0
@@ -30,11 +39,11 @@ pub record Books : Type 0 where
     sidings = 0;
     trains = 2;
     routes = route 0 2 ∷ route 2 0 ∷ replicate 4 noRoute;
-  }
+  } (replicate 8 0)
   -- 14 for a length that is too small, for no byte and for three; 14 before 4 before 15
   pub header : numbersOf
-      (likeX 9 3 1 2 1 2 2 ∷ [] ∷ (0 ∷ 1 ∷ 1 ∷ []) ∷ bookOf 11 3 9 (1 ∷ 2 ∷ 1 ∷ []) 2 (0 ∷ 2 ∷ 2 ∷ 0 ∷ [])
-      ∷ bookOf 10 3 9 (1 ∷ 2 ∷ 1 ∷ []) 2 (0 ∷ 2 ∷ 2 ∷ 0 ∷ []) ∷ [])
+      (likeX 9 3 1 2 1 2 2 ∷ [] ∷ (0 ∷ 1 ∷ 1 ∷ []) ∷ bookOf 11 4 9 (1 ∷ 2 ∷ 1 ∷ []) 2 (0 ∷ 2 ∷ 2 ∷ 0 ∷ [])
+      ∷ bookOf 10 4 9 (1 ∷ 2 ∷ 1 ∷ []) 2 (0 ∷ 2 ∷ 2 ∷ 0 ∷ []) ∷ [])
       ≡ 14 ∷ 14 ∷ 14 ∷ 14 ∷ 4 ∷ []
   -- two posts, and eight; 15 before 14, then 14 before 16: twelve bytes are too few for eight posts, thirteen are not
   pub posts : numbersOf

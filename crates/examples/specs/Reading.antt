@@ -15,7 +15,8 @@ use Rattle.common.specs.Update.{update}
 use Rattle.line.specs.Route.{nextPost, between, postAfter}
 use Rattle.line.specs.Line.{wellFormed}
 use Rattle.line.specs.declared.line.Reading.{Reading}
-use Rattle.line.specs.Book.{added, lineIn, readBook, outcomeNumber}
+use Rattle.line.specs.Positions.{positionsInOrder}
+use Rattle.line.specs.Book.{positioned, added, lineIn, readFrom, readBook, outcomeNumber}
 use Rattle.line.specs.Holding.{standing}
 use Rattle.tracks.specs.Tracks.{smallest, largest, trackFor}
 use Rattle.frame.specs.Frame.{moveOf, messageOf, readFrame, bytesOf}
@@ -58,7 +59,7 @@ lb p q = Lb (moveOf 255 p q)
 -- ---- books read alone, and openings
 
 unfoldable pub readAlone : List ℕ → Reading
-unfolding readBook refusal unlessRefused valuesFrom padded allBelow added
+unfolding readFrom refusal unlessRefused valuesFrom padded allBelow positioned added positionsInOrder
 readAlone book = readBook book
 
 -- the number by which each is refused; 0 where it is read
@@ -68,9 +69,9 @@ numbersOf books = map (λ b. outcomeNumber (readAlone b .outcome)) books
 
 -- the opening of a book with blank stores
 unfoldable pub openedBlank : List ℕ → Opening
-unfolding openingWith refusal unlessRefused valuesFrom padded countBelow allBelow anyBelow setBelow added postAfter
-    standing codeBelow within fits arrived feasible roomAhead movesOn completableBy completableIn tableOf startTracks
-    trackFor smallest largest
+unfolding openingWith refusal unlessRefused valuesFrom padded countBelow allBelow anyBelow setBelow positioned added
+    positionsInOrder postAfter standing codeBelow within fits arrived feasible roomAhead movesOn completableBy
+    completableIn tableOf startTracks trackFor smallest largest
 openedBlank book = opening book (replicate tableLength 0) (replicate journalLength blank)
 
 -- the number by which a book is refused; 0 where it opens

@@ -4,61 +4,43 @@ use mathlib.Core.Path.{_≡_, refl, sym, ap, _∙_}
 use mathlib.Core.Logic.{_≢_}
 use mathlib.Core.Bool.{true}
 use mathlib.Core.List.{List, _∷_, _++_}
-use Prim.Native.Nat.{ℕ, zero, suc, _+_, _*_, _/_, _%_, _≤_, _<_}
+use Prim.Native.Nat.{ℕ, suc, _+_, _*_, _/_, _%_, _≤_, _<_}
 use native.Mathlib.Omega.{arith}
-use lib.Dec.{leb, ltb}
+use lib.Dec.{leb}
 use lib.ListN.{length, getD, drop, length-append, length-drop, List·getD-append}
 use lib.Seq.{drop-cons, getD-drop, getD-append-add}
-use borrow.Author.Tests.{leb-true, ltb-true, eqb-true, le-leb, lt-ltb, eq-eqb, ne-eqb}
-use Rattle.common.specs.Check.{refusal, unlessRefused}
+use borrow.Author.Tests.{leb-true, eqb-true, le-leb, lt-ltb, eq-eqb, ne-eqb}
+use Rattle.common.specs.Check.{refusal}
 use Rattle.common.specs.Tabulate.{tabulate}
 use Rattle.common.proofs.Tests.{and-left, and-right, and-both, by-equality}
-use Rattle.common.proofs.Check.{none, pass, refusal-is, testsOf, Pass, passed-by, clear, not-given, accepts}
+use Rattle.common.proofs.Check.{none, pass, refusal-is, testsOf, Pass, passed-by, accepts}
 use Rattle.common.proofs.Tabulate.{length-tabulate, at-tabulate, tabulate-cong, length-padded, at-padded, past-padded}
 use Rattle.common.proofs.Tabulate.{padded-is}
 use Rattle.line.specs.Refusal as number
-use Rattle.line.specs.Sorts.{Line, Reading}
+use Rattle.line.specs.Sorts.{Line}
 use Rattle.line.specs.Line.{noRoute, routeOf, tracksAt, inRange, wellFormed}
-use Rattle.line.specs.Book.{countAt, added, sidingsAt, trainsAt, startAt, endAt, total, byteAt, namedLength}
-use Rattle.line.specs.Book.{postsOf, editionOf, sidingsOf, trainsIn, trainsOf, routeIn, lineIn, bookChecks}
-use Rattle.line.specs.Book.{acceptedBook, refusedBy, readBook, outcomeNumber, routeBytes, addedBytes, bodyOf}
-use Rattle.line.specs.Book.{bookBytes}
+use Rattle.line.specs.Positions.{metresAt, positionsInOrder}
+use Rattle.line.specs.Book.{firstEdition, lastEdition, positioned, countAt, added, sidingsAt, positionAt}
+use Rattle.line.specs.Book.{trainsAt, startAt, endAt, total, byteAt, namedLength, postsOf, editionOf, sidingsOf}
+use Rattle.line.specs.Book.{positionIn, positionedIn, positionsOf, trainsIn, trainsOf, routeIn, lineIn}
+use Rattle.line.specs.Book.{bookChecksFrom, acceptedBook, refusedBy, readFrom, routeBytes, positionBytes}
+use Rattle.line.specs.Book.{addedBytes, bodyOf, bookBytes}
 use Rattle.line.specs.Claims.{Padded, Says, ReadAs, LineBook}
-use Rattle.line.proofs.WellFormed.{WellFormed, line-is, well-formed, well-formed-parts, formed-parts}
-use Rattle.line.proofs.Bytes.{places, routes-end, added-first, added-later, added-few, no-bytes, siding-bytes}
-use Rattle.line.proofs.Bytes.{length-added, length-routes, start-byte, end-byte}
-
--- ---- what an answer says of the refusal
-
-number-of : (n : ℕ) (l : Line) → outcomeNumber (unlessRefused n (acceptedBook l) refusedBy .outcome) ≡ n
-unfolding unlessRefused
-number-of zero l = refl
-number-of (suc n) l = refl
-
-accepted-of : (n : ℕ) (m l : Line) → unlessRefused n (acceptedBook m) refusedBy ≡ acceptedBook l → (n ≡ 0) × (l ≡ m)
-unfolding unlessRefused
-accepted-of zero m l e = (refl, sym (ap (λ (r : Reading). r .line) e))
-accepted-of (suc n) m l e =
-    let z : suc n ≡ 0 = ap (λ (r : Reading). outcomeNumber (r .outcome)) e in
-    absurd (let y : ⊥ = omega arith in y)
-
-pub read-number : (b : List ℕ) → outcomeNumber (readBook b .outcome) ≡ refusal (bookChecks b)
-unfolding readBook
-read-number b = number-of (refusal (bookChecks b)) (lineIn b)
-
-pub read-line : (b : List ℕ) (l : Line) → readBook b ≡ acceptedBook l → (refusal (bookChecks b) ≡ 0) × (l ≡ lineIn b)
-unfolding readBook
-read-line b l e = accepted-of (refusal (bookChecks b)) (lineIn b) l e
-
-not-met : (n : ℕ) (b : List ℕ) → ltb 0 n ≡ true → clear n (bookChecks b) ≡ true
-    → outcomeNumber (readBook b .outcome) ≢ n
-not-met n b h k = rw read-number (not-given n (bookChecks b) (ltb-true 0 n h) k)
+use Rattle.line.proofs.WellFormed.{WellFormed, line-is, low, high, ranged, well-formed, well-formed-parts}
+use Rattle.line.proofs.WellFormed.{formed-parts}
+use Rattle.line.proofs.InOrder.{bounded}
+use Rattle.line.proofs.Reading.{read-line, not-met}
+use Rattle.line.proofs.Bytes.{places, routes-end, positions-part, positioned-few, positioned-some, added-first}
+use Rattle.line.proofs.Bytes.{added-later, added-few, position-is, no-bytes, later-bytes, length-added}
+use Rattle.line.proofs.Bytes.{length-routes, start-byte, end-byte}
 
 -- ---- a book whose parts are right is read
 
-module _ (b : List ℕ) (right : namedLength b ≡ length b) (edition : inRange 1 2 (editionOf b) ≡ true)
-    (formed : wellFormed (lineIn b) ≡ true) (whole : length b ≡ total (trainsIn b) (trainsOf b)) where
-  all-pass : refusal (bookChecks b) ≡ 0
+module _ (least : ℕ) (b : List ℕ) (right : namedLength b ≡ length b)
+    (edition : inRange least lastEdition (editionOf b) ≡ true) (formed : wellFormed (lineIn b) ≡ true)
+    (in-order : positionsInOrder (positionedIn b) (positionsOf b) ≡ true)
+    (whole : length b ≡ total (trainsIn b) (trainsOf b)) where
+  all-pass : refusal (bookChecksFrom least b) ≡ 0
   all-pass =
       let parts = formed-parts (lineIn b) formed in
       let some = well-formed (lineIn b) formed .some-posts in
@@ -71,15 +53,16 @@ module _ (b : List ℕ) (right : namedLength b ≡ length b) (edition : inRange 
       (pass (lt-ltb (trainsIn b) (length b) room)
       (pass (parts .1)
       (pass (parts .2)
+      (pass in-order
       (pass (parts .3)
       (pass (eq-eqb (length b) (total (trainsIn b) (trainsOf b)) whole)
-      (pass (parts .4) none)))))))))
+      (pass (parts .4) none))))))))))
 
 -- ---- a book that is read, part by part
 
-module _ (b : List ℕ) (unrefused : refusal (bookChecks b) ≡ 0) where
-  passed : (n : ℕ) → Pass (testsOf n (bookChecks b))
-  passed = passed-by (bookChecks b) refl unrefused
+module _ (least : ℕ) (b : List ℕ) (unrefused : refusal (bookChecksFrom least b) ≡ 0) where
+  passed : (n : ℕ) → Pass (testsOf n (bookChecksFrom least b))
+  passed = passed-by (bookChecksFrom least b) refl unrefused
 
   pub book-formed : wellFormed (lineIn b) ≡ true
   book-formed = well-formed-parts (lineIn b)
@@ -95,8 +78,19 @@ module _ (b : List ℕ) (unrefused : refusal (bookChecks b) ≡ 0) where
   right : namedLength b ≡ length b
   right = eqb-true (namedLength b) (length b) (and-right (leb 4 (length b)) _ (passed number.tornBook .0))
 
-  says : Says (editionOf b) (lineIn b)
-  says = record { known = passed number.otherEdition; no-sidings = λ e. rw (eq-eqb (editionOf b) 1 e) }
+  -- the edition is from `least` on
+  from-least : least ≤ editionOf b
+  from-least = low least lastEdition (editionOf b) (passed number.otherEdition)
+
+  says : firstEdition ≤ least → Says (editionOf b) (lineIn b) (positionsOf b)
+  says h = record {
+    known = ranged firstEdition lastEdition (editionOf b) (omega (arith, from-least))
+        (high least lastEdition (editionOf b) (passed number.otherEdition));
+    no-sidings = λ e. rw (eq-eqb (editionOf b) firstEdition e);
+    places = length-padded 8 (positionedIn b) _ _;
+    in-order = passed number.positions;
+    no-positions = past-padded 8 (positionedIn b) _ 0;
+  }
 
   whole : length b ≡ total (trainsIn b) (trainsOf b)
   whole = eqb-true (length b) (total (trainsIn b) (trainsOf b)) (passed number.tornBook .1 .1)
@@ -125,48 +119,72 @@ module _ (b : List ℕ) (unrefused : refusal (bookChecks b) ≡ 0) where
       let ends = routes-end b (trainsIn b) 0 (trainsOf b) (omega (arith, whole)) in
       rw (routes-same, ends, next) (sym (drop-cons b (trainsIn b) 0 l))
 
-  -- with the bytes before them that the edition adds
-  added-end : addedBytes (editionOf b) (lineIn b) ++ drop (trainsIn b) b ≡ drop (sidingsAt (postsOf b)) b
-  added-end =
-      let v = editionOf b in
-      let at = sidingsAt (postsOf b) in
-      by-equality v 1
-      (λ e. let same : trainsIn b ≡ at = rw (added-first v e) (omega arith) in rw (no-bytes v (lineIn b) e, same))
-      (λ e. let next : trainsIn b ≡ suc at = rw (added-later v e) (omega arith) in
-      let l : at < length b = omega (arith, whole) in
-      let s : lineIn b .sidings ≡ byteAt b at = rw (ne-eqb v 1 e) in
-      rw (siding-bytes v (lineIn b) e, next, s) (sym (drop-cons b at 0 l)))
+  positions-same : tabulate (positionedIn b) (metresAt (positionsOf b))
+      ≡ tabulate (positionedIn b) (positionIn b (postsOf b))
+  positions-same = tabulate-cong (positionedIn b) _ _ (λ p h.
+      let few : p < 8 = omega (arith, facts .few-posts, positioned-few (editionOf b) (postsOf b)) in
+      at-padded 8 (positionedIn b) _ 0 p few h)
 
-  -- with the track counts before them
-  counts-end : tabulate (postsOf b) (tracksAt (lineIn b)) ++ drop (sidingsAt (postsOf b)) b ≡ drop 4 b
-  counts-end = rw counts-same (places b 4 0 (postsOf b) (omega (arith, whole)))
+  -- in edition 3 they are bytes
+  module _ (bytes : editionOf b ≡ lastEdition → (i : ℕ) → byteAt b i < 256) where
+    abbrev at : ℕ
+    at = sidingsAt (postsOf b)
 
-  -- with the version and the number of posts before them
-  body-end : bodyOf (editionOf b) (lineIn b) ≡ drop 2 b
-  unfolding bodyOf
-  body-end =
-      let long = four in
-      let d2 = drop-cons b 2 0 (omega arith) in
-      let d3 = drop-cons b 3 0 (omega arith) in
-      cc (trains-end, added-end, counts-end)
+    -- the positions, before the number of trains
+    positions-end : trainsIn b ≡ positionAt (postsOf b) (0 + positionedIn b)
+        → positionBytes (tabulate (positionedIn b) (metresAt (positionsOf b))) ++ drop (trainsIn b) b ≡ drop (suc at) b
+    positions-end place =
+        let first : positionAt (postsOf b) 0 ≡ suc at = omega arith in
+        let some = positioned-some (editionOf b) (postsOf b) in
+        rw (positions-same, place, ← first)
+        (positions-part b (postsOf b) 0 (positionedIn b) (omega (arith, whole)) (λ h. bytes (some h)))
 
-  -- with the length before them
-  spelled : bookBytes (editionOf b) (lineIn b) ≡ b
-  unfolding bookBytes
-  spelled =
-      let n = length (drop 2 b) in
-      let size = length-drop 2 b in
-      let few = added-few (editionOf b) in
-      let high : n / 256 ≡ byteAt b 0 = omega (arith, right, whole, facts .few-posts, facts .few-trains) in
-      let low : n % 256 ≡ byteAt b 1 = omega (arith, right, whole, facts .few-posts, facts .few-trains) in
-      let long = four in
-      let d0 = drop-cons b 0 0 (omega arith) in
-      let d1 = drop-cons b 1 0 (omega arith) in
-      rw body-end (cc (high, low))
+    -- with the bytes before them that the edition adds
+    added-end : addedBytes (editionOf b) (lineIn b) (positionsOf b) ++ drop (trainsIn b) b ≡ drop at b
+    added-end =
+        let v = editionOf b in
+        by-equality v firstEdition
+        (λ e.
+        let same : trainsIn b ≡ at = rw (added-first v (postsOf b) e) (omega arith) in
+        rw (no-bytes v (lineIn b) (positionsOf b) e, same))
+        (λ e.
+        let place : trainsIn b ≡ positionAt (postsOf b) (0 + positionedIn b)
+        = rw (added-later v (postsOf b) e) (omega arith) in
+        let l : at < length b = omega (arith, whole) in
+        let s : lineIn b .sidings ≡ byteAt b at = rw (ne-eqb v firstEdition e) in
+        let ends = positions-end place in
+        rw (later-bytes v (lineIn b) (positionsOf b) e, s, ends) (sym (drop-cons b at 0 l)))
 
--- ---- the bytes of a line in edition v
+    -- with the track counts before them
+    counts-end : tabulate (postsOf b) (tracksAt (lineIn b)) ++ drop at b ≡ drop 4 b
+    counts-end = rw counts-same (places b 4 0 (postsOf b) (omega (arith, whole)))
 
-module _ (v : ℕ) (l : Line) where
+    -- with the version and the number of posts before them
+    body-end : bodyOf (editionOf b) (lineIn b) (positionsOf b) ≡ drop 2 b
+    unfolding bodyOf
+    body-end =
+        let long = four in
+        let d2 = drop-cons b 2 0 (omega arith) in
+        let d3 = drop-cons b 3 0 (omega arith) in
+        cc (trains-end, added-end, counts-end)
+
+    -- with the length before them
+    spelled : bookBytes (editionOf b) (lineIn b) (positionsOf b) ≡ b
+    unfolding bookBytes
+    spelled =
+        let n = length (drop 2 b) in
+        let size = length-drop 2 b in
+        let few = added-few (editionOf b) (postsOf b) in
+        let high : n / 256 ≡ byteAt b 0 = omega (arith, right, whole, facts .few-posts, facts .few-trains) in
+        let low : n % 256 ≡ byteAt b 1 = omega (arith, right, whole, facts .few-posts, facts .few-trains) in
+        let long = four in
+        let d0 = drop-cons b 0 0 (omega arith) in
+        let d1 = drop-cons b 1 0 (omega arith) in
+        rw body-end (cc (high, low))
+
+-- ---- the bytes of a line and its positions in edition v
+
+module _ (v : ℕ) (l : Line) (ps : List ℕ) where
   abbrev counts : List ℕ
   counts = tabulate (l .posts) (tracksAt l)
 
@@ -174,110 +192,150 @@ module _ (v : ℕ) (l : Line) where
   abbrev ending : List ℕ
   ending = l .trains ∷ routeBytes (tabulate (l .trains) (routeOf l))
 
-  count-byte : (p : ℕ) → p < l .posts → byteAt (bookBytes v l) (countAt p) ≡ tracksAt l p
+  count-byte : (p : ℕ) → p < l .posts → byteAt (bookBytes v l ps) (countAt p) ≡ tracksAt l p
   unfolding bookBytes bodyOf
   count-byte p h =
-      sym (getD-drop 4 (bookBytes v l) p 0)
+      sym (getD-drop 4 (bookBytes v l ps) p 0)
       ∙ List·getD-append counts _ 0 p (rw length-tabulate h)
       ∙ at-tabulate (l .posts) (tracksAt l) p 0 h
 
   -- a place after the track counts
-  after-counts : (k : ℕ) → byteAt (bookBytes v l) (4 + l .posts + k) ≡ byteAt (addedBytes v l ++ ending) k
+  after-counts : (k : ℕ) → byteAt (bookBytes v l ps) (4 + l .posts + k) ≡ byteAt (addedBytes v l ps ++ ending) k
   unfolding bookBytes bodyOf
   after-counts k =
       let e : 4 + l .posts + k ≡ 4 + (length counts + k) = rw length-tabulate (omega arith) in
       rw e
-      (sym (getD-drop 4 (bookBytes v l) (length counts + k) 0)
-      ∙ getD-append-add counts (addedBytes v l ++ ending) k 0)
+      (sym (getD-drop 4 (bookBytes v l ps) (length counts + k) 0)
+      ∙ getD-append-add counts (addedBytes v l ps ++ ending) k 0)
 
-  siding-byte : v ≢ 1 → byteAt (bookBytes v l) (sidingsAt (l .posts)) ≡ l .sidings
+  siding-byte : v ≢ firstEdition → byteAt (bookBytes v l ps) (sidingsAt (l .posts)) ≡ l .sidings
   siding-byte e =
       let at : sidingsAt (l .posts) ≡ 4 + l .posts + 0 = omega arith in
-      rw (at, after-counts 0, siding-bytes v l e)
+      rw (at, after-counts 0, later-bytes v l ps e)
+
+  -- the positions that the edition has
+  abbrev given : List ℕ
+  given = tabulate (positioned v (l .posts)) (metresAt ps)
+
+  -- a place after the siding byte
+  after-siding : v ≢ firstEdition → (p j : ℕ)
+      → byteAt (bookBytes v l ps) (positionAt (l .posts) p + j) ≡ byteAt (positionBytes given ++ ending) (4 * p + j)
+  after-siding e p j =
+      let at : positionAt (l .posts) p + j ≡ 4 + l .posts + suc (4 * p + j) = omega arith in
+      rw (at, after-counts (suc (4 * p + j)), later-bytes v l ps e)
+
+  -- a position, which is small
+  position-back : positionsInOrder (positioned v (l .posts)) ps ≡ true → (p : ℕ) → p < positioned v (l .posts)
+      → positionIn (bookBytes v l ps) (l .posts) p ≡ metresAt ps p
+  position-back ordered p h =
+      let last = positioned-some v (l .posts) (omega arith) in
+      let after = after-siding (λ e. let z : lastEdition ≡ firstEdition = sym last ∙ e in omega arith) p in
+      let same : metresAt given p ≡ metresAt ps p = at-tabulate (positioned v (l .posts)) (metresAt ps) p 0 h in
+      let small = bounded (positioned v (l .posts)) ps ordered p h in
+      let zeroth : positionAt (l .posts) p ≡ positionAt (l .posts) p + 0 = omega arith in
+      let first = ap (byteAt (bookBytes v l ps)) zeroth ∙ after 0 in
+      let is = position-is given ending p (rw length-tabulate h) (rw same (omega arith)) in
+      rw (first, after 1, after 2, after 3) (is ∙ same)
 
   -- a place after the added bytes
-  after-added : (k : ℕ) → byteAt (bookBytes v l) (trainsAt (l .posts) (added v) + k) ≡ byteAt ending k
+  after-added : (k : ℕ) → byteAt (bookBytes v l ps) (trainsAt (l .posts) (added v (l .posts)) + k) ≡ byteAt ending k
   after-added k =
-      let e : trainsAt (l .posts) (added v) + k ≡ 4 + l .posts + (length (addedBytes v l) + k)
+      let e : trainsAt (l .posts) (added v (l .posts)) + k ≡ 4 + l .posts + (length (addedBytes v l ps) + k)
       = rw length-added (omega arith) in
-      rw (e, after-counts (length (addedBytes v l) + k)) (getD-append-add (addedBytes v l) ending k 0)
+      rw (e, after-counts (length (addedBytes v l ps) + k)) (getD-append-add (addedBytes v l ps) ending k 0)
 
-  trains-byte : byteAt (bookBytes v l) (trainsAt (l .posts) (added v)) ≡ l .trains
+  trains-byte : byteAt (bookBytes v l ps) (trainsAt (l .posts) (added v (l .posts))) ≡ l .trains
   trains-byte =
-      let e : trainsAt (l .posts) (added v) ≡ trainsAt (l .posts) (added v) + 0 = omega arith in
+      let e : trainsAt (l .posts) (added v (l .posts)) ≡ trainsAt (l .posts) (added v (l .posts)) + 0 = omega arith in
       rw (e, after-added 0)
 
   -- a place in the run of routes
   route-byte : (k : ℕ)
-      → byteAt (bookBytes v l) (trainsAt (l .posts) (added v) + 1 + k)
+      → byteAt (bookBytes v l ps) (trainsAt (l .posts) (added v (l .posts)) + 1 + k)
       ≡ byteAt (routeBytes (tabulate (l .trains) (routeOf l))) k
   route-byte k =
-      let a = trainsAt (l .posts) (added v) in
+      let a = trainsAt (l .posts) (added v (l .posts)) in
       let e : a + 1 + k ≡ a + suc k = omega arith in
       rw (e, after-added (suc k))
 
-  route-is : (t : ℕ) → t < l .trains → routeIn (bookBytes v l) (trainsAt (l .posts) (added v)) t ≡ routeOf l t
+  route-is : (t : ℕ) → t < l .trains
+      → routeIn (bookBytes v l ps) (trainsAt (l .posts) (added v (l .posts))) t ≡ routeOf l t
   route-is t h =
-      let a = trainsAt (l .posts) (added v) in
+      let a = trainsAt (l .posts) (added v (l .posts)) in
       let rs = tabulate (l .trains) (routeOf l) in
       let e : endAt a t ≡ a + 1 + suc (2 * t) = omega arith in
       let r : getD rs t noRoute ≡ routeOf l t = at-tabulate (l .trains) (routeOf l) t noRoute h in
       rw (e, route-byte (2 * t), route-byte (suc (2 * t)), start-byte rs t, end-byte rs t, r)
 
-  length-bytes : length (bookBytes v l) ≡ total (trainsAt (l .posts) (added v)) (l .trains)
+  length-bytes : length (bookBytes v l ps) ≡ total (trainsAt (l .posts) (added v (l .posts))) (l .trains)
   unfolding bookBytes bodyOf
   length-bytes = simp (length-append, length-tabulate, length-added, length-routes) (omega arith)
 
-  length-field : namedLength (bookBytes v l) ≡ length (bookBytes v l)
+  length-field : namedLength (bookBytes v l ps) ≡ length (bookBytes v l ps)
   unfolding bookBytes
   length-field = omega arith
 
-  module _ (says : Says v l) (well : wellFormed l ≡ true) (pad : Padded l) where
-    sidings-back : l .sidings ≡ sidingsOf (bookBytes v l)
+  module _ (says : Says v l ps) (well : wellFormed l ≡ true) (pad : Padded l) where
+    sidings-back : l .sidings ≡ sidingsOf (bookBytes v l ps)
     unfolding bookBytes bodyOf
-    sidings-back = by-equality v 1
-        (λ e. says .no-sidings e ∙ rw (eq-eqb v 1 e))
-        (λ e. sym (siding-byte e) ∙ rw (ne-eqb v 1 e))
+    sidings-back = by-equality v firstEdition
+        (λ e. says .no-sidings e ∙ rw (eq-eqb v firstEdition e))
+        (λ e. sym (siding-byte e) ∙ rw (ne-eqb v firstEdition e))
 
-    line-back : lineIn (bookBytes v l) ≡ l
+    line-back : lineIn (bookBytes v l ps) ≡ l
     unfolding bookBytes bodyOf
-    line-back = sym (line-is l (lineIn (bookBytes v l)) refl
+    line-back = sym (line-is l (lineIn (bookBytes v l ps)) refl
         (padded-is 8 (l .posts) _ 0 (l .tracks) (pad .eight) (λ p k h. sym (count-byte p h)) (pad .no-tracks))
         sidings-back
         (sym trains-byte)
         (rw trains-byte
         (padded-is 6 (l .trains) _ noRoute (l .routes) (pad .six) (λ t k h. sym (route-is t h)) (pad .no-routes))))
 
-    passes-back : refusal (bookChecks (bookBytes v l)) ≡ 0
+    positions-back : positionsOf (bookBytes v l ps) ≡ ps
     unfolding bookBytes bodyOf
-    passes-back =
-        let whole = length-bytes
-        ∙ ap (λ (m : Line). total (trainsAt (m .posts) (added v)) (m .trains)) (sym line-back) in
-        all-pass (bookBytes v l) length-field (says .known) (rw line-back well) whole
+    positions-back = sym (padded-is 8 (positioned v (l .posts)) _ 0 ps (says .places)
+        (λ p k h. sym (position-back (says .in-order) p h)) (says .no-positions))
 
-    read-back : readBook (bookBytes v l) ≡ acceptedBook l
-    unfolding readBook
-    read-back = accepts (acceptedBook (lineIn (bookBytes v l))) refusedBy passes-back ∙ ap acceptedBook line-back
+    passes-back : (least : ℕ) → least ≤ v → refusal (bookChecksFrom least (bookBytes v l ps)) ≡ 0
+    unfolding bookBytes bodyOf
+    passes-back least h =
+        let whole = length-bytes
+        ∙ ap (λ (m : Line). total (trainsAt (m .posts) (added v (m .posts))) (m .trains)) (sym line-back) in
+        let known = ranged least lastEdition v h (high firstEdition lastEdition v (says .known)) in
+        let b = bookBytes v l ps in
+        let ordered : positionsInOrder (positionedIn b) (positionsOf b) ≡ true = rw positions-back (says .in-order) in
+        all-pass least b length-field known (rw line-back well) ordered whole
+
+    read-back : (least : ℕ) → least ≤ v → readFrom least (bookBytes v l ps) ≡ acceptedBook l ps
+    unfolding readFrom
+    read-back least h =
+        let b = bookBytes v l ps in
+        accepts (acceptedBook (lineIn b) (positionsOf b)) refusedBy (passes-back least h)
+        ∙ rw (line-back, positions-back)
 
 -- ---- the claims
 
-read-as : (b : List ℕ) (l : Line) → readBook b ≡ acceptedBook l → ReadAs b l
-read-as b l e =
-    let r = read-line b l e in
-    let f = facts b (r .0) in
-    rw (r .1) record {
-      formed = book-formed b (r .0);
-      padded = rest-0 b (r .0);
-      edition = says b (r .0);
-      bytes = spelled b (r .0);
-      short = omega (arith, whole b (r .0), f .few-posts, f .few-trains, added-few (editionOf b));
-    }
+read-as : (least : ℕ) → firstEdition ≤ least → (b : List ℕ) (l : Line) (ps : List ℕ)
+    → readFrom least b ≡ acceptedBook l ps → (least ≤ editionOf b) × ReadAs b l ps
+read-as least h b l ps e =
+    let r = read-line least b l ps e in
+    let f = facts least b (r .0) in
+    let few = added-few (editionOf b) (postsOf b) in (
+      from-least least b (r .0),
+      rw (r .1, r .2) record {
+        formed = book-formed least b (r .0);
+        padded = rest-0 least b (r .0);
+        edition = says least b (r .0) h;
+        bytes = spelled least b (r .0);
+        short = omega (arith, whole least b (r .0), f .few-posts, f .few-trains);
+      },
+    )
 
 pub line-book : LineBook
 line-book = record {
   only = read-as;
-  back = read-back;
-  not-2 = λ b. not-met _ b refl refl;
-  not-19 = λ b. not-met _ b refl refl;
-  not-20 = λ b. not-met _ b refl refl;
+  back = λ least v h l ps says well pad. read-back v l ps says well pad least h;
+  not-2 = λ least b. not-met least b _ refl refl;
+  not-19 = λ least b. not-met least b _ refl refl;
+  not-20 = λ least b. not-met least b _ refl refl;
 }

@@ -16,10 +16,10 @@ use Rattle.common.proofs.Bits.{set-of-bits}
 use Rattle.common.proofs.Check.{stop, pass, refusal-is, pass-all}
 use Rattle.line.specs.Refusal as number
 use Rattle.line.specs.Line.{namesPosts, tracksInRange, sidingsOnLine}
-use Rattle.line.specs.Book.{lineIn, postsChecks, readBook, outcomeNumber}
+use Rattle.line.specs.Book.{lineIn, postsChecks, readFrom, outcomeNumber}
 use Rattle.line.specs.Holding.{standing, holdsPost}
 use Rattle.line.specs.Claims.{Sidings}
-use Rattle.line.proofs.Claims.{read-number}
+use Rattle.line.proofs.Reading.{read-number}
 
 -- ---- the sets below 2 ^ n
 
@@ -50,13 +50,13 @@ module _ (n set : ℕ) where
 
 -- ---- the order of the checks
 
-module _ (b : List ℕ) (first : refusal (postsChecks b) ≡ 0) where
-  tracks-first : tracksInRange (lineIn b) ≡ false → outcomeNumber (readBook b .outcome) ≡ number.tracks
-  tracks-first h = read-number b ∙ refusal-is (pass-all (postsChecks b) refl first (stop h))
+module _ (least : ℕ) (b : List ℕ) (first : refusal (postsChecks least b) ≡ 0) where
+  tracks-first : tracksInRange (lineIn b) ≡ false → outcomeNumber (readFrom least b .outcome) ≡ number.tracks
+  tracks-first h = read-number least b ∙ refusal-is (pass-all (postsChecks least b) refl first (stop h))
 
   then-sidings : tracksInRange (lineIn b) ≡ true → sidingsOnLine (lineIn b) ≡ false
-      → outcomeNumber (readBook b .outcome) ≡ number.sidings
-  then-sidings k h = read-number b ∙ refusal-is (pass-all (postsChecks b) refl first (pass k (stop h)))
+      → outcomeNumber (readFrom least b .outcome) ≡ number.sidings
+  then-sidings k h = read-number least b ∙ refusal-is (pass-all (postsChecks least b) refl first (pass k (stop h)))
 
 -- ---- the trains that stand
 

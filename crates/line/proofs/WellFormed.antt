@@ -36,7 +36,7 @@ pub record WellFormed (l : Line) : Type 0 where
   pub starts : (t : ℕ) → t < l .trains → routeOf l t .start .0 < l .posts
   pub ends : (t : ℕ) → t < l .trains → routeOf l t .end .0 < l .posts
 
-low : (a b n : ℕ) → inRange a b n ≡ true → a ≤ n
+pub low : (a b n : ℕ) → inRange a b n ≡ true → a ≤ n
 low a b n h = leb-true a n (and-left (leb a n) (leb n b) h)
 
 pub high : (a b n : ℕ) → inRange a b n ≡ true → n ≤ b

@@ -78,3 +78,9 @@ noLocalRun = 25
 
 abbrev pub twentyGiven : ℕ
 twentyGiven = 26
+
+abbrev pub positions : ℕ
+positions = 27
+
+abbrev pub speed : ℕ
+speed = 28

@@ -11,8 +11,9 @@ pub struct Line {
     pub routes: [Route; 6],
 }
 
-// The bytes of the longest book: edition 2, with its siding byte, of eight posts and six trains.
-pub const LONGEST_BOOK: usize = 5 + 8 + 1 + 2 * 6;
+// The bytes of the longest book: edition 3, with its siding byte and four bytes for each position, of
+// eight posts and six trains.
+pub const LONGEST_BOOK: usize = 5 + 8 + 1 + 4 * 8 + 2 * 6;
 
 // Whether a book is read, or the number of its refusal.
 pub enum Outcome {
@@ -20,8 +21,10 @@ pub enum Outcome {
     Refused(u8),
 }
 
-// The line of a refused book is the empty one, all 0.
+// The line, and beside it the position of each post in metres; 0 for posts from `posts` on and where
+// the edition has no positions. Of a refused book all is 0.
 pub struct Reading {
     pub outcome: Outcome,
     pub line: Line,
+    pub positions: [u32; 8],
 }

@@ -52,7 +52,7 @@ pub fn is_book(piece: Piece) -> bool
 }
 
 // 01: "The book is two bytes and as many as they name, at most as many in all as the longest book
-// has", 26 from edition 2 on.
+// has", 58 with edition 3.
 fn book_length(high: u8, low: u8) -> usize
     ensures { λ r. ⌜ r ≡ min longest (2 + word high low) ⌝ }
 {

@@ -2,26 +2,25 @@
 -- records. The book's own checks go by the reading: a refused book gives its number, one that is read leaves 19 and 20.
 use mathlib.Core.Path.{_≡_, refl, sym, ap, _∙_}
 use mathlib.Core.Logic.{_≢_}
-use mathlib.Core.Bool.{Bool, true, false, _&&_, and-false, true≢false}
+use mathlib.Core.Bool.{Bool, true, false, _&&_, and-false}
 use mathlib.Core.List.{List, [], _∷_, _++_}
 use Prim.Native.Nat.{ℕ, _≤_, _<_}
 use native.Mathlib.Omega.{arith}
 use lib.Dec.{leb}
 use lib.ListN.{length, getD, replicate}
 use borrow.Author.Tests.{le-leb, lt-leb, ne-eqb}
-use Rattle.common.specs.Check.{Check, check, refusal}
+use Rattle.common.specs.Check.{Check, check, refusal, unlessRefused}
 use Rattle.common.specs.Tabulate.{valuesFrom, padded}
-use Rattle.common.proofs.Tests.{by-equality}
 use Rattle.common.proofs.Check.{none, stop, pass, refusal-is, first-part, second-part, not-given, accepts}
 use Rattle.common.proofs.Check.{refuses}
 use Rattle.common.proofs.Tabulate.{padded-none, past-padded}
 use Rattle.line.specs.Refusal.{shortStore, overfull, noWayThrough}
-use Rattle.line.specs.Book.{lineIn, bookChecks, acceptedBook, refusedBy, readBook, outcomeNumber}
-use Rattle.line.specs.declared.line.Outcome.{Outcome}
-use Rattle.line.specs.declared.line.Outcome.the-variants.{Read, Refused}
+use Rattle.line.specs.Book.{firstEdition, lineIn, bookChecks, acceptedBook, readBook, outcomeNumber}
+use Rattle.line.specs.declared.line.Outcome.the-variants.{Refused}
 use Rattle.line.specs.declared.line.Reading.{Reading}
 use Rattle.line.specs.Line.{routeOf, wellFormed}
-use Rattle.line.proofs.Claims.{read-number, read-line, book-formed}
+use Rattle.line.proofs.Reading.{read-number, read-line, refused-some}
+use Rattle.line.proofs.Claims.{book-formed}
 use Rattle.journal.specs.Journal.{journalLength}
 use Rattle.completion.specs.Configuration.{start, code, codeBelow, feasible}
 use Rattle.completion.specs.Table.{tableLength, bitOf, filled, Filling}
@@ -29,7 +28,7 @@ use Rattle.completion.proofs.Codes.{code-cong}
 use Rattle.rules.specs.Types.{Line, Opened}
 use Rattle.rules.specs.State.{noTrain}
 use Rattle.rules.specs.Opening.{openingChecks, openedTrack, fresh, openedState, emptyState, Opening, opened}
-use Rattle.rules.specs.Opening.{openingOf, refusedBook, openingWith}
+use Rattle.rules.specs.Opening.{openingOf, refusedBook, openingWith, OpenedAlike}
 
 -- ---- parts of the opening
 
@@ -42,23 +41,6 @@ start-code l = code-cong (l .trains) (λ t. getD (replicate 6 0) t 0) start (λ 
 pub opened-fleet : (l : Line) → padded 6 6 (λ t. fresh (routeOf l t) (openedTrack l t)) noTrain ≡ openedState l .fleet
 unfolding valuesFrom padded
 opened-fleet l = refl
-
--- ---- the reading of the book
-
-pub read-as : (b : List ℕ) (r : Reading) → r ≡ readBook b → r .outcome ≡ Read → readBook b ≡ acceptedBook (r .line)
-read-as b r e whole = sym e ∙ ap (λ (o : Outcome). record { outcome = o; line = r .line }) whole
-
-abbrev isRead : Outcome → Bool
-isRead Read = true
-isRead (Refused k) = false
-
-refused-some : (b : List ℕ) (k : ℕ) → readBook b .outcome ≡ Refused k → 0 < refusal (bookChecks b)
-unfolding readBook
-refused-some b k stopped = by-equality (refusal (bookChecks b)) 0
-    (λ e.
-    let whole : readBook b ≡ acceptedBook (lineIn b) = accepts (acceptedBook (lineIn b)) refusedBy e in
-    absurd (true≢false (sym (ap (λ (r : Reading). isRead (r .outcome)) whole) ∙ ap isRead stopped)))
-    (λ h. omega arith)
 
 -- 19 and 20
 abbrev placingChecks : Line → List ℕ → List Check
@@ -109,26 +91,29 @@ module _ (book table : List ℕ) (records : ℕ) where
     unfolding refusal
     stores = rw (le-leb tableLength (length table) long, le-leb journalLength records room)
 
-    -- 14, 4, 15, 14, 16, 23, 17, 14, 18
+    -- 14, 4, 15, 14, 16, 23, 27, 17, 14, 18
     pub book-refused : (r : Reading) → r ≡ readBook book → (k : ℕ) → r .outcome ≡ Refused k
         → (n : ℕ) → n ≡ outcomeNumber (r .outcome) → Gives (refusedWith n table)
     book-refused r e k stopped n is =
         let own : n ≡ refusal (bookChecks book)
-        = is ∙ ap (λ (z : Reading). outcomeNumber (z .outcome)) e ∙ read-number book in
-        let some : 0 < refusal (bookChecks book) = refused-some book k (rw e at stopped) in
+        = is ∙ ap (λ (z : Reading). outcomeNumber (z .outcome)) e ∙ read-number firstEdition book in
+        let some : 0 < refusal (bookChecks book) = refused-some firstEdition book k (rw e at stopped) in
         let first = first-part (bookChecks book) (placingChecks l table) some in
         untouched n (stores ∙ first ∙ sym own) (rw own some)
         (λ z. not-given noWayThrough (bookChecks book) (omega arith) refl (sym own ∙ z))
 
-    module _ (m : Line) (is-read : readBook book ≡ acceptedBook m) where
+    module _ (m : Line) (ps : List ℕ) (is-read : readBook book ≡ acceptedBook m ps) where
+      unrefused : refusal (bookChecks book) ≡ 0
+      unrefused = read-line firstEdition book m ps is-read .0
+
       same : m ≡ l
-      same = read-line book m is-read .1
+      same = read-line firstEdition book m ps is-read .1
 
       formed : wellFormed m ≡ true
-      formed = rw same (book-formed book (read-line book m is-read .0))
+      formed = rw same (book-formed firstEdition book unrefused)
 
       left : refusal (openingChecks book table records) ≡ refusal (placingChecks m table)
-      left = rw same (stores ∙ second-part (bookChecks book) (placingChecks l table) refl (read-line book m is-read .0))
+      left = rw same (stores ∙ second-part (bookChecks book) (placingChecks l table) refl unrefused)
 
       -- 19
       pub start-overfull : feasible m start ≡ false → Gives (refusedWith overfull table)
@@ -155,3 +140,21 @@ module _ (book table : List ℕ) (records : ℕ) where
             let r : openingWith book table records ≡ opened l table
             = accepts (opened l table) (refusedBook l table) n in
             rw (r, is-filled, same)
+
+-- ---- a book that is read opens by its line
+
+-- the opening of a line
+openedLine : Line → List ℕ → ℕ → Opening
+openedLine l table records =
+    let stores = check shortStore (leb tableLength (length table) && leb journalLength records) in
+    unlessRefused (refusal (stores ∷ placingChecks l table)) (opened l table) (refusedBook l table)
+
+by-line : (b : List ℕ) (l : Line) (ps : List ℕ) → readBook b ≡ acceptedBook l ps → (table : List ℕ) (records : ℕ)
+    → openingWith b table records ≡ openedLine l table records
+unfolding openingWith openedLine refusal
+by-line b l ps is-read table records =
+    let facts = read-line firstEdition b l ps is-read in
+    rw (facts .1, second-part (bookChecks b) (placingChecks (lineIn b) table) refl (facts .0))
+
+pub opened-alike : OpenedAlike
+opened-alike b c l ps qs p q table records = by-line b l ps p table records ∙ sym (by-line c l qs q table records)

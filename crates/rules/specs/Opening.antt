@@ -1,5 +1,6 @@
 -- The opening of a book: "Opening gives every train Free at its start, count 0, those places all 0 and Free, and the
 -- journal's records untouched."
+use mathlib.Core.Path.{_≡_}
 use mathlib.Core.Bool.{Bool, false, cond, _&&_}
 use mathlib.Core.List.{List, [], _∷_, _++_}
 use Prim.Native.Nat.{ℕ, zero, suc}
@@ -10,14 +11,14 @@ use Rattle.common.specs.Check.{Check, check, refusal, unlessRefused}
 use Rattle.common.specs.Tabulate.{tabulate}
 use Rattle.line.specs.Refusal.{shortStore, overfull, noWayThrough}
 use Rattle.line.specs.Line.{routeOf, tracksAt}
-use Rattle.line.specs.Book.{lineIn, bookChecks, emptyLine}
+use Rattle.line.specs.Book.{lineIn, bookChecks, emptyLine, acceptedBook, readBook}
 use Rattle.tracks.specs.Tracks.{hasTrack, unlessAway, trackFor}
 use Rattle.journal.specs.Journal.{journalLength}
 use Rattle.completion.specs.Configuration.{start, whereabouts, code, feasible}
 use Rattle.completion.specs.Table.{tableLength, bitOf, filled}
 use Rattle.rules.specs.Types.{Route, Line, Record, Free, Train, State, Opened}
 
--- "Checks in order: 2; 14 ..; 4; 15; 14 ..; 16; 17; 14 ..; 18; 19; 20.", with 23 directly after 16.
+-- "Checks in order: 2; 14 ..; 4; 15; 14 ..; 16; 17; 14 ..; 18; 19; 20.", with 23 directly after 16, and 27 after it.
 -- Of the journal only the number of records is looked at.
 abbrev pub openingChecks : List ℕ → List ℕ → ℕ → List Check
 openingChecks book table records =
@@ -101,3 +102,11 @@ openingWith book table records =
 
 abbrev pub opening : List ℕ → List ℕ → List Record → Opening
 opening book table journal = openingWith book table (length journal)
+
+-- ---- what is claimed of it
+
+-- books that are read as one line, in whatever edition and with whatever positions, open alike
+abbrev pub OpenedAlike : Type 0
+OpenedAlike = (b c : List ℕ) (l : Line) (ps qs : List ℕ)
+    → readBook b ≡ acceptedBook l ps → readBook c ≡ acceptedBook l qs
+    → (table : List ℕ) (records : ℕ) → openingWith b table records ≡ openingWith c table records

@@ -31,7 +31,7 @@ pub record SidingByte : Type 0 where
     sidings = 5;
     trains = 2;
     routes = route 0 2 ∷ route 2 0 ∷ replicate 4 noRoute;
-  }
+  } (replicate 8 0)
   -- "the byte names a post not in the line": post 3 of a line of three, whatever else it names; all of its posts may be
   -- named, and of eight all eight
   pub named : numbersOf (sidedX 7 ∷ sidedX 8 ∷ sidedX 13 ∷ sidedX 128
@@ -49,9 +49,10 @@ pub record SidingByte : Type 0 where
       ∷ bookOf 12 2 3 (1 ∷ 2 ∷ 1 ∷ 0 ∷ []) 2 (0 ∷ 2 ∷ 2 ∷ 0 ∷ 0 ∷ [])
       ∷ bookOf 10 2 3 (1 ∷ 2 ∷ 1 ∷ []) 2 (0 ∷ 2 ∷ 2 ∷ 0 ∷ []) ∷ [])
       ≡ 14 ∷ 16 ∷ 14 ∷ 14 ∷ 17 ∷ []
-  -- there is no edition 0 and no edition 3; 4 before 15
-  pub editions : numbersOf (map (λ v. bookOf 11 v 9 (1 ∷ 2 ∷ 1 ∷ 0 ∷ []) 2 (0 ∷ 2 ∷ 2 ∷ 0 ∷ [])) (0 ∷ 1 ∷ 2 ∷ 3 ∷ []))
-      ≡ 4 ∷ 15 ∷ 15 ∷ 4 ∷ []
+  -- there is no edition 0 and no edition 4; 4 before 15
+  pub editions : numbersOf
+      (map (λ v. bookOf 11 v 9 (1 ∷ 2 ∷ 1 ∷ 0 ∷ []) 2 (0 ∷ 2 ∷ 2 ∷ 0 ∷ [])) (0 ∷ 1 ∷ 2 ∷ 3 ∷ 4 ∷ []))
+      ≡ 4 ∷ 15 ∷ 15 ∷ 15 ∷ 4 ∷ []
 
 -- ---- a move still needs a free track before it
 

@@ -13,9 +13,10 @@ use Rattle.common.proofs.Check.{Refuses, none, stop, pass, refusal-is}
 use Rattle.line.specs.Refusal as number
 use Rattle.line.specs.declared.line.Line.{Line}
 use Rattle.line.specs.Line.{inRange, namesPosts, tracksInRange, routesOnLine}
-use Rattle.line.specs.Book.{total, byteAt, namedLength, postsOf, editionOf, sidingsOf, trainsIn}
-use Rattle.stages.specs.Stages.{Passed, Stopped, stageOf, postsStage, tracksStage, sidingsStage, trainsStage}
-use Rattle.stages.specs.Stages.{routesStage}
+use Rattle.line.specs.Positions.{positionsInOrder}
+use Rattle.line.specs.Book.{lastEdition, total, byteAt, namedLength, postsOf, editionOf, sidingsOf, trainsIn}
+use Rattle.stages.specs.Stages.{Passed, Stopped, stageOf, postsStage, tracksStage, sidingsStage, positionsStage}
+use Rattle.stages.specs.Stages.{trainsStage, routesStage}
 
 passes : {cs : List Check} (v : ℕ) → Refuses cs 0 → Passed v ≡ stageOf cs v
 unfolding unlessRefused
@@ -27,12 +28,12 @@ stops v r = rw (refusal-is r)
 
 -- ---- 14, 4, 15, 14
 
-module _ (b : List ℕ) where
-  pub posts-short : length b < 4 → Stopped number.tornBook ≡ postsStage b
+module _ (least : ℕ) (b : List ℕ) where
+  pub posts-short : length b < 4 → Stopped number.tornBook ≡ postsStage least b
   unfolding postsStage
   posts-short h = stops _ (stop (rw (lt-leb 4 (length b) h)))
 
-  pub posts-torn : namedLength b ≢ length b → Stopped number.tornBook ≡ postsStage b
+  pub posts-torn : namedLength b ≢ length b → Stopped number.tornBook ≡ postsStage least b
   unfolding postsStage
   posts-torn h = stops _ (stop (rw (ne-eqb (namedLength b) (length b) h) (and-false (leb 4 (length b)))))
 
@@ -40,21 +41,22 @@ module _ (b : List ℕ) where
     whole : leb 4 (length b) && eqb (namedLength b) (length b) ≡ true
     whole = and-both _ _ (le-leb 4 (length b) long) (eq-eqb (namedLength b) (length b) right)
 
-    pub posts-edition : inRange 1 2 (editionOf b) ≡ false → Stopped number.otherEdition ≡ postsStage b
+    pub posts-edition : inRange least lastEdition (editionOf b) ≡ false
+        → Stopped number.otherEdition ≡ postsStage least b
     unfolding postsStage
     posts-edition h = stops _ (pass whole (stop h))
 
-    module _ (edition : inRange 1 2 (editionOf b) ≡ true) where
-      pub posts-range : inRange 2 8 (postsOf b) ≡ false → Stopped number.posts ≡ postsStage b
+    module _ (edition : inRange least lastEdition (editionOf b) ≡ true) where
+      pub posts-range : inRange 2 8 (postsOf b) ≡ false → Stopped number.posts ≡ postsStage least b
       unfolding postsStage
       posts-range h = stops _ (pass whole (pass edition (stop h)))
 
       module _ (range : inRange 2 8 (postsOf b) ≡ true) where
-        pub posts-room : length b ≤ trainsIn b → Stopped number.tornBook ≡ postsStage b
+        pub posts-room : length b ≤ trainsIn b → Stopped number.tornBook ≡ postsStage least b
         unfolding postsStage
         posts-room h = stops _ (pass whole (pass edition (pass range (stop (le-ltb (trainsIn b) (length b) h)))))
 
-        pub posts-passed : trainsIn b < length b → Passed (postsOf b) ≡ postsStage b
+        pub posts-passed : trainsIn b < length b → Passed (postsOf b) ≡ postsStage least b
         unfolding postsStage
         posts-passed h =
             let room = lt-ltb (trainsIn b) (length b) h in
@@ -81,6 +83,17 @@ module _ (b : List ℕ) {n s : ℕ} (e : n ≡ postsOf b) (is : s ≡ sidingsOf 
   pub sidings-passed : namesPosts n s ≡ true → Passed s ≡ sidingsStage b
   unfolding sidingsStage
   sidings-passed h = rw is (passes _ (pass (rw (is, e) at h) none))
+
+-- ---- 27
+
+module _ (n : ℕ) (ps : List ℕ) where
+  pub positions-off : positionsInOrder n ps ≡ false → Stopped number.positions ≡ positionsStage n ps
+  unfolding positionsStage
+  positions-off h = stops _ (stop h)
+
+  pub positions-passed : positionsInOrder n ps ≡ true → Passed n ≡ positionsStage n ps
+  unfolding positionsStage
+  positions-passed h = passes _ (pass h none)
 
 -- ---- 17, 14
 

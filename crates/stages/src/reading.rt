@@ -4,23 +4,17 @@ ghost use mathlib.Core.Path.{_≡_};
 ghost use Prim.Native.Nat.{_≤_, _<_};
 ghost use lib.ListN.{length};
 ghost use Rattle.line.specs.Line.{inRange};
-ghost use Rattle.line.specs.Book.{added, sidingsAt, trainsAt, postsOf, sidingsOf, trainsIn};
+ghost use Rattle.line.specs.Book.{positioned, added, sidingsAt, trainsAt, postsOf, sidingsOf, trainsIn};
 ghost use Rattle.stages.specs.Stages.{postsStage, sidingsStage, trainsStage};
+use crate::stage::Stage;
 use line::names_posts;
 use line::refusal;
 use line::word::word;
 
-// What a stage of the reading answers: how many posts, track counts, trains or routes it read or the
-// siding byte, or else the number of the check that it stopped at.
-pub enum Stage {
-    Passed(u8),
-    Stopped(u8),
-}
+// The versions of a book. The first has no sidings, and only the last has positions.
+pub const FIRST_EDITION: u8 = 1;
 
-// The versions of a book. The first has no sidings.
-const FIRST_EDITION: u8 = 1;
-
-const LAST_EDITION: u8 = 2;
+pub const LAST_EDITION: u8 = 3;
 
 // Where the version, the number of posts and the track counts stand.
 pub const VERSION_AT: usize = 2;
@@ -35,9 +29,9 @@ fn in_range(low: u8, high: u8, n: u8) -> bool
     low <= n && n <= high
 }
 
-// Checks 14, 4, 15 and 14, and reads the number of posts.
-pub fn read_posts(book: &[u8]) -> Stage
-    ensures { λ r. ⌜ r ≡ postsStage (now (book .entry)) ⌝ }
+// Checks 14, 4, 15 and 14, and reads the number of posts, in the editions from `least` on.
+pub fn read_posts(book: &[u8], least: u8) -> Stage
+    ensures { λ r. ⌜ r ≡ postsStage least (now (book .entry)) ⌝ }
 {
     if book.len() < COUNTS_AT {
         return Stage::Stopped(refusal::TORN_BOOK);
@@ -46,7 +40,7 @@ pub fn read_posts(book: &[u8]) -> Stage
         return Stage::Stopped(refusal::TORN_BOOK);
     }
     let edition = book[VERSION_AT];
-    if !in_range(FIRST_EDITION, LAST_EDITION, edition) {
+    if !in_range(least, LAST_EDITION, edition) {
         return Stage::Stopped(refusal::OTHER_EDITION);
     }
     let posts = book[POSTS_AT];
@@ -61,19 +55,30 @@ pub fn read_posts(book: &[u8]) -> Stage
 
 // Where the number of trains stands.
 pub fn trains_at(posts: u8, edition: u8) -> usize
-    ensures { λ r. ⌜ r ≡ trainsAt posts (added edition) ⌝ }
+    ensures { λ r. ⌜ r ≡ trainsAt posts (added edition posts) ⌝ }
 {
-    COUNTS_AT + posts as usize + added_by(edition)
+    COUNTS_AT + posts as usize + added_by(edition, posts)
 }
 
-// How many bytes an edition adds after the track counts.
-fn added_by(edition: u8) -> usize
-    ensures { λ r. ⌜ r ≡ added edition ⌝ }
+// How many bytes an edition adds after the track counts of so many posts: the siding byte, and four
+// for each position.
+fn added_by(edition: u8, posts: u8) -> usize
+    ensures { λ r. ⌜ r ≡ added edition posts ⌝ }
 {
     if edition == FIRST_EDITION {
         return 0;
     }
-    1
+    1 + 4 * (positioned(edition, posts) as usize)
+}
+
+// How many of so many posts an edition gives a position.
+pub fn positioned(edition: u8, posts: u8) -> u8
+    ensures { λ r. ⌜ r ≡ positioned edition posts ⌝ }
+{
+    if edition == LAST_EDITION {
+        return posts;
+    }
+    0
 }
 
 // Checks 23, and reads the siding byte.

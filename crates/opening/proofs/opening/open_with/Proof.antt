@@ -4,17 +4,19 @@ use mathlib.Core.Path.{_≡_, sym, ap, _∙_}
 use mathlib.Core.Bool.{true}
 use mathlib.Core.List.{List}
 use Prim.Native.Nat.{ℕ, _≤_}
+use native.Mathlib.Omega.{arith}
 use denote.Ref.{now}
 use lib.ListN.{length}
 use borrow.Author.Needs.{needs}
 use borrow.Author.Tests.{not-true, not-false}
-use Rattle.line.specs.Book.{acceptedBook, readBook}
+use Rattle.line.specs.Book.{firstEdition, acceptedBook, readBook}
 use Rattle.line.proofs.Claims.{line-book}
+use Rattle.line.proofs.Reading.{read-as}
 use Rattle.journal.specs.Journal.{journalLength}
 use Rattle.completion.specs.Configuration.{start, code, feasible}
 use Rattle.completion.specs.Table.{tableLength, bitOf}
 use Rattle.opening.specs.Types.{Line}
-use Rattle.rules.proofs.OpeningCases.{start-code, read-as, handed, table-short, journal-short, book-refused}
+use Rattle.rules.proofs.OpeningCases.{start-code, handed, table-short, journal-short, book-refused}
 use Rattle.rules.proofs.OpeningCases.{start-overfull, no-way, opens}
 use Rattle.opening.proofs.opening.open_with.Statement.{statement}
 use Rattle.opening.proofs.opening.open_with.Tie as tie
@@ -58,17 +60,20 @@ module _ (c : tie.After-enum-told) where
   abbrev line : Line
   line = c .before .before .read .result .line
 
-  is-read : readBook (book stores) ≡ acceptedBook line
+  abbrev positions : List ℕ
+  positions = c .before .before .read .result .positions
+
+  is-read : readBook (book stores) ≡ acceptedBook line positions
   is-read =
       let a = c .before .before in
-      read-as (book stores) (a .read .result) (a .read .ensures) (c .enum-told .given .1)
+      read-as firstEdition (book stores) (a .read .result) (a .read .ensures) (c .enum-told .given .1)
 
 returns-4 : tie.Need-returns-4
 returns-4 c =
     let a = c .before .before in
     let r = a .before .before in
     handed _ _ (c .refused4 .ensures)
-    ∙ start-overfull _ _ _ (long (stores r)) (room (stores r)) (line r) (is-read r)
+    ∙ start-overfull _ _ _ (long (stores r)) (room (stores r)) (line r) (positions r) (is-read r)
     (sym (a .feasible-start .ensures) ∙ not-true _ (c .before .if3 .taken))
 
 -- the table is filled
@@ -94,20 +99,21 @@ returns-5 c =
     let a = c .before .before in
     let r = whole a in
     handed _ _ (c .refused5 .ensures)
-    ∙ no-way _ _ _ (long (stores r)) (room (stores r)) (line r) (is-read r) (fits a) _ _ (filling a .fill .ensures)
-    (tested a ∙ not-true _ (c .before .if4 .taken))
+    ∙ no-way _ _ _ (long (stores r)) (room (stores r)) (line r) (positions r) (is-read r) (fits a) _ _
+    (filling a .fill .ensures) (tested a ∙ not-true _ (c .before .if4 .taken))
 
 opened-state-requires : tie.Need-opened-state-requires
 opened-state-requires c κs =
-    let r = whole (c .before) in line-book .only (book (stores r)) (line r) (is-read r) .formed
+    let r = whole (c .before) in
+    line-book .only firstEdition (omega arith) (book (stores r)) (line r) (positions r) (is-read r) .1 .formed
 
 returns-6 : tie.Need-returns-6
 returns-6 c =
     let a = c .before .before in
     let r = whole a in
     rw (c .opened-state .ensures)
-    (opens _ _ _ (long (stores r)) (room (stores r)) (line r) (is-read r) (fits a) _ _ (filling a .fill .ensures)
-    (tested a ∙ not-false _ (c .before .if4 .left)))
+    (opens _ _ _ (long (stores r)) (room (stores r)) (line r) (positions r) (is-read r) (fits a) _ _
+    (filling a .fill .ensures) (tested a ∙ not-false _ (c .before .if4 .left)))
 
 pub open-with-spec : {M : Type 1} → statement M
 open-with-spec =

@@ -1,4 +1,5 @@
--- `reading::trains_at` meets its contract: what an edition adds is at most a byte, so the sum fits.
+-- `reading::trains_at` meets its contract: what an edition adds is at most a byte and four for each
+-- post, so the sum fits.
 use native.Mathlib.Omega.{arith}
 use borrow.Author.Needs.{needs}
 use Rattle.line.proofs.Bytes.{added-few}
@@ -6,7 +7,7 @@ use Rattle.stages.proofs.reading.trains_at.Statement.{statement}
 use Rattle.stages.proofs.reading.trains_at.Tie as tie
 
 add-result-2 : tie.Need-add-result-2
-add-result-2 c = omega (arith, c .added-by .ensures, added-few (c .before .args .edition))
+add-result-2 c = omega (arith, c .added-by .ensures, added-few (c .before .args .edition) (c .before .args .posts))
 
 pub trains-at-spec : {M : Type 1} → statement M
 trains-at-spec =
