@@ -1,7 +1,7 @@
 /*
  * quangevit.h: the two ends of single-line train dispatching (Zugleitbetrieb), the dispatcher's box
- * and the driver's unit, over byte buffers. Link libquangevit.a (`rt staticlib quangevit` builds
- * it).
+ * and the driver's unit, over byte buffers, and the running time between two posts, for planners.
+ * Link libquangevit.a (`rt staticlib quangevit` builds it).
  *
  * Every store is a buffer that the caller lends: a pointer, then its length in bytes. A pointer is
  * never null, also where the length is 0; no two buffers of one call overlap; nothing is kept
@@ -36,15 +36,15 @@
 extern "C" {
 #endif
 
-/* 100 times the edition (what the ends answer) plus the revision: 400 is version 4.00. */
-#define QUANGEVIT_VERSION 400
+/* 100 times the edition (what the ends answer) plus the revision: 500 is version 5.00. */
+#define QUANGEVIT_VERSION 500
 
 #define QUANGEVIT_REFUSAL(answer) ((answer) & 255u)
 #define QUANGEVIT_SENT(answer) ((answer) >> 8)
 
 /*
- * Sizes of buffers, in bytes. Line, state and unit have exactly this length; table, journal and out
- * at least this length; a frame that is heard or answered has exactly this length, and the buffer
+ * Sizes of buffers, in bytes. Line, state, unit and time have exactly this length; table, journal
+ * and out at least this length; a frame that is heard or answered has exactly this length, and the buffer
  * that a press is lent for its frame at least this length.
  */
 #define QUANGEVIT_LINE_BYTES 23
@@ -54,29 +54,38 @@ extern "C" {
 #define QUANGEVIT_OUT_BYTES 42       /* six frames */
 #define QUANGEVIT_FRAME_BYTES 7
 #define QUANGEVIT_UNIT_BYTES 5
-#define QUANGEVIT_BOOK_MOST_BYTES 26 /* the longest book */
+#define QUANGEVIT_TIME_BYTES 8
+#define QUANGEVIT_BOOK_MOST_BYTES 58 /* the longest book */
 
 #define QUANGEVIT_POSTS_MOST 8
 #define QUANGEVIT_TRAINS_MOST 6
 #define QUANGEVIT_LOCAL_RUNS_MOST 20 /* given since the opening */
+#define QUANGEVIT_METRES_MOST 8388607 /* a post's position */
+#define QUANGEVIT_SPEED_MOST 160      /* km/h */
 
 /* Stack that a call needs, in bytes. */
-#define QUANGEVIT_STACK_READ_BOOK 256
-#define QUANGEVIT_STACK_OPEN 768
+#define QUANGEVIT_STACK_READ_BOOK 512
+#define QUANGEVIT_STACK_OPEN 896
+#define QUANGEVIT_STACK_RUNNING_TIME 640
 #define QUANGEVIT_STACK_ANSWER 1280
 #define QUANGEVIT_STACK_UNIT 128 /* each call of a unit, and quangevit_version */
 
 /* ---- what the bytes mean */
 
 /*
- * Book: two bytes of length, high byte first (the bytes after them), the version byte 1 or 2, which
- * is the book's edition, the number of posts P (2 to 8), P track counts (1 to 4 each), in edition 2
- * the siding byte, the number of trains T (1 to 6), then start and end post of each train. In all
- * 5 + P + 2 T bytes, and one more in edition 2.
+ * Book: two bytes of length, high byte first (the bytes after them), the version byte 1 to 3, which
+ * is the book's edition, the number of posts P (2 to 8), P track counts (1 to 4 each), in editions 2
+ * and 3 the siding byte, in edition 3 the position of each post, the number of trains T (1 to 6),
+ * then start and end post of each train. In all 5 + P + 2 T bytes, in edition 2 one more, and in
+ * edition 3 1 + 4 P more.
  *
  * The siding byte is a set of posts: the bit of value 2^i says that post i has a siding. Of a book
  * of edition 1 it is 0. A train standing at its end where there is a siding holds no track; a move
  * into that post needs a free track before it all the same.
+ *
+ * A position is in metres along the line, four bytes, high byte first. The first post's is 0, every
+ * other one's above that of the post before it, and none above 8,388,607. They serve the running
+ * time alone: neither the line nor the state has them, and no answer to a frame depends on them.
  */
 
 /*
@@ -185,6 +194,13 @@ enum quangevit_kind {
     QUANGEVIT_LB = 7   /* the gang gives it back */
 };
 
+/*
+ * Time: whole seconds and the rest, four bytes each, high byte first. Over L metres at v km/h, 18 L
+ * is 5 v times the seconds, plus the rest, which is below 5 v. The rest counts eighteenths of a
+ * metre not yet run, so that rests at one speed add up: 5 v of them are a second.
+ */
+enum quangevit_time_at { QUANGEVIT_TIME_SECONDS_AT = 0, QUANGEVIT_TIME_REST_AT = 4 };
+
 /* Unit: the five bytes of a driver's unit. Five bytes with another phase encode no unit. */
 enum quangevit_unit_at {
     QUANGEVIT_UNIT_TRAIN_AT = 0,
@@ -213,16 +229,18 @@ enum quangevit_button {
 enum quangevit_refusal {
     QUANGEVIT_ACCEPTED = 0,
     QUANGEVIT_STRANGE_STATE = 1,    /* the bytes encode no state or unit, or it is not sound; or a
-                                       line, state or unit buffer has another length */
+                                       line, state, unit or time buffer has another length */
     QUANGEVIT_SHORT_STORE = 2,      /* table, journal, out buffer or a press's frame too short */
     QUANGEVIT_TORN_FRAME = 3,       /* frame not 7 bytes, or its length bytes not 0 and 5 */
-    QUANGEVIT_OTHER_EDITION = 4,    /* version byte of a frame not 1, of a book not 1 or 2 */
+    QUANGEVIT_OTHER_EDITION = 4,    /* version byte of a frame not 1, of a book not 1 to 3; for a
+                                       running time, of a book not 3 */
     QUANGEVIT_UNKNOWN_KIND = 5,     /* kind not 1 to 7 */
     QUANGEVIT_WRONG_END = 6,        /* FE, AFE, LE at the dispatcher; FA, AM at a unit */
     QUANGEVIT_UNKNOWN_TRAIN = 7,    /* no train of this number; LA, LB: train byte not 255 */
     QUANGEVIT_AT_ITS_END = 8,       /* no next post */
     QUANGEVIT_WRONG_POST = 9,       /* from or to not present and next post; LA, LB: not two
-                                       neighbouring posts of the line, lower first */
+                                       neighbouring posts of the line, lower first; running time: a
+                                       post not on the line */
     QUANGEVIT_ALREADY_ASKED = 10,   /* FA of an Asked train */
     QUANGEVIT_UNDER_AUTHORITY = 11, /* FA of a Running train */
     QUANGEVIT_NO_AUTHORITY = 12,    /* AM of a train not Running */
@@ -239,7 +257,9 @@ enum quangevit_refusal {
     QUANGEVIT_SIDINGS = 23,         /* the siding byte names a post not on the line */
     QUANGEVIT_SECTION_TAKEN = 24,   /* LA: a train or a gang has the section */
     QUANGEVIT_NO_LOCAL_RUN = 25,    /* LB: no gang has the section */
-    QUANGEVIT_TWENTY_GIVEN = 26     /* LA: twenty local runs were given */
+    QUANGEVIT_TWENTY_GIVEN = 26,    /* LA: twenty local runs were given */
+    QUANGEVIT_POSITIONS = 27,       /* positions not from 0, not rising, or above 8,388,607 */
+    QUANGEVIT_SPEED = 28            /* speed not 1 to 160 */
 };
 
 /* The version of the library that is linked: QUANGEVIT_VERSION where it fits this header. */
@@ -250,9 +270,9 @@ uint32_t quangevit_version(void);
 /*
  * Reads a book and writes the line that it describes. Checks, in this order: 1, a line buffer that
  * is not 23 bytes, which is left alone; 14, a book under 4 bytes or of another length than it
- * names; 4; 15; 14, under 5 + P bytes, or 6 + P in edition 2; 16; 23; 17; 14, not 5 + P + 2 T
- * bytes, or 6 + P + 2 T in edition 2; 18. A book that is refused by 4, 14 to 18 or 23 writes 23
- * zeros.
+ * names; 4; 15; 14, under 5 + P bytes, 6 + P in edition 2, or 6 + 5 P in edition 3; 16; 23; 27; 17;
+ * 14, not 5 + P + 2 T bytes, 6 + P + 2 T in edition 2, or 6 + 5 P + 2 T in edition 3; 18. A book
+ * that is refused by 4, 14 to 18, 23 or 27 writes 23 zeros. The positions are not written.
  */
 uint32_t quangevit_read_book(const uint8_t *book, size_t book_len, uint8_t *line, size_t line_len);
 
@@ -261,8 +281,8 @@ uint32_t quangevit_read_book(const uint8_t *book, size_t book_len, uint8_t *line
  * its track there, no gang has a section, and the journal has no record. What the state buffer held
  * is not looked at; the journal is only measured. Checks, in this order: 1, a state buffer that is
  * not 56 bytes, and nothing is changed; 2, table or journal; those of quangevit_read_book from 14
- * on; 19; 20. A refusal by 2, 4, 14 to 20 or 23 writes 56 zeros, a state on which quangevit_answer
- * gives 1; the table is then left alone, but for 20, which leaves it filled.
+ * on; 19; 20. A refusal by 2, 4, 14 to 20, 23 or 27 writes 56 zeros, a state on which
+ * quangevit_answer gives 1; the table is then left alone, but for 20, which leaves it filled.
  */
 uint32_t quangevit_open(const uint8_t *book, size_t book_len, uint8_t *state, size_t state_len,
                         uint8_t *table, size_t table_len, const uint8_t *journal,
@@ -278,6 +298,17 @@ uint32_t quangevit_open(const uint8_t *book, size_t book_len, uint8_t *state, si
 uint32_t quangevit_answer(uint8_t *state, size_t state_len, const uint8_t *table, size_t table_len,
                           uint8_t *journal, size_t journal_len, const uint8_t *frame,
                           size_t frame_len, uint8_t *out, size_t out_len);
+
+/* ---- for planners */
+
+/*
+ * The running time from one post of a book to another, in either direction, at a speed in km/h.
+ * Checks, in this order: 1, a time buffer that is not 8 bytes; those of quangevit_read_book from 14
+ * on, where a version other than 3 is 4; 9, a post not below P; 28. A refusal changes nothing. No
+ * train is placed: a book that quangevit_open refuses by 19 or 20 is answered.
+ */
+uint32_t quangevit_running_time(const uint8_t *book, size_t book_len, uint8_t from, uint8_t to,
+                                uint32_t speed, uint8_t *time, size_t time_len);
 
 /* ---- the driver's end */
 

@@ -3,16 +3,16 @@
 -- refused opening leaves bytes of another length than a state's, or the empty state, which is not valid.
 use mathlib.Core.Path.{_≡_, refl, sym, ap, subst, _∙_}
 use mathlib.Core.Logic.{_≢_}
-use mathlib.Core.Bool.{Bool, true, false, _&&_}
+use mathlib.Core.Bool.{true, false}
 use mathlib.Core.List.{List, [], _∷_}
 use Prim.Native.Nat.{ℕ, _+_, _*_, _/_, _%_, _<_}
 use native.Mathlib.Omega.{arith}
-use lib.Dec.{eqb, ltb}
+use lib.Dec.{eqb}
 use lib.ListN.{length}
-use borrow.Author.Tests.{eqb-true, ltb-true, eq-eqb, ne-eqb}
-use Rattle.common.specs.Check.{Check, refusal, unlessRefused}
-use Rattle.common.proofs.Tests.{by-cases, by-equality, and-left, and-right}
-use Rattle.common.proofs.Check.{accepts, refuses}
+use borrow.Author.Tests.{eqb-true, eq-eqb, ne-eqb}
+use Rattle.common.specs.Check.{refusal, unlessRefused}
+use Rattle.common.proofs.Tests.{by-cases, by-equality}
+use Rattle.common.proofs.Check.{numbersBelow, refusal-below, accepts, refuses}
 use Rattle.line.specs.Refusal.{strangeState}
 use Rattle.line.specs.Line.{wellFormed}
 use Rattle.line.specs.Book.{lineIn}
@@ -38,18 +38,6 @@ use Rattle.calls.proofs.HandedOn.{either, answer-records, handed-on}
 use Rattle.calls.proofs.BoxSteps.{not-opened, not-answered}
 
 -- ---- the verdict, read from the word
-
--- every number is below b
-abbrev numbersBelow : ℕ → List Check → Bool
-numbersBelow b [] = true
-numbersBelow b (c ∷ cs) = ltb (c .number) b && numbersBelow b cs
-
-refusal-below : (b : ℕ) (cs : List Check) → 0 < b → numbersBelow b cs ≡ true → refusal cs < b
-unfolding refusal
-refusal-below b [] h k = h
-refusal-below b (c ∷ cs) h k = by-cases (c .passes)
-    (λ p. rw p (refusal-below b cs h (and-right (ltb (c .number) b) (numbersBelow b cs) k)))
-    (λ p. rw p (ltb-true (c .number) b (and-left (ltb (c .number) b) (numbersBelow b cs) k)))
 
 refused-word : (n : ℕ) → n ≢ 0 → n < 256 → verdictIn (wordOf n 0) ≡ RefusedBy n
 refused-word n h k = let low : (n + 256 * 0) % 256 ≡ n = omega arith in rw (low, ne-eqb n 0 h)

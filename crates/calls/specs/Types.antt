@@ -7,6 +7,7 @@ pub use Rattle.driver.specs.declared.result.Heard.{Heard}
 pub use Rattle.driver.specs.declared.result.Pressed.{Pressed}
 pub use Rattle.line.specs.declared.line.Line.{Line}
 pub use Rattle.line.specs.declared.line.Reading.{Reading}
+pub use Rattle.timing.specs.declared.timing.Time.{Time}
 pub use Rattle.frame.specs.declared.message.Message.{Message}
 pub use Rattle.journal.specs.declared.record.Record.{Record}
 pub use Rattle.rules.specs.declared.state.State.{State}

@@ -1,10 +1,13 @@
-// A unit read from bytes and written to them, and a journal written. Which bytes these are is said in
-// `encoding`.
+// A unit read from bytes and written to them, a journal and a running time written. Which bytes these
+// are is said in `encoding`.
 mod journal_bytes;
+mod time_bytes;
 mod unit_bytes;
 
 pub use journal_bytes::RECORD_LENGTH;
 pub use journal_bytes::append;
+pub use time_bytes::TIME_LENGTH;
+pub use time_bytes::put_time;
 pub use unit_bytes::UNIT_LENGTH;
 pub use unit_bytes::button_of;
 pub use unit_bytes::encodes_unit;

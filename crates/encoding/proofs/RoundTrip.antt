@@ -3,7 +3,7 @@
 use mathlib.Core.Path.{_≡_, refl, sym, ap, _∙_}
 use mathlib.Core.Bool.{Bool, true, false}
 use mathlib.Core.List.{List}
-use Prim.Native.Nat.{ℕ, zero, suc, _+_, _*_, _≤_, _<_}
+use Prim.Native.Nat.{ℕ, zero, suc, _+_, _*_, _^_, _≤_, _<_}
 use native.Mathlib.Nat.{add-zero}
 use native.Mathlib.Omega.{arith}
 use lib.Dec.{leb, eqb}
@@ -14,12 +14,13 @@ use Rattle.common.specs.Below.{ofBool}
 use Rattle.common.specs.Tabulate.{tabulate}
 use Rattle.common.proofs.Below.{below-all}
 use Rattle.common.proofs.Tabulate.{length-tabulate, at-tabulate, tabulate-cong}
+use Rattle.common.proofs.Word.{long-word-back}
 use Rattle.line.specs.Book.{byteAt}
 use Rattle.journal.specs.Journal.{blank}
 use Rattle.driver.specs.State.{phaseNo}
 use Rattle.rules.specs.State.{noTrain, trainOf}
 use Rattle.encoding.specs.Types.{Phase, Standing, Asked, Declined, Granted, UnderWay, Arrived, Unit}
-use Rattle.encoding.specs.Types.{Status, Free, AskedAs, Running, Train, State, Record}
+use Rattle.encoding.specs.Types.{Status, Free, AskedAs, Running, Train, State, Record, Time}
 use Rattle.encoding.specs.Parts.{headBytes}
 use Rattle.encoding.specs.UnitBytes.{unitBytes, encodesUnit, phaseOf, unitIn}
 use Rattle.encoding.specs.StateBytes.{statusNo, detail, trainBytes, stateParts, stateBytes}
@@ -28,6 +29,7 @@ use Rattle.encoding.specs.StateBytes.{encodesStatus, encodesTrains, enco
 use Rattle.encoding.specs.StateBytes.{statusOf, trainIn, tracksIn, fleetIn, possessionsIn, stateIn}
 use Rattle.encoding.specs.JournalBytes.{recordLength, recordBytes, recordIn, recordCount, recordsIn}
 use Rattle.encoding.specs.JournalBytes.{journalParts, withRecords}
+use Rattle.encoding.specs.TimeBytes.{timeLength, timeBytes, secondsIn, restIn}
 use Rattle.encoding.specs.RoundTrip.{Shaped, BytesReadBack}
 use Rattle.encoding.proofs.Parts.{At, bytes-at, within, joined-at, at-joined, whole-at}
 use Rattle.encoding.proofs.Parts.{length-each, each-at}
@@ -227,6 +229,17 @@ module _ (b : List ℕ) (j : List Record) (size : length j ≡ recordCount (leng
       (λ i h. record-read (withRecords b j) (recordLength * i) (getD j i blank) (record-stands i (rw size h)))
       ∙ elements (recordCount (length b)) j blank size
 
+-- ---- times
+
+time-length : (t : Time) → length (timeBytes t) ≡ timeLength
+unfolding timeBytes
+time-length t = refl
+
+time-back : (t : Time) → t .seconds < 2 ^ 32 → t .rest < 2 ^ 32
+    → (secondsIn (timeBytes t) ≡ t .seconds) × (restIn (timeBytes t) ≡ t .rest)
+unfolding timeBytes
+time-back t s r = (long-word-back (t .seconds) s, long-word-back (t .rest) r)
+
 pub round-trip : BytesReadBack
 round-trip = record {
   unit-encoded = unit-encoded;
@@ -237,4 +250,6 @@ round-trip = record {
   state-only = state-only;
   journal-only = own-records;
   journal-back = records-back;
+  time-length = time-length;
+  time-back = time-back;
 }

@@ -3,12 +3,13 @@
 use mathlib.Core.Path.{_≡_}
 use mathlib.Core.Bool.{true}
 use mathlib.Core.List.{List}
-use Prim.Native.Nat.{ℕ}
+use Prim.Native.Nat.{ℕ, _^_, _<_}
 use lib.ListN.{length}
-use Rattle.encoding.specs.Types.{Unit, State, Record}
+use Rattle.encoding.specs.Types.{Unit, State, Record, Time}
 use Rattle.encoding.specs.UnitBytes.{unitBytes, encodesUnit, unitIn}
 use Rattle.encoding.specs.StateBytes.{stateBytes, encodesState, stateIn}
 use Rattle.encoding.specs.JournalBytes.{recordCount, recordsIn, withRecords}
+use Rattle.encoding.specs.TimeBytes.{timeLength, timeBytes, secondsIn, restIn}
 
 -- a state whose lists have the lengths that its declared type gives them
 pub record Shaped (s : State) : Type 0 where
@@ -30,3 +31,7 @@ pub record BytesReadBack : Type 0 where
   -- and records that are as many read back from it
   pub journal-back : (b : List ℕ) (j : List Record) → length j ≡ recordCount (length b)
       → recordsIn (withRecords b j) ≡ j
+  -- a time whose numbers 32 bits hold is eight bytes, which say both
+  pub time-length : (t : Time) → length (timeBytes t) ≡ timeLength
+  pub time-back : (t : Time) → t .seconds < 2 ^ 32 → t .rest < 2 ^ 32
+      → (secondsIn (timeBytes t) ≡ t .seconds) × (restIn (timeBytes t) ≡ t .rest)

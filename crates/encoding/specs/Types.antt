@@ -7,6 +7,7 @@ pub use Rattle.driver.specs.declared.state.Button.the-variants.{Ask, Depart, Re
 pub use Rattle.driver.specs.declared.state.Unit.{Unit}
 pub use Rattle.line.specs.declared.route.Route.{Route}
 pub use Rattle.line.specs.declared.line.Line.{Line}
+pub use Rattle.timing.specs.declared.timing.Time.{Time}
 pub use Rattle.journal.specs.declared.record.Record.{Record}
 pub use Rattle.journal.specs.declared.batch.Batch.{Batch}
 pub use Rattle.rules.specs.declared.state.Status.{Status}

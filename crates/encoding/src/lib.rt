@@ -1,6 +1,6 @@
-// Which bytes stand for a unit, a line, a state and a journal. The places are numbered here; specs/
-// has the definitions that the contracts of `placing`, `decoding`, `storing` and `codec` cite, and the
-// claims over them.
+// Which bytes stand for a unit, a line, a state, a journal and a running time. The places of a line and
+// of a state are numbered here; specs/ has the definitions that the contracts of `placing`,
+// `decoding`, `storing` and `codec` cite, and the claims over them.
 mod places;
 
 pub use places::GIVEN_AT;
