@@ -1,6 +1,8 @@
 -- Each claim, by its proof.
 use Rattle.line.proofs.Claims.{line-book}
 use Rattle.line.proofs.Sidings.{sidings}
+use Rattle.line.proofs.Positions.{positions}
+use Rattle.timing.proofs.Claims.{running-time}
 use Rattle.tracks.proofs.Choice.{track-rule}
 use Rattle.frame.proofs.RoundTrip.{round-trip as frames-read-back}
 use Rattle.journal.proofs.Records.{logged-as-sent}
@@ -14,6 +16,7 @@ use Rattle.driver.proofs.Refusals.{refusals as unit-refusals}
 use Rattle.driver.proofs.History.{history}
 use Rattle.rules.proofs.Acceptance.{numbers-told}
 use Rattle.rules.proofs.Refusals.{refusals}
+use Rattle.rules.proofs.OpeningCases.{opened-alike}
 use Rattle.assurance.proofs.WholeList.{whole-list}
 use Rattle.conduct.proofs.OneFrame.{valid-kept, refusals-change-nothing, at-most-six, bit-in-table}
 use Rattle.conduct.proofs.OneFrame.{track-found, exact-grant, oldest-first, right-grant}
@@ -31,6 +34,7 @@ use Rattle.conduct.proofs.Recorded.{journal-told}
 use Rattle.encoding.proofs.RoundTrip.{round-trip as bytes-read-back}
 use Rattle.calls.proofs.HandedOn.{handed-on}
 use Rattle.calls.proofs.CallRuns.{call-runs}
+use Rattle.calls.proofs.TimeTold.{time-told}
 use Rattle.console.proofs.Transcript.{transcribes}
 use Rattle.examples.proofs.Examples.{examples, printed-run}
 use Rattle.examples.proofs.Books.{books}
@@ -39,12 +43,16 @@ use Rattle.stabling.proofs.Sidings.{siding-byte, still-needs-a-track, put-away,
 use Rattle.platforms.proofs.Tracks.{opened-tracks, tracks-in-turn, tracks-seen, track-states}
 use Rattle.possessions.proofs.Gangs.{gang-on-x, named, beside-trains, other-section, granting-after-lb, twenty-runs}
 use Rattle.possessions.proofs.Gangs.{gang-states, gangs-seen}
+use Rattle.distances.proofs.Evaluated.{position-bytes, opened-with-positions, times, time-refusals}
+use Rattle.distances.proofs.Evaluated.{answered-all-the-same}
 use Rattle.promises.specs.Claims.{Parts, Cab, OneFrame, WholeLists, InUse, Evaluated}
 
 pub parts : Parts
 parts = record {
   book = line-book;
   sidings = sidings;
+  positions = positions;
+  running-time = running-time;
   tracks = track-rule;
   frames = frames-read-back;
   records = logged-as-sent;
@@ -54,6 +62,7 @@ parts = record {
   table = table-rule;
   codes = unique-codes;
   first-move = first-move;
+  opened-alike = opened-alike;
 }
 
 pub cab : Cab
@@ -95,6 +104,7 @@ in-use = record {
   bytes = bytes-read-back;
   handed-on = handed-on;
   runs = call-runs;
+  time-told = time-told;
   transcript = transcribes;
 }
 
@@ -126,4 +136,9 @@ evaluated = record {
   twenty-runs = twenty-runs;
   gang-states = gang-states;
   gangs-seen = gangs-seen;
+  position-bytes = position-bytes;
+  opened-with-positions = opened-with-positions;
+  times = times;
+  time-refusals = time-refusals;
+  answered-all-the-same = answered-all-the-same;
 }

@@ -1,5 +1,6 @@
 -- Each claim over the definitions that the contracts cite, by name. It is stated in the file that its `use` line names.
-use Rattle.line.specs.Claims.{LineBook, Sidings}
+use Rattle.line.specs.Claims.{LineBook, Sidings, Positions}
+use Rattle.timing.specs.Claims.{RunningTime}
 use Rattle.tracks.specs.Tracks.{TrackRule}
 use Rattle.frame.specs.RoundTrip.{FramesReadBack}
 use Rattle.journal.specs.Journal.{LoggedAsSent, OnlyAppended}
@@ -10,6 +11,7 @@ use Rattle.driver.specs.Refusals.{UnitRefusals}
 use Rattle.driver.specs.History.{History}
 use Rattle.rules.specs.Answer.{NumbersTold}
 use Rattle.rules.specs.Refusals.{Refusals}
+use Rattle.rules.specs.Opening.{OpenedAlike}
 use Rattle.assurance.specs.WholeList.{WholeList}
 use Rattle.conduct.specs.OneFrame.{ValidKept, RefusalsChangeNothing, AtMostSix, BitInTable}
 use Rattle.conduct.specs.OneFrame.{TrackFound, TrackKept, ExactGrant, OldestFirst, RightGrant}
@@ -25,6 +27,7 @@ use Rattle.conduct.specs.Recorded.{JournalTold}
 use Rattle.encoding.specs.RoundTrip.{BytesReadBack}
 use Rattle.calls.specs.HandedOn.{HandedOn}
 use Rattle.calls.specs.CallRuns.{CallRuns}
+use Rattle.calls.specs.PlanningCalls.{TimeTold}
 use Rattle.console.specs.Transcript.{Transcribes}
 use Rattle.examples.specs.Examples.{Examples, PrintedRun}
 use Rattle.examples.specs.Books.{Books}
@@ -33,13 +36,19 @@ use Rattle.stabling.specs.Sidings.{SidingByte, StillNeedsATrack, PutAway, Sidin
 use Rattle.platforms.specs.Tracks.{OpenedTracks, TracksInTurn, TracksSeen, TrackStates}
 use Rattle.possessions.specs.Gangs.{GangOnX, Named, BesideTrains, OtherSection, GrantingAfterLb, TwentyRuns}
 use Rattle.possessions.specs.Gangs.{GangStates, GangsSeen}
+use Rattle.distances.specs.Positions.{PositionBytes, OpenedWithPositions}
+use Rattle.distances.specs.Times.{Times, TimeRefusals, AnsweredAllTheSame}
 
--- any book, frame, record, table
+-- any book, question, frame, record, table
 pub record Parts : Type 0 where
   -- a book is read as one line or refused, and only the bytes of a line are read as it
   pub book : LineBook
   -- which siding bytes are read; a train at its end in a siding holds no track, and every other train one
   pub sidings : Sidings
+  -- which positions are in order, and that only edition 3 has some
+  pub positions : Positions
+  -- whole seconds and the rest, for each question that is accepted; by which number any other is refused
+  pub running-time : RunningTime
   -- which track a train gets: the smallest that is not held, or the largest
   pub tracks : TrackRule
   -- demand 2: frames read back as written, and only such frames are read
@@ -55,6 +64,8 @@ pub record Parts : Type 0 where
   pub table : TableRule
   pub codes : UniqueCodes
   pub first-move : FirstMove
+  -- positions and edition do not matter to the opening
+  pub opened-alike : OpenedAlike
 
 -- the unit: any press and any frame, and any list of them
 pub record Cab : Type 0 where
@@ -111,6 +122,7 @@ pub record InUse : Type 0 where
   pub bytes : BytesReadBack
   pub handed-on : HandedOn
   pub runs : CallRuns
+  pub time-told : TimeTold
   pub transcript : Transcribes
 
 -- the paper's examples A to L and its printed run, and further ones: what the definitions say, evaluated
@@ -141,3 +153,8 @@ pub record Evaluated : Type 0 where
   pub twenty-runs : TwentyRuns
   pub gang-states : GangStates
   pub gangs-seen : GangsSeen
+  pub position-bytes : PositionBytes
+  pub opened-with-positions : OpenedWithPositions
+  pub times : Times
+  pub time-refusals : TimeRefusals
+  pub answered-all-the-same : AnsweredAllTheSame

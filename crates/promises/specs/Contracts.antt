@@ -1,6 +1,8 @@
 -- The contract of each entry point: the type of its theorem, that the compiled function meets what stands above its
 -- code. No entry point has a `requires`. M is the model of memory over which the logic states its theorems: any.
 use Rattle.book.proofs.read.Statement.{statement as ReadBook}
+use Rattle.book.proofs.read_positioned.Statement.{statement as ReadPositioned}
+use Rattle.timing.proofs.running_time.Statement.{statement as RunningTime}
 use Rattle.framing.proofs.read.Statement.{statement as ReadFrame}
 use Rattle.framing.proofs.write.Statement.{statement as WriteFrame}
 use Rattle.framing.proofs.place.Statement.{statement as PlaceFrame}
@@ -33,6 +35,7 @@ use Rattle.quangevit.proofs.quangevit_version.Statement.{statement as CallVersi
 use Rattle.quangevit.proofs.quangevit_read_book.Statement.{statement as CallReadBook}
 use Rattle.quangevit.proofs.quangevit_open.Statement.{statement as CallOpen}
 use Rattle.quangevit.proofs.quangevit_answer.Statement.{statement as CallAnswer}
+use Rattle.quangevit.proofs.quangevit_running_time.Statement.{statement as CallRunningTime}
 use Rattle.quangevit.proofs.quangevit_make_unit.Statement.{statement as CallMakeUnit}
 use Rattle.quangevit.proofs.quangevit_press.Statement.{statement as CallPress}
 use Rattle.quangevit.proofs.quangevit_hear.Statement.{statement as CallHear}
@@ -44,9 +47,11 @@ use Rattle.intake.proofs.printed.Statement.{statement as Printed}
 use Rattle.printout.proofs.run_text.Statement.{statement as RunText}
 use Rattle.printout.proofs.book_text.Statement.{statement as BookText}
 
--- the parts: a book, frames, the table, the journal
+-- the parts: a book, a running time, frames, the table, the journal
 pub record Functions (M : Type 1) : Type 2 where
   pub read-book : ReadBook M
+  pub read-positioned : ReadPositioned M
+  pub running-time : RunningTime M
   pub read-frame : ReadFrame M
   pub write-frame : WriteFrame M
   pub place-frame : PlaceFrame M
@@ -85,6 +90,7 @@ pub record CallsInC (M : Type 1) : Type 2 where
   pub read-book : CallReadBook M
   pub open-box : CallOpen M
   pub answer : CallAnswer M
+  pub running-time : CallRunningTime M
   pub make-unit : CallMakeUnit M
   pub press : CallPress M
   pub hear : CallHear M

@@ -1,0 +1,2 @@
+-- The examples with positions and running times, evaluated.
+pub mod Evaluated
