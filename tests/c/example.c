@@ -1,7 +1,8 @@
 /*
  * The run of 01 from C: opens book X, answers eight frames that two drivers' units give, and prints
  * the journal. Then one unit goes once through its flow, books with sidings and with several tracks
- * are opened, and gangs get a section. Exit status 0 where all went as the paper says, else 1.
+ * are opened, gangs get a section, and running times are added up. Exit status 0 where all went as
+ * the paper says, else 1.
  *
  *   rt staticlib quangevit
  *   cc -Wall -Wextra -I crates/quangevit tests/c/example.c target/staticlib/libquangevit.a -o example
@@ -201,6 +202,44 @@ static void local_runs(void) {
     expect(answer(la) == QUANGEVIT_TWENTY_GIVEN, "a section is given the twenty-first time");
 }
 
+/* The number of four bytes. */
+static uint32_t number_at(const uint8_t *bytes) {
+    return (uint32_t)bytes[0] << 24 | (uint32_t)bytes[1] << 16 | (uint32_t)bytes[2] << 8 | bytes[3];
+}
+
+/* X as a book of edition 3, its posts at 0, 1,000 and 2,234 metres. */
+static uint8_t book_3[] = {
+    0x00, 0x17, 3, 3, 1, 2, 1, 0,                   /* up to the siding byte */
+    0, 0, 0, 0, 0, 0, 0x03, 0xE8, 0, 0, 0x08, 0xBA, /* positions */
+    2, 0, 2, 2, 0,                                  /* trains */
+};
+
+static uint8_t told[QUANGEVIT_TIME_BYTES];
+
+static uint32_t ask_time(uint8_t from, uint8_t to, uint32_t speed) {
+    return quangevit_running_time(book_3, sizeof book_3, from, to, speed, told, sizeof told);
+}
+
+/* A way takes so many whole seconds at a speed, and the rest. */
+static void expect_time(uint8_t from, uint8_t to, uint32_t speed, uint32_t seconds, uint32_t rest) {
+    expect(ask_time(from, to, speed) == QUANGEVIT_ACCEPTED, "a running time is refused");
+    expect(number_at(told + QUANGEVIT_TIME_SECONDS_AT) == seconds, "other seconds");
+    expect(number_at(told + QUANGEVIT_TIME_REST_AT) == rest, "another rest");
+}
+
+/* At 55 km/h the rests of the two sections, 337, are a second, 275, and the rest of both. */
+static void running_times(void) {
+    expect(open_book(book_3, sizeof book_3) == QUANGEVIT_ACCEPTED, "edition 3 does not open");
+    expect_time(0, 1, 55, 65, 125);
+    expect_time(1, 2, 55, 80, 212);
+    expect_time(2, 0, 55, 65 + 80 + 1, 62);
+    expect(ask_time(0, 3, 55) == QUANGEVIT_WRONG_POST, "a way to a post off the line has a time");
+    expect(ask_time(0, 1, QUANGEVIT_SPEED_MOST + 1) == QUANGEVIT_SPEED, "a time at 161 km/h");
+    expect(number_at(told + QUANGEVIT_TIME_SECONDS_AT) == 146, "a refusal has written");
+    book_3[11] = 1;
+    expect(open_book(book_3, sizeof book_3) == QUANGEVIT_POSITIONS, "a book not from 0 is opened");
+}
+
 int main(void) {
     static const uint8_t line_x[QUANGEVIT_LINE_BYTES] = {3, 1, 2, 1, 0, 0, 0, 0,
                                                          0, 0, 2, 0, 2, 2, 0};
@@ -232,5 +271,6 @@ int main(void) {
     sidings();
     tracks();
     local_runs();
+    running_times();
     return off;
 }

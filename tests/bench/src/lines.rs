@@ -65,6 +65,21 @@ pub const LINES: [Line; 9] = [
 
 impl Line {
     pub fn book(&self) -> Vec<u8> {
-        Parts::new(self.tracks, self.sidings, self.routes).bytes()
+        self.parts().bytes()
+    }
+
+    /// The book as one of edition 3, with the posts so many metres apart.
+    pub fn book_with_positions(&self) -> Vec<u8> {
+        let metres = |post| 1234 * post as u32;
+        let positions: Vec<u32> = (0..self.tracks.len()).map(metres).collect();
+        self.parts().with_positions(&positions).bytes()
+    }
+
+    pub fn last_post(&self) -> u8 {
+        self.tracks.len() as u8 - 1
+    }
+
+    fn parts(&self) -> Parts {
+        Parts::new(self.tracks, self.sidings, self.routes)
     }
 }

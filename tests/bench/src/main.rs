@@ -1,4 +1,4 @@
-//! What filling a table and answering a frame cost: the proved code beside the model.
+//! What filling a table, answering a frame and telling a running time cost: the proved code beside the model.
 //!
 //!     bench                                  times, as a markdown table
 //!     bench works                            each line and work that is measured
@@ -11,7 +11,8 @@ mod lines;
 mod samples;
 mod work;
 
-use inputs::sizes::{JOURNAL_BYTES, LINE_BYTES, OUT_BYTES, STATE_BYTES, TABLE_BYTES, UNIT_BYTES};
+use inputs::sizes::{JOURNAL_BYTES, LINE_BYTES, OUT_BYTES, STATE_BYTES};
+use inputs::sizes::{TABLE_BYTES, TIME_BYTES, UNIT_BYTES};
 use lines::{Line, LINES};
 use std::process::ExitCode;
 use std::time::Instant;
@@ -19,7 +20,7 @@ use work::{Side, Work, WORKS};
 
 const REPETITIONS: usize = 9;
 const FILLINGS: usize = 5;
-const ANSWERS: usize = 50_000;
+const OTHERS: usize = 50_000;
 
 fn main() -> ExitCode {
     let words: Vec<String> = std::env::args().skip(1).collect();
@@ -64,7 +65,7 @@ fn print_times() {
     each_work(|line, name, work| {
         let (calls, divisor, unit) = match work {
             Work::Fill { .. } => (FILLINGS, 1000.0, "µs"),
-            Work::Answer { .. } => (ANSWERS, 1.0, "ns"),
+            _ => (OTHERS, 1.0, "ns"),
         };
         let time = |side| median(calls, || work.run(side, calls)) / divisor;
         let (proved, model) = (time(Side::Proved), time(Side::Model));
@@ -76,7 +77,9 @@ fn print_times() {
 }
 
 fn print_sizes() {
-    println!("| state, unit, line | {STATE_BYTES}, {UNIT_BYTES}, {LINE_BYTES} |");
+    println!(
+        "| state, unit, line, time | {STATE_BYTES}, {UNIT_BYTES}, {LINE_BYTES}, {TIME_BYTES} |"
+    );
     println!("| table, journal, out buffer, as lent at least | {TABLE_BYTES}, {JOURNAL_BYTES}, {OUT_BYTES} |");
 }
 

@@ -7,7 +7,9 @@ use crate::samples::{samples, Class};
 use boundary::{Ends, Proved};
 use inputs::crews::{open, Turn};
 use inputs::encoding::state_bytes;
-use inputs::sizes::{JOURNAL_BYTES, JOURNAL_RECORDS, OUT_BYTES, STATE_BYTES, TABLE_BYTES};
+use inputs::sizes::{
+    JOURNAL_BYTES, JOURNAL_RECORDS, LINE_BYTES, OUT_BYTES, STATE_BYTES, TABLE_BYTES, TIME_BYTES,
+};
 use model::Record;
 use std::hint::black_box;
 
@@ -17,22 +19,31 @@ pub enum Side {
     Model,
 }
 
-/// The opening of a book, nearly all of which is the filling of the table, or answers to frames.
+/// The opening of a book, nearly all of which is the filling of the table; answers to frames; the reading of a book
+/// alone; a running time from the first post to the last, of this number.
 pub enum Work {
     Fill { book: Vec<u8> },
     Answer { table: Vec<u8>, samples: Vec<Turn> },
+    Read(Vec<u8>),
+    Time(Vec<u8>, u8),
 }
 
-pub const WORKS: [&str; 8] = [
-    "fill", "granted", "declined", "arrival", "given", "back", "refused", "mix",
+pub const WORKS: [&str; 10] = [
+    "fill", "granted", "declined", "arrival", "given", "back", "refused", "mix", "read", "time",
 ];
+
+/// The speed of the running times, in km/h.
+const SPEED: u32 = 80;
 
 impl Work {
     /// The work of this name on a line. With one train no frame is declined.
     pub fn of(line: &Line, name: &str) -> Option<Work> {
         let book = line.book();
+        let with_positions = line.book_with_positions();
         let class = match name {
             "fill" => return Some(Work::Fill { book }),
+            "read" => return Some(Work::Read(with_positions)),
+            "time" => return Some(Work::Time(with_positions, line.last_post())),
             "granted" => Some(Class::Granted),
             "declined" => Some(Class::Declined),
             "arrival" => Some(Class::Arrival),
@@ -57,6 +68,10 @@ impl Work {
                 answer_proved(table, samples, calls);
             }
             (Work::Answer { table, samples }, Side::Model) => answer_model(table, samples, calls),
+            (Work::Read(book), Side::Proved) => read_proved(book, calls),
+            (Work::Read(book), Side::Model) => read_model(book, calls),
+            (Work::Time(book, last), Side::Proved) => time_proved(book, *last, calls),
+            (Work::Time(book, last), Side::Model) => time_model(book, *last, calls),
         }
     }
 }
@@ -101,5 +116,34 @@ fn answer_model(table: &[u8], samples: &[Turn], calls: usize) {
         let frame = black_box(&turn.frame);
         let answered = model::answer(&turn.state, table, &mut journal, frame, &mut out);
         black_box(answered);
+    }
+}
+
+fn read_proved(book: &[u8], calls: usize) {
+    let mut line = [0; LINE_BYTES];
+    for _ in 0..calls {
+        let result = Proved.read_book(black_box(book), &mut line);
+        assert_eq!(black_box(result), 0);
+    }
+}
+
+fn read_model(book: &[u8], calls: usize) {
+    for _ in 0..calls {
+        assert!(black_box(model::read_book(black_box(book))).is_ok());
+    }
+}
+
+fn time_proved(book: &[u8], last: u8, calls: usize) {
+    let mut time = [0; TIME_BYTES];
+    for _ in 0..calls {
+        let result = Proved.running_time(black_box(book), 0, last, black_box(SPEED), &mut time);
+        assert_eq!(black_box(result), 0);
+    }
+}
+
+fn time_model(book: &[u8], last: u8, calls: usize) {
+    for _ in 0..calls {
+        let told = model::running_time(black_box(book), 0, last, black_box(SPEED));
+        assert!(black_box(told).is_ok());
     }
 }

@@ -1,11 +1,11 @@
-//! The C interface of the two ends, and the proved library behind it.
+//! The C interface of the two ends and of running times, and the proved library behind it.
 //!
 //! Nothing checks these declarations against the Rattle source: this is the only place that has
 //! them. The C side asks two things of a caller, that each buffer has the length it names and that
 //! no two buffers overlap, and slices give both.
 
 /// The version of the library that these declarations are for: QUANGEVIT_VERSION of the header.
-pub const VERSION: u32 = 400;
+pub const VERSION: u32 = 500;
 
 mod c {
     extern "C" {
@@ -42,6 +42,16 @@ mod c {
             out_len: usize,
         ) -> u32;
 
+        pub fn quangevit_running_time(
+            book: *const u8,
+            book_len: usize,
+            from: u8,
+            to: u8,
+            speed: u32,
+            time: *mut u8,
+            time_len: usize,
+        ) -> u32;
+
         pub fn quangevit_make_unit(
             train: u8,
             start: u8,
@@ -72,8 +82,8 @@ pub fn version() -> u32 {
     unsafe { c::quangevit_version() }
 }
 
-/// The six functions of the C interface for the two ends. Each answers the refusal's number in its low byte and
-/// the number of frames written in the next.
+/// The seven functions of the C interface, for the two ends and for planners. Each answers the refusal's number in its
+/// low byte and the number of frames written in the next.
 pub trait Ends {
     /// Reads a book alone; the line it gives goes to `line`.
     fn read_book(&self, book: &[u8], line: &mut [u8]) -> u32;
@@ -90,6 +100,9 @@ pub trait Ends {
         frame: &[u8],
         out: &mut [u8],
     ) -> u32;
+
+    /// The running time between two posts of a book at a speed, which goes to `time`.
+    fn running_time(&self, book: &[u8], from: u8, to: u8, speed: u32, time: &mut [u8]) -> u32;
 
     /// Makes the unit of a train.
     fn make_unit(&self, train: u8, start: u8, end: u8, unit: &mut [u8]) -> u32;
@@ -147,6 +160,21 @@ impl Ends for Proved {
                 frame.len(),
                 out.as_mut_ptr(),
                 out.len(),
+            )
+        }
+    }
+
+    #[inline]
+    fn running_time(&self, book: &[u8], from: u8, to: u8, speed: u32, time: &mut [u8]) -> u32 {
+        unsafe {
+            c::quangevit_running_time(
+                book.as_ptr(),
+                book.len(),
+                from,
+                to,
+                speed,
+                time.as_mut_ptr(),
+                time.len(),
             )
         }
     }

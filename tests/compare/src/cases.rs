@@ -14,14 +14,18 @@ pub enum Subject {
     Tracks,
     Codes,
     LocalRuns,
+    Times,
+    Orders,
 }
 
 /// The subjects in their order, each with the names of its cases.
-pub const SUBJECTS: [(&str, &[&str]); 4] = [
+pub const SUBJECTS: [(&str, &[&str]); 6] = [
     ("sidings", &SIDINGS),
     ("tracks", &TRACKS),
     ("codes", &CODES),
     ("local runs", &LOCAL_RUNS),
+    ("running times", &TIMES),
+    ("the order of checks for them", &ORDERS),
 ];
 
 /// What comes of sidings alone, in the order of the names.
@@ -207,4 +211,110 @@ const LOCAL_RUNS: [&str; 29] = [
     "a strange state, more than twenty given",
     "no state, a section's byte above 1",
     "no state, such a byte off the line",
+];
+
+/// What comes of questions about running times, in the order of the names: of one that is answered, and of one that is
+/// refused by 4, 9, 27 or 28.
+#[derive(Debug, Clone, Copy, PartialEq, Eq)]
+pub enum TimeCase {
+    NoRest,
+    Rest,
+    LargestRest,
+    UnderASecond,
+    OnePost,
+    Up,
+    Down,
+    EighthPost,
+    LongestWay,
+    Slowest,
+    Fastest,
+    Overfull,
+    NoWayThrough,
+    First,
+    Second,
+    Later,
+    OtherFault,
+    FromOff,
+    ToOff,
+    BehindTheLast,
+    OneOffTwice,
+    NotFrom0,
+    Equal,
+    Falling,
+    LastTooFar,
+    MoreTooFar,
+    OneBeforeTooFar,
+    LowByteFirst,
+    Standstill,
+    OneTooFast,
+    RightInOneByte,
+}
+
+impl Case for TimeCase {
+    const SUBJECT: Subject = Subject::Times;
+
+    fn place(self) -> usize {
+        self as usize
+    }
+}
+
+const TIMES: [&str; 31] = [
+    "no rest",
+    "a rest",
+    "a rest of 5 v - 1",
+    "0 seconds and a rest",
+    "one post twice",
+    "the lower post first",
+    "the higher post first",
+    "to or from the eighth post",
+    "over 8,388,607 metres",
+    "at 1 km/h",
+    "at 160 km/h",
+    "of a book that is 19 to open",
+    "of a book that is 20 to open",
+    "4, a right book of edition 1",
+    "4, a right book of edition 2",
+    "4, an edition above 3",
+    "4, another fault as well",
+    "9, the first post alone",
+    "9, the second post alone",
+    "9, the post behind the last",
+    "9, one post twice",
+    "27, not from 0",
+    "27, two equal",
+    "27, falling",
+    "27, the last too far",
+    "27, the last and others too far",
+    "27, one before the last too far",
+    "27, right with the low byte first",
+    "28, 0 km/h",
+    "28, 161 km/h",
+    "28, right in its low byte",
+];
+
+/// The check of this place, of those for a running time, refused, and the next would have.
+#[derive(Debug, Clone, Copy, PartialEq, Eq)]
+pub struct Neighbours(pub usize);
+
+impl Case for Neighbours {
+    const SUBJECT: Subject = Subject::Orders;
+
+    fn place(self) -> usize {
+        self.0
+    }
+}
+
+const ORDERS: [&str; 12] = [
+    "1 before 14, the length named",
+    "14, the length named, before 4",
+    "4 before 15",
+    "15 before 14, an early end",
+    "14, an early end, before 16",
+    "16 before 23",
+    "23 before 27",
+    "27 before 17",
+    "17 before 14, the total",
+    "14, the total, before 18",
+    "18 before 9",
+    "9 before 28",
 ];

@@ -5,24 +5,26 @@ use inputs::frames::LA;
 use inputs::sizes::{FRAME_BYTES, OUT_BYTES};
 use std::collections::BTreeMap;
 
-/// The six entry points, in the order of the columns.
+/// The seven entry points, in the order of the columns.
 #[derive(Debug, Clone, Copy, PartialEq, Eq)]
 pub enum Entry {
     ReadBook,
     Open,
     Answer,
+    RunningTime,
     MakeUnit,
     Press,
     Hear,
 }
 
-const ENTRIES: [(&str, &[u8]); 6] = [
-    ("read_book", &[1, 4, 14, 15, 16, 17, 18, 23]),
-    ("open", &[1, 2, 4, 14, 15, 16, 17, 18, 19, 20, 23]),
+const ENTRIES: [(&str, &[u8]); 7] = [
+    ("read_book", &[1, 4, 14, 15, 16, 17, 18, 23, 27]),
+    ("open", &[1, 2, 4, 14, 15, 16, 17, 18, 19, 20, 23, 27]),
     (
         "answer",
         &[1, 2, 3, 4, 5, 6, 7, 8, 9, 10, 11, 12, 13, 24, 25, 26],
     ),
+    ("running_time", &[1, 4, 9, 14, 15, 16, 17, 18, 23, 27, 28]),
     ("make_unit", &[1, 18]),
     ("press", &[1, 2, 8, 21]),
     ("hear", &[1, 3, 4, 5, 6, 22]),
@@ -43,7 +45,10 @@ const PHASES: [&str; 6] = [
 const OF_GANGS: [&str; 3] = ["LA", "LE", "LB"];
 
 /// Kinds of inputs that a run must have had, beside what must have come of inputs.
-const DUE_INPUTS: [&str; 12] = [
+const DUE_INPUTS: [&str; 15] = [
+    "run: of a book of edition 1",
+    "run: of a book of edition 2",
+    "run: of a book of edition 3",
     "state: valid",
     "state: a track altered",
     "state: a gang or the number given altered",
@@ -58,8 +63,8 @@ const DUE_INPUTS: [&str; 12] = [
     "table: short",
 ];
 
-/// Refusal numbers 0 (none) to 26.
-const NUMBERS: usize = 27;
+/// Refusal numbers 0 (none) to 28.
+const NUMBERS: usize = 29;
 
 const MOST_SENT: usize = OUT_BYTES / FRAME_BYTES;
 
@@ -133,7 +138,11 @@ impl Counts {
 
     /// Frames put to the box, accepted and refused.
     pub fn frames(&self) -> u64 {
-        self.refusals[Entry::Answer as usize].iter().sum()
+        self.calls(Entry::Answer)
+    }
+
+    fn calls(&self, entry: Entry) -> u64 {
+        self.refusals[entry as usize].iter().sum()
     }
 
     /// What was to be reached and was not, or was reached and cannot be.
@@ -200,8 +209,14 @@ impl Counts {
                 println!("  {name:<44} {count:>12}");
             }
         }
-        let accepted = self.refusals[Entry::Answer as usize][0];
-        println!("frames answered: {}, accepted: {accepted}", self.frames());
+        let accepted = |entry| self.refusals[entry as usize][0];
+        println!(
+            "frames answered: {}, accepted: {}; running times asked for: {}, told: {}",
+            self.frames(),
+            accepted(Entry::Answer),
+            self.calls(Entry::RunningTime),
+            accepted(Entry::RunningTime)
+        );
     }
 
     fn print_refusals(&self) {

@@ -133,18 +133,22 @@ fn hex(bytes: &[u8]) -> String {
 mod tests {
     use super::*;
 
+    impl Lent {
+        /// The proved side has written the byte before the buffer, or the one behind it.
+        pub fn write_outside(&mut self, behind: bool) {
+            let end = self.proved.len() - BACK_GUARD.len();
+            let at = if behind { end } else { self.front - 1 };
+            self.proved[at] ^= 1;
+        }
+    }
+
     #[test]
     fn bytes_outside_the_buffer_are_seen() {
         let random = &mut Random::new(1);
         for behind in [false, true] {
             let mut lent = Lent::new(&[1, 2, 3, 4, 5], random);
-            let at = if behind {
-                lent.front + 5
-            } else {
-                lent.front - 1
-            };
             assert!(lent.agrees());
-            lent.proved[at] ^= 1;
+            lent.write_outside(behind);
             assert!(!lent.agrees());
             assert!(lent.report("store").contains("outside"));
         }

@@ -5,8 +5,10 @@
 //! Ends with `0 differences` and status 0. On the first difference it prints the input and both
 //! outputs, with status 1; so it does if anything that a run is to reach was never reached.
 
+mod book_faults;
 mod books;
 mod cases;
+mod checks;
 mod codes;
 mod counts;
 mod desk;
@@ -16,6 +18,8 @@ mod local_runs;
 mod model_ends;
 mod openings;
 mod pair;
+mod positions;
+mod questions;
 mod runs;
 mod sidings;
 mod state_gangs;
@@ -25,6 +29,7 @@ mod stores;
 mod tables;
 #[cfg(test)]
 mod tests;
+mod timings;
 mod tracks;
 mod units;
 #[cfg(test)]
@@ -33,6 +38,10 @@ mod wrong_boxes;
 mod wrong_codes;
 #[cfg(test)]
 mod wrong_local_runs;
+#[cfg(test)]
+mod wrong_positions;
+#[cfg(test)]
+mod wrong_timings;
 #[cfg(test)]
 mod wrong_tracks;
 
@@ -49,6 +58,9 @@ const FRAMES_A_ROUND: u64 = 5_000;
 
 /// Opened books, and altered tables, that are kept for runs.
 const KEPT: usize = 24;
+
+/// Runs for each question about a running time that comes between them.
+const RUNS_A_QUESTION: usize = 3;
 
 struct Options {
     seed: u64,
@@ -114,6 +126,9 @@ fn all(pair: &mut Pair, options: &Options) -> Compared<()> {
         let end = options.frames.min(pair.counts.frames() + FRAMES_A_ROUND);
         while pair.counts.frames() < end {
             one_run(pair, &opened, &strange, random)?;
+            if random.one_in(RUNS_A_QUESTION) {
+                questions::ask(pair, random)?;
+            }
         }
     }
     Ok(())

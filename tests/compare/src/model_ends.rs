@@ -2,13 +2,14 @@
 
 use boundary::Ends;
 use inputs::encoding::{
-    line_bytes, put_records, records_of, state_bytes, state_of, unit_bytes, unit_of, BUTTONS,
+    line_bytes, put_records, records_of, state_bytes, state_of, time_bytes, unit_bytes, unit_of,
+    BUTTONS,
 };
-use inputs::sizes::{FRAME_BYTES, LINE_BYTES, STATE_BYTES, UNIT_BYTES};
+use inputs::sizes::{FRAME_BYTES, LINE_BYTES, STATE_BYTES, TIME_BYTES, UNIT_BYTES};
 use model::{unit, Verdict};
 
 /// The model, with what the C interface adds to it: the lengths of the buffers for a line, a
-/// state and a unit, bytes that encode nothing, numbers that are no button.
+/// state, a unit and a time, bytes that encode nothing, numbers that are no button.
 pub struct Model;
 
 impl Ends for Model {
@@ -58,6 +59,13 @@ impl Ends for Model {
         }
     }
 
+    fn running_time(&self, book: &[u8], from: u8, to: u8, speed: u32, time: &mut [u8]) -> u32 {
+        if time.len() != TIME_BYTES {
+            return 1;
+        }
+        tell(model::running_time(book, from, to, speed), time)
+    }
+
     fn make_unit(&self, train: u8, start: u8, end: u8, unit: &mut [u8]) -> u32 {
         if unit.len() != UNIT_BYTES {
             return 1;
@@ -95,5 +103,19 @@ impl Ends for Model {
         let (after, number) = unit::hear(&before, frame);
         unit.copy_from_slice(&unit_bytes(&after));
         number.into()
+    }
+}
+
+/// Seconds and rest, or the number of the refusal.
+pub type Time = Result<(u32, u32), u8>;
+
+/// Writes a running time to the eight bytes lent for it; a refusal leaves them alone.
+pub fn tell(told: Time, time: &mut [u8]) -> u32 {
+    match told {
+        Ok((seconds, rest)) => {
+            time.copy_from_slice(&time_bytes(seconds, rest));
+            0
+        }
+        Err(number) => number.into(),
     }
 }

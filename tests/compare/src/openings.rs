@@ -5,10 +5,12 @@ use crate::lent::Lent;
 use crate::pair::{Compared, Pair};
 use crate::{books, stores, tables};
 use inputs::random::Random;
-use inputs::sizes::{LINE_BYTES, STATE_BYTES, TABLE_BYTES};
+use inputs::sizes::{JOURNAL_RECORDS, LINE_BYTES, STATE_BYTES, TABLE_BYTES};
+use model::Record;
 
-/// An opened book: its first state, its table, and that table with bits flipped.
+/// An opened book: its edition, its first state, its table, and that table with bits flipped.
 pub struct Opened {
+    pub edition: u8,
     pub state: Vec<u8>,
     pub table: Lent,
     pub flipped: Lent,
@@ -53,18 +55,25 @@ pub fn open_one(pair: &mut Pair, random: &mut Random) -> Compared<Opened> {
     let mut state = Lent::random(STATE_BYTES, random);
     let mut table = table_to_fill(random);
     let journal = Lent::random(stores::journal(random), random);
-    loop {
+    let edition = loop {
         let book = Lent::new(&books::well_formed(random), random);
         pair.counts.input("book: well formed");
         if pair.open(&book, &mut state, &mut table, &journal)?.refusal == 0 {
-            break;
+            break book.bytes()[2];
         }
-    }
+    };
     Ok(Opened {
+        edition,
         state: state.bytes().to_vec(),
         flipped: tables::flipped(&table.bytes()[..TABLE_BYTES], random),
         table: Lent::new(table.bytes(), random),
     })
+}
+
+/// The number that a book is opened with, by the model.
+pub fn number(book: &[u8]) -> u8 {
+    let mut table = vec![0; TABLE_BYTES];
+    model::open(book, &mut table, &[Record::BLANK; JOURNAL_RECORDS]).1
 }
 
 fn table_to_fill(random: &mut Random) -> Lent {

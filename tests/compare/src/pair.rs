@@ -1,8 +1,10 @@
 //! Both sides called with the same input, and everything they answer and write compared.
 
+use crate::checks::Asked;
 use crate::counts::{Counts, Entry};
 use crate::lent::{Lent, Side};
-use crate::{codes, local_runs, sidings, tracks};
+use crate::questions::Question;
+use crate::{codes, local_runs, sidings, timings, tracks};
 use boundary::Ends;
 use inputs::encoding::{train_at, trains_in, PHASE_AT};
 use inputs::frames::KIND_AT;
@@ -128,11 +130,35 @@ impl Pair {
         Err(Difference(format!("answer: wrote to the table\n{text}")))
     }
 
+    pub fn running_time(
+        &mut self,
+        book: &Lent,
+        question: Question,
+        time: &mut Lent,
+    ) -> Compared<Reply> {
+        time.keep();
+        let Question { from, to, speed } = question;
+        let results = self.both(|ends, side| {
+            ends.running_time(book.shown_to(side), from, to, speed, time.lent_to(side))
+        });
+        let numbers = [from.into(), to.into(), speed];
+        let buffers = [("book", book), ("time", time)];
+        let reply = self.settle(Entry::RunningTime, &numbers, results, &buffers, &[])?;
+        let asked = Asked {
+            book: book.bytes(),
+            question,
+            room: time.bytes().len(),
+        };
+        self.count_times(asked, reply);
+        Ok(reply)
+    }
+
     pub fn make_unit(&mut self, numbers: [u8; 3], unit: &mut Lent) -> Compared<Reply> {
         let [train, start, end] = numbers;
         unit.keep();
         let results = self.both(|ends, side| ends.make_unit(train, start, end, unit.lent_to(side)));
         let buffers = [("unit", &*unit)];
+        let numbers = numbers.map(u32::from);
         let reply = self.settle(Entry::MakeUnit, &numbers, results, &buffers, &[])?;
         self.count_phase(reply, unit);
         Ok(reply)
@@ -144,7 +170,7 @@ impl Pair {
         let results =
             self.both(|ends, side| ends.press(unit.lent_to(side), button, frame.lent_to(side)));
         let buffers = [("unit", &*unit), ("frame", frame)];
-        let reply = self.settle(Entry::Press, &[button], results, &buffers, &[])?;
+        let reply = self.settle(Entry::Press, &[button.into()], results, &buffers, &[])?;
         self.count_phase(reply, unit);
         Ok(reply)
     }
@@ -174,7 +200,7 @@ impl Pair {
     fn settle(
         &mut self,
         entry: Entry,
-        numbers: &[u8],
+        numbers: &[u32],
         results: [u32; 2],
         buffers: &Buffers,
         only_shown: &Buffers,
@@ -194,6 +220,13 @@ impl Pair {
             text += &lent.report(name);
         }
         Err(Difference(text))
+    }
+
+    /// How a question about a running time fared.
+    fn count_times(&mut self, asked: Asked, reply: Reply) {
+        let cases = timings::of_question(asked.book, asked.question, reply.refusal);
+        self.counts.cases(cases);
+        self.counts.cases(timings::of_order(asked));
     }
 
     /// How a frame of a gang fared.

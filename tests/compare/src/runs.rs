@@ -48,6 +48,7 @@ pub fn whole(
         ),
     };
     pair.counts.input(begun);
+    pair.counts.input(of_edition(opened.edition));
     for _ in 0..LONGEST_RUN {
         match crews {
             Crews::ByFrames => put_any(pair, &mut desk, table, random)?,
@@ -61,6 +62,14 @@ pub fn whole(
         pair.counts.input(ended);
     }
     pair.unchanged(table)
+}
+
+fn of_edition(edition: u8) -> &'static str {
+    match edition {
+        1 => "run: of a book of edition 1",
+        2 => "run: of a book of edition 2",
+        _ => "run: of a book of edition 3",
+    }
 }
 
 /// A short run from a state handed in, valid or not.

@@ -1,11 +1,11 @@
 //! What sidings brought about, by the model: how an opening would have gone without them, and why a train waits.
 
 use crate::cases::SidingCase;
-use crate::{codes, state_tracks};
+use crate::{checks, codes, openings, state_tracks};
 use inputs::encoding::state_of;
 use inputs::frames::{AFE, KIND_AT, TO_AT, TRAIN_AT};
-use inputs::sizes::{FRAME_BYTES, JOURNAL_RECORDS, TABLE_BYTES};
-use model::{Line, Record, State};
+use inputs::sizes::FRAME_BYTES;
+use model::{Line, State};
 use std::cmp::Ordering;
 use std::collections::HashSet;
 
@@ -19,7 +19,7 @@ pub fn of_opening(book: &[u8], refusal: u8) -> Option<SidingCase> {
         return None;
     }
     match refusal {
-        0 => match without_sidings(book, &line) {
+        0 => match without_sidings(book) {
             19 => Some(SidingCase::StartFits),
             20 => Some(SidingCase::WayFits),
             _ => None,
@@ -29,12 +29,12 @@ pub fn of_opening(book: &[u8], refusal: u8) -> Option<SidingCase> {
     }
 }
 
-/// The number that the book, one of edition 2, is opened with when its byte of sidings is 0.
-fn without_sidings(book: &[u8], line: &Line) -> u8 {
+/// The number that the book, one of edition 2 or 3, is opened with when its byte of sidings is 0.
+fn without_sidings(book: &[u8]) -> u8 {
     let mut book = book.to_vec();
-    book[4 + usize::from(line.posts)] = 0;
-    let mut table = vec![0; TABLE_BYTES];
-    model::open(&book, &mut table, &[Record::BLANK; JOURNAL_RECORDS]).1
+    let at = checks::sidings_at(&book);
+    book[at] = 0;
+    openings::number(&book)
 }
 
 /// A list of moves through lawful placings, whether or not a track is free before each, leads all trains to their ends.

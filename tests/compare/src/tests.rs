@@ -2,16 +2,18 @@
 
 use crate::cases::{CodeCase, SidingCase, TrackCase};
 use crate::counts::{Counts, Entry};
+use crate::lent::Lent;
 use crate::model_ends::Model;
-use crate::pair::Pair;
+use crate::pair::{Pair, Reply};
+use crate::questions::Question;
 use crate::{all, codes, sidings, state_tracks, states, tracks, Options};
 use boundary::Ends;
-use inputs::books::{book, book_2, X};
+use inputs::books::{book, book_2, book_3, X};
 use inputs::crews;
 use inputs::encoding::{put_records, state_bytes, state_of};
 use inputs::frames::{frame, AFE, AM, FA, FE};
 use inputs::random::Random;
-use inputs::sizes::JOURNAL_BYTES;
+use inputs::sizes::{JOURNAL_BYTES, TIME_BYTES};
 use model::{Record, Standing, State};
 use std::cell::Cell;
 
@@ -81,6 +83,11 @@ impl Ends for Altered {
         self.settle(Entry::Answer, result, &mut [state, journal, out])
     }
 
+    fn running_time(&self, book: &[u8], from: u8, to: u8, speed: u32, time: &mut [u8]) -> u32 {
+        let result = Model.running_time(book, from, to, speed, time);
+        self.settle(Entry::RunningTime, result, &mut [time])
+    }
+
     fn make_unit(&self, train: u8, start: u8, end: u8, unit: &mut [u8]) -> u32 {
         let result = Model.make_unit(train, start, end, unit);
         self.settle(Entry::MakeUnit, result, &mut [unit])
@@ -104,10 +111,11 @@ const SHORT: Options = Options {
 };
 
 /// The entry points, each with the number of buffers that it may write to.
-const WRITTEN: [(Entry, usize); 6] = [
+const WRITTEN: [(Entry, usize); 7] = [
     (Entry::ReadBook, 1),
     (Entry::Open, 2),
     (Entry::Answer, 3),
+    (Entry::RunningTime, 1),
     (Entry::MakeUnit, 1),
     (Entry::Press, 2),
     (Entry::Hear, 1),
@@ -139,6 +147,33 @@ fn one_altered_bit_is_seen() {
     }
 }
 
+/// Of a running time that is told and of one that is refused, around the book and around the time.
+#[test]
+fn a_byte_outside_the_buffers_of_a_running_time_is_seen() {
+    let random = &mut Random::new(1);
+    let line = book_3(&[1, 1], 0, &[0, 1000], &[[0, 1]]);
+    let mut asked = |speed, beside: Option<(bool, bool)>| {
+        let mut pair = Pair::new(Box::new(Model), Box::new(Model));
+        let (mut book, mut time) = (Lent::new(&line, random), Lent::random(TIME_BYTES, random));
+        match beside {
+            Some((true, behind)) => book.write_outside(behind),
+            Some((false, behind)) => time.write_outside(behind),
+            None => {}
+        }
+        let (from, to) = (0, 1);
+        let question = Question { from, to, speed };
+        pair.running_time(&book, question, &mut time)
+    };
+    for (speed, refusal) in [(60, 0), (0, 28)] {
+        let reply = Reply { refusal, sent: 0 };
+        assert_eq!(asked(speed, None).ok(), Some(reply));
+        for beside in [(true, true), (true, false), (false, true), (false, false)] {
+            let seen = asked(speed, Some(beside)).unwrap_err().0;
+            assert!(seen.contains("outside"), "{seen}");
+        }
+    }
+}
+
 #[test]
 fn the_model_agrees_with_itself() {
     let mut pair = Pair::new(Box::new(Model), Box::new(Model));
@@ -155,12 +190,19 @@ fn what_is_never_reached_fails() {
     for due in [
         "answer never answered 13",
         "answer never answered 26",
+        "read_book never answered 27",
+        "open never answered 27",
+        "running_time never answered 0",
+        "running_time never answered 28",
         "never 6 frames sent",
         "status of a train: Running never reached",
         "case of sidings: a train put away never reached",
         "case of tracks: authority to track 4 never reached",
         "case of codes: authority by the largest code, 262,143 never reached",
         "case of local runs: LB, several trains granted never reached",
+        "case of running times: over 8,388,607 metres never reached",
+        "case of the order of checks for them: 23 before 27 never reached",
+        "input: run: of a book of edition 3 never reached",
         "input: table: all ones never reached",
     ] {
         assert!(failings.contains(&due.to_string()), "{failings:?}");

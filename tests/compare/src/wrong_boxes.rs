@@ -1,12 +1,14 @@
 //! Boxes and units that are wrong, each the model with one fault. The comparison finds every one.
 
-use crate::model_ends::Model;
+use crate::counts::Entry;
+use crate::model_ends::{tell, Model, Time};
 use crate::pair::Pair;
+use crate::questions::Question;
 use crate::{all, Options};
 use boundary::Ends;
 use inputs::encoding::{put_records, records_of, state_bytes, state_of, unit_bytes, unit_of};
 use inputs::frames::KIND_AT;
-use inputs::sizes::RECORD_BYTES;
+use inputs::sizes::{RECORD_BYTES, TIME_BYTES};
 use model::table::bit;
 use model::{Record, State, Unit};
 
@@ -38,17 +40,24 @@ pub enum Fault {
     AsIf(fn(State, &[u8]) -> State, fn(Answered)),
     /// With a unit that accepted a frame of this kind: how it is then, and the number.
     Heard(fn(&mut Unit, u8) -> u8),
+    /// At this call it takes the bytes of a book for others.
+    ReadsBook(Entry, fn(&mut [u8])),
+    /// With the running time, or the number, that answers a question about a book.
+    Times(fn(&[u8], Question) -> Time),
+    /// With the bytes lent for a running time, and the answer.
+    Tells(fn(&[u8], Question, &mut [u8]) -> u32),
 }
 
 struct Wrong(Fault);
 
 impl Ends for Wrong {
     fn read_book(&self, book: &[u8], line: &mut [u8]) -> u32 {
-        Model.read_book(book, line)
+        Model.read_book(&self.book_at(Entry::ReadBook, book), line)
     }
 
     fn open(&self, book: &[u8], state: &mut [u8], table: &mut [u8], journal: &[u8]) -> u32 {
-        let result = Model.open(book, state, table, journal);
+        let book = self.book_at(Entry::Open, book);
+        let result = Model.open(&book, state, table, journal);
         if let (0, Fault::Opened(fault), Some(mut opened)) = (result, self.0, state_of(state)) {
             fault(&mut opened);
             state.copy_from_slice(&state_bytes(&opened));
@@ -89,6 +98,18 @@ impl Ends for Wrong {
         result
     }
 
+    fn running_time(&self, book: &[u8], from: u8, to: u8, speed: u32, time: &mut [u8]) -> u32 {
+        let question = Question { from, to, speed };
+        match self.0 {
+            Fault::Times(fault) if time.len() == TIME_BYTES => tell(fault(book, question), time),
+            Fault::Tells(fault) => fault(book, question, time),
+            _ => {
+                let book = self.book_at(Entry::RunningTime, book);
+                Model.running_time(&book, from, to, speed, time)
+            }
+        }
+    }
+
     fn make_unit(&self, train: u8, start: u8, end: u8, unit: &mut [u8]) -> u32 {
         Model.make_unit(train, start, end, unit)
     }
@@ -109,6 +130,16 @@ impl Ends for Wrong {
 }
 
 impl Wrong {
+    /// The book that is read at a call.
+    fn book_at(&self, call: Entry, book: &[u8]) -> Vec<u8> {
+        let mut book = book.to_vec();
+        match self.0 {
+            Fault::ReadsBook(at, fault) if at == call => fault(&mut book),
+            _ => {}
+        }
+        book
+    }
+
     /// The state in which a frame is answered.
     fn taken_for(&self, state: State, frame: &[u8]) -> State {
         match self.0 {
@@ -180,6 +211,15 @@ fn a_box_without_a_fault_is_not_found() {
         (Fault::Numbers(|_, _, number| number), ENOUGH.frames),
         (Fault::AsIf(|s, _| s, |_| ()), ENOUGH.frames),
         (Fault::Heard(|_, _| 0), ENOUGH.frames),
+        (Fault::ReadsBook(Entry::Open, |_| ()), ENOUGH.frames),
+        (
+            Fault::Times(|book, q| model::running_time(book, q.from, q.to, q.speed)),
+            ENOUGH.frames,
+        ),
+        (
+            Fault::Tells(|book, q, time| Model.running_time(book, q.from, q.to, q.speed, time)),
+            ENOUGH.frames,
+        ),
         // It makes a table for each frame.
         (Fault::LooksUp(|code| code), 5_000),
     ] {

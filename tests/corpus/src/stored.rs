@@ -1,7 +1,7 @@
 //! Every stored input by name: refused books, refused frames, torn tails, and whole runs.
 
-use crate::gangs;
-use inputs::books::{book, book_2, with_length, X, Y};
+use crate::{gangs, positions};
+use inputs::books::{book, book_2, X, Y};
 use inputs::crews::{self, Senders};
 use inputs::frames::{frame, AFE, AM, FA, FE, LA};
 use inputs::random::Random;
@@ -14,7 +14,7 @@ pub type Frame = [u8; FRAME_BYTES];
 const X_2: [u8; 13] = [0, 11, 2, 3, 1, 2, 1, 5, 2, 0, 2, 2, 0];
 
 /// Books that are refused, most of them book X with one byte changed.
-const BOOKS: [(&str, &[u8]); 28] = [
+const BOOKS: [(&str, &[u8]); 29] = [
     ("book-empty", &[]),
     ("book-one-byte", &[0]),
     ("book-length-only", &[0, 0]),
@@ -23,9 +23,10 @@ const BOOKS: [(&str, &[u8]); 28] = [
     ("book-length-too-small", &x_with(1, 0x09)),
     ("book-length-high-byte", &x_with(0, 1)),
     ("book-ends-early", X.split_at(9).0),
-    ("book-other-edition", &x_with(2, 3)),
+    ("book-other-edition", &x_with(2, 4)),
     ("book-edition-0", &x_with(2, 0)),
     ("book-edition-2-without-its-byte", &x_with(2, 2)),
+    ("book-edition-3-without-its-bytes", &x_with(2, 3)),
     ("book-edition-2-ends-early", &[0, 6, 2, 3, 1, 2, 1, 8]),
     (
         "book-edition-2-total-differs",
@@ -63,7 +64,7 @@ const BOOKS: [(&str, &[u8]); 28] = [
 pub const ASK: Frame = frame(FA, 0, 0, 1);
 
 /// The paper's run.
-const RUN: [Frame; 8] = [
+pub const RUN: [Frame; 8] = [
     ASK,
     frame(FA, 1, 2, 1),
     frame(AM, 0, 0, 1),
@@ -130,6 +131,7 @@ pub fn all() -> Vec<Input> {
     inputs.extend(tracks());
     inputs.extend(frames());
     inputs.extend(gangs::all());
+    inputs.extend(positions::all());
     inputs.extend(tails());
     inputs.extend(runs());
     inputs.sort();
@@ -144,7 +146,7 @@ const fn x_with(at: usize, byte: u8) -> [u8; X.len()] {
 }
 
 /// Six trains on eight posts, three each way.
-const LARGEST: ([u8; 8], [[u8; 2]; 6]) = (
+pub const LARGEST: ([u8; 8], [[u8; 2]; 6]) = (
     [4, 3, 2, 2, 2, 2, 3, 4],
     [[0, 7], [7, 0], [0, 6], [7, 1], [1, 7], [6, 0]],
 );
@@ -171,8 +173,7 @@ fn made_books() -> Vec<Input> {
     let on_line = |name, tracks: &[u8], routes: &[[u8; 2]], frames: &[Frame]| {
         on(&book(tracks, routes), name, frames)
     };
-    let longest = book_2(&LARGEST.0, 0x81, &LARGEST.1);
-    let longer = with_length([&longest[..], &[0, 0]].concat());
+    let largest_2 = book_2(&LARGEST.0, 0x81, &LARGEST.1);
     let arrival = frame(AM, 0, 0, 1);
     let parked = [[0, 0], [0, 1], [1, 1]];
     vec![
@@ -181,9 +182,8 @@ fn made_books() -> Vec<Input> {
         on_line("book-no-way-through", &[1, 1, 1], &[[0, 2], [2, 0]], &[]),
         on_line("book-ends-overfull", &[1, 1, 1], &[[0, 2], [1, 2]], &[]),
         on_line("book-smallest", &[1, 1], &[[0, 1]], &[ASK, arrival]),
-        on(&longest, "book-longest", &[ASK]),
         on(&largest(), "book-longest-of-edition-1", &[ASK]),
-        on(&longer, "book-longer-than-the-longest", &[ASK]),
+        on(&largest_2, "book-longest-of-edition-2", &[ASK]),
         on(&[0xFF; 60], "book-names-ffff", &[]),
         on_line(
             "book-parked-trains",
@@ -313,7 +313,7 @@ fn runs() -> Vec<Input> {
 }
 
 /// So many runs of a book, by their seeds.
-fn runs_of(book: &[u8], name: &str, senders: Senders, runs: u64) -> Vec<Input> {
+pub fn runs_of(book: &[u8], name: &str, senders: Senders, runs: u64) -> Vec<Input> {
     let run = |seed| {
         let random = &mut Random::of_stored_runs(seed * 7919);
         run_home(format!("run-{name}-{seed}"), book, senders, random)

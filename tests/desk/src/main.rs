@@ -4,8 +4,9 @@
 //!
 //! SHIM is `read.c` as a shared object. What must be printed is what the model says of a reader with the same reads.
 
-use inputs::books::{book_2, X};
+use inputs::books::{book_3, X};
 use inputs::frames::{frame, FA};
+use inputs::sizes::LONGEST_BOOK;
 use std::io::{self, Read, Write};
 use std::process::{self, Command, Stdio};
 use std::{env, fs};
@@ -81,7 +82,10 @@ fn short_input(book: &[u8]) -> Vec<u8> {
 /// The longest book, with a siding where all trains end.
 fn longest_book() -> Vec<u8> {
     let routes = [[0, 7], [0, 7], [0, 7], [0, 7], [1, 7], [1, 7]];
-    book_2(&[4, 3, 1, 1, 1, 1, 1, 1], 0x80, &routes)
+    let metres = [0, 700, 1500, 2600, 4000, 5900, 8200, 11_000];
+    let book = book_3(&[4, 3, 1, 1, 1, 1, 1, 1], 0x80, &metres, &routes);
+    assert_eq!(book.len(), LONGEST_BOOK);
+    book
 }
 
 /// Every input with the ways in which it is read.

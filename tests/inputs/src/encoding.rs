@@ -1,8 +1,8 @@
-//! States, units, lines and records as the bytes of the C interface.
+//! States, units, lines, records and running times as the bytes of the C interface.
 
 use crate::sizes::{
     COUNT_AT, FLEET_AT, GIVEN_AT, LINE_BYTES, RECORD_BYTES, ROUTE_BYTES, SECTIONS_AT, SIDINGS_AT,
-    STATE_BYTES, TRACKS_AT, TRAINS_AT, TRAIN_BYTES, UNIT_BYTES,
+    STATE_BYTES, TIME_BYTES, TRACKS_AT, TRAINS_AT, TRAIN_BYTES, UNIT_BYTES,
 };
 use model::{Button, Line, Record, Standing, State, Train, Unit, UnitState};
 
@@ -179,6 +179,12 @@ pub fn unit_of(bytes: &[u8]) -> Option<Unit> {
     })
 }
 
+/// Seconds and rest, four bytes each, the high byte first.
+pub fn time_bytes(seconds: u32, rest: u32) -> [u8; TIME_BYTES] {
+    let time = u64::from(seconds) << 32 | u64::from(rest);
+    time.to_be_bytes()
+}
+
 #[cfg(test)]
 mod tests {
     use super::*;
@@ -257,6 +263,12 @@ mod tests {
             bytes[TRAINS_AT] = trains;
             assert_eq!(trains_in(&bytes).count(), told);
         }
+    }
+
+    #[test]
+    fn a_time_is_as_the_header_has_it() {
+        let time = time_bytes(0x0102_0304, 0xF102_F304);
+        assert_eq!(time, [1, 2, 3, 4, 0xF1, 2, 0xF3, 4]);
     }
 
     #[test]

@@ -1,5 +1,5 @@
-//! What the tests hand in: books, frames, what crews send, random numbers, and states, units, lines and records as the
-//! bytes of the C interface. The tests of the model have their own.
+//! What the tests hand in: books, frames, what crews send, random numbers, and states, units, lines, records and times
+//! as the bytes of the C interface. The tests of the model have their own.
 
 pub mod books;
 pub mod crews;

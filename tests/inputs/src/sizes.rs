@@ -27,3 +27,10 @@ pub const COUNT_AT: usize = GIVEN_AT + 1;
 pub const STATE_BYTES: usize = COUNT_AT + 1;
 
 pub const UNIT_BYTES: usize = 5;
+
+/// Of a running time the seconds, then the rest.
+pub const TIME_BYTES: usize = 8;
+
+/// A post's position in metres, and a speed in km/h, at the most.
+pub const METRES_MOST: u32 = 8_388_607;
+pub const SPEED_MOST: u32 = 160;
