@@ -79,9 +79,9 @@ fn read_from(book: &[u8], least: u8) -> Reading
         return refused(named);
     };
     line.sidings = sidings;
-    let placed = positioned(book[VERSION_AT], posts);
-    let positions = read_positions(book, posts, placed);
-    let order = check_positions(positions, placed);
+    let given = positioned(book[VERSION_AT], posts);
+    let positions = read_positions(book, posts, given);
+    let order = check_positions(positions, given);
     let Stage::Passed(_) = order else {
         return refused(order);
     };

@@ -114,7 +114,7 @@ module _ (v n : ℕ) where
 
 -- ---- the positions
 
-pub length-positions : (xs : List ℕ) → length (positionBytes xs) ≡ 4 * length xs
+length-positions : (xs : List ℕ) → length (positionBytes xs) ≡ 4 * length xs
 unfolding positionBytes
 length-positions [] = refl
 length-positions (x ∷ xs) = let e = length-positions xs in omega arith

@@ -34,30 +34,6 @@ use Rattle.line.proofs.Bytes.{places, routes-end, positions-part, posit
 use Rattle.line.proofs.Bytes.{added-later, added-few, position-is, no-bytes, later-bytes, length-added}
 use Rattle.line.proofs.Bytes.{length-routes, start-byte, end-byte}
 
--- ---- a book whose parts are right is read
-
-module _ (least : ℕ) (b : List ℕ) (right : namedLength b ≡ length b)
-    (edition : inRange least lastEdition (editionOf b) ≡ true) (formed : wellFormed (lineIn b) ≡ true)
-    (in-order : positionsInOrder (positionedIn b) (positionsOf b) ≡ true)
-    (whole : length b ≡ total (trainsIn b) (trainsOf b)) where
-  all-pass : refusal (bookChecksFrom least b) ≡ 0
-  all-pass =
-      let parts = formed-parts (lineIn b) formed in
-      let some = well-formed (lineIn b) formed .some-posts in
-      let four : 4 ≤ length b = omega arith in
-      let room : trainsIn b < length b = omega arith in
-      let lengths = and-both _ _ (le-leb 4 (length b) four) (eq-eqb (namedLength b) (length b) right) in
-      refusal-is (pass lengths
-      (pass edition
-      (pass (parts .0)
-      (pass (lt-ltb (trainsIn b) (length b) room)
-      (pass (parts .1)
-      (pass (parts .2)
-      (pass in-order
-      (pass (parts .3)
-      (pass (eq-eqb (length b) (total (trainsIn b) (trainsOf b)) whole)
-      (pass (parts .4) none))))))))))
-
 -- ---- a book that is read, part by part
 
 module _ (least : ℕ) (b : List ℕ) (unrefused : refusal (bookChecksFrom least b) ≡ 0) where
@@ -181,6 +157,30 @@ module _ (least : ℕ) (b : List ℕ) (unrefused : refusal (bookChecksFrom least
         let d0 = drop-cons b 0 0 (omega arith) in
         let d1 = drop-cons b 1 0 (omega arith) in
         rw body-end (cc (high, low))
+
+-- ---- a book whose parts are right is read
+
+module _ (least : ℕ) (b : List ℕ) (right : namedLength b ≡ length b)
+    (edition : inRange least lastEdition (editionOf b) ≡ true) (formed : wellFormed (lineIn b) ≡ true)
+    (in-order : positionsInOrder (positionedIn b) (positionsOf b) ≡ true)
+    (whole : length b ≡ total (trainsIn b) (trainsOf b)) where
+  all-pass : refusal (bookChecksFrom least b) ≡ 0
+  all-pass =
+      let parts = formed-parts (lineIn b) formed in
+      let some = well-formed (lineIn b) formed .some-posts in
+      let four : 4 ≤ length b = omega arith in
+      let room : trainsIn b < length b = omega arith in
+      let lengths = and-both _ _ (le-leb 4 (length b) four) (eq-eqb (namedLength b) (length b) right) in
+      refusal-is (pass lengths
+      (pass edition
+      (pass (parts .0)
+      (pass (lt-ltb (trainsIn b) (length b) room)
+      (pass (parts .1)
+      (pass (parts .2)
+      (pass in-order
+      (pass (parts .3)
+      (pass (eq-eqb (length b) (total (trainsIn b) (trainsOf b)) whole)
+      (pass (parts .4) none))))))))))
 
 -- ---- the bytes of a line and its positions in edition v
 

@@ -3,13 +3,13 @@
 use mathlib.Core.Path.{_≡_, refl, sym, ap, _∙_}
 use mathlib.Core.Logic.{_≢_}
 use mathlib.Core.Bool.{Bool, true, false, _&&_, and-false}
-use mathlib.Core.List.{List, [], _∷_, _++_}
+use mathlib.Core.List.{List, _∷_, _++_}
 use Prim.Native.Nat.{ℕ, _≤_, _<_}
 use native.Mathlib.Omega.{arith}
 use lib.Dec.{leb}
 use lib.ListN.{length, getD, replicate}
 use borrow.Author.Tests.{le-leb, lt-leb, ne-eqb}
-use Rattle.common.specs.Check.{Check, check, refusal, unlessRefused}
+use Rattle.common.specs.Check.{refusal, unlessRefused}
 use Rattle.common.specs.Tabulate.{valuesFrom, padded}
 use Rattle.common.proofs.Check.{none, stop, pass, refusal-is, first-part, second-part, not-given, accepts}
 use Rattle.common.proofs.Check.{refuses}
@@ -27,8 +27,8 @@ use Rattle.completion.specs.Table.{tableLength, bitOf, filled, Filling}
 use Rattle.completion.proofs.Codes.{code-cong}
 use Rattle.rules.specs.Types.{Line, Opened}
 use Rattle.rules.specs.State.{noTrain}
-use Rattle.rules.specs.Opening.{openingChecks, openedTrack, fresh, openedState, emptyState, Opening, opened}
-use Rattle.rules.specs.Opening.{openingOf, refusedBook, openingWith, OpenedAlike}
+use Rattle.rules.specs.Opening.{storesCheck, placingChecks, openingChecks, openedTrack, fresh, openedState}
+use Rattle.rules.specs.Opening.{emptyState, Opening, opened, openingOf, refusedBook, openingWith, OpenedAlike}
 
 -- ---- parts of the opening
 
@@ -41,11 +41,6 @@ start-code l = code-cong (l .trains) (λ t. getD (replicate 6 0) t 0) start (λ 
 pub opened-fleet : (l : Line) → padded 6 6 (λ t. fresh (routeOf l t) (openedTrack l t)) noTrain ≡ openedState l .fleet
 unfolding valuesFrom padded
 opened-fleet l = refl
-
--- 19 and 20
-abbrev placingChecks : Line → List ℕ → List Check
-placingChecks l table =
-    check overfull (feasible l start) ∷ check noWayThrough (bitOf (filled l table) (code l start)) ∷ []
 
 -- ---- an opening that is refused by n, with the table as it is then
 
@@ -146,8 +141,7 @@ module _ (book table : List ℕ) (records : ℕ) where
 -- the opening of a line
 openedLine : Line → List ℕ → ℕ → Opening
 openedLine l table records =
-    let stores = check shortStore (leb tableLength (length table) && leb journalLength records) in
-    unlessRefused (refusal (stores ∷ placingChecks l table)) (opened l table) (refusedBook l table)
+    unlessRefused (refusal (storesCheck table records ∷ placingChecks l table)) (opened l table) (refusedBook l table)
 
 by-line : (b : List ℕ) (l : Line) (ps : List ℕ) → readBook b ≡ acceptedBook l ps → (table : List ℕ) (records : ℕ)
     → openingWith b table records ≡ openedLine l table records

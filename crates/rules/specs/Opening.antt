@@ -18,16 +18,21 @@ use Rattle.completion.specs.Configuration.{start, whereabouts, code, feasible}
 use Rattle.completion.specs.Table.{tableLength, bitOf, filled}
 use Rattle.rules.specs.Types.{Route, Line, Record, Free, Train, State, Opened}
 
--- "Checks in order: 2; 14 ..; 4; 15; 14 ..; 16; 17; 14 ..; 18; 19; 20.", with 23 directly after 16, and 27 after it.
--- Of the journal only the number of records is looked at.
+-- 2: of the journal only the number of records is looked at
+abbrev pub storesCheck : List ℕ → ℕ → Check
+storesCheck table records = check shortStore (leb tableLength (length table) && leb journalLength records)
+
+-- "19; 20."
+abbrev pub placingChecks : Line → List ℕ → List Check
+placingChecks l table =
+    check overfull (feasible l start)
+    ∷ check noWayThrough (bitOf (filled l table) (code l start))
+    ∷ []
+
+-- "Checks in order: 2; 14 ..; 4; 15; 14 ..; 16; 17; 14 ..; 18; 19; 20.", with 23 directly after 16, and 27 after it
 abbrev pub openingChecks : List ℕ → List ℕ → ℕ → List Check
 openingChecks book table records =
-    let l = lineIn book in
-    check shortStore (leb tableLength (length table) && leb journalLength records)
-    ∷ bookChecks book
-    ++ (check overfull (feasible l start)
-    ∷ check noWayThrough (bitOf (filled l table) (code l start))
-    ∷ [])
+    storesCheck table records ∷ bookChecks book ++ placingChecks (lineIn book) table
 
 -- ---- the tracks at the opening: "At opening, trains take tracks by the same rule in number order"
 

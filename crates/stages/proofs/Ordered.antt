@@ -40,6 +40,9 @@ module _ (n : ℕ) (ps : List ℕ) where
   pub not-from-zero : metresAt ps 0 ≢ 0 → false ≡ positionsInOrder n ps
   not-from-zero h = sym (not-passed _ (λ z. h (from-zero n ps z)))
 
+  pub too-far : (k : ℕ) → k < n → mostMetres < metresAt ps k → false ≡ positionsInOrder n ps
+  too-far k h far = sym (not-passed _ (λ z. let near = bounded n ps z k h in omega arith))
+
   module _ {k : ℕ} (o : Ordered ps k) where
     pub not-above : k < n → metresAt ps k ≤ metresAt ps (k - 1) → false ≡ positionsInOrder n ps
     not-above h low = sym (not-passed _ (λ z.
@@ -47,9 +50,6 @@ module _ (n : ℕ) (ps : List ℕ) where
         let before : k - 1 < n - 1 = omega (arith, o .some) in
         let above : metresAt ps (k - 1) < metresAt ps k = rw next at (next-above n ps z (k - 1) before) in
         omega arith))
-
-    pub too-far : k < n → mostMetres < metresAt ps k → false ≡ positionsInOrder n ps
-    too-far h far = sym (not-passed _ (λ z. let near = bounded n ps z k h in omega arith))
 
     pub all-ordered : n ≤ k → true ≡ positionsInOrder n ps
     all-ordered h =

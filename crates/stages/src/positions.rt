@@ -14,14 +14,14 @@ use line::word::long_word;
 // How far from the first post a post can be.
 const MOST_METRES: u32 = 8_388_607;
 
-// The positions of the first `placed` of so many posts; 0 at the other places.
-pub fn read_positions(book: &[u8], posts: u8, placed: u8) -> [u32; 8]
-    requires { ⌜ (placed ≤ 8) × (positionAt posts placed ≤ length (now book)) ⌝ }
-    ensures { λ r. ⌜ r ≡ padded 8 placed (positionIn (now (book .entry)) posts) 0 ⌝ }
+// The positions of the first `given` of so many posts; 0 at the other places.
+pub fn read_positions(book: &[u8], posts: u8, given: u8) -> [u32; 8]
+    requires { ⌜ (given ≤ 8) × (positionAt posts given ≤ length (now book)) ⌝ }
+    ensures { λ r. ⌜ r ≡ padded 8 given (positionIn (now (book .entry)) posts) 0 ⌝ }
 {
     let mut positions = [0u32; 8];
     let mut p: usize = 0;
-    while p < placed as usize {
+    while p < given as usize {
         let at = COUNTS_AT + posts as usize + 1 + 4 * p;
         positions[p] = long_word(book[at], book[at + 1], book[at + 2], book[at + 3]);
         p += 1;
@@ -29,26 +29,26 @@ pub fn read_positions(book: &[u8], posts: u8, placed: u8) -> [u32; 8]
     positions
 }
 
-// Checks 27, for the first `placed` posts.
-pub fn check_positions(positions: [u32; 8], placed: u8) -> Stage
-    requires { ⌜ placed ≤ 8 ⌝ }
-    ensures { λ r. ⌜ r ≡ positionsStage placed positions ⌝ }
+// Checks 27, for the first `given` posts.
+pub fn check_positions(positions: [u32; 8], given: u8) -> Stage
+    requires { ⌜ given ≤ 8 ⌝ }
+    ensures { λ r. ⌜ r ≡ positionsStage given positions ⌝ }
 {
-    if !in_order(positions, placed) {
+    if !in_order(positions, given) {
         return Stage::Stopped(refusal::POSITIONS);
     }
-    Stage::Passed(placed)
+    Stage::Passed(given)
 }
 
-fn in_order(positions: [u32; 8], placed: u8) -> bool
-    requires { ⌜ placed ≤ 8 ⌝ }
-    ensures { λ r. ⌜ r ≡ positionsInOrder placed positions ⌝ }
+fn in_order(positions: [u32; 8], given: u8) -> bool
+    requires { ⌜ given ≤ 8 ⌝ }
+    ensures { λ r. ⌜ r ≡ positionsInOrder given positions ⌝ }
 {
     if positions[0] != 0 {
         return false;
     }
     let mut p: usize = 1;
-    while p < placed as usize {
+    while p < given as usize {
         let here = positions[p];
         if here <= positions[p - 1] {
             return false;

@@ -6,10 +6,10 @@ use Rattle.stages.proofs.positions.in_order.Statement.{statement}
 use Rattle.stages.proofs.positions.in_order.Tie as tie
 
 abbrev Inv-loop : tie.InvT-loop
-Inv-loop placed positions p₀ p = Ordered positions p
+Inv-loop given positions p₀ p = Ordered positions p
 
 abbrev μ-loop : tie.MeasureT-loop
-μ-loop placed positions p₀ p = placed - p
+μ-loop given positions p₀ p = given - p
 
 returns : tie.Need-returns Inv-loop μ-loop
 returns c = not-from-zero _ _ (c .if1 .taken)
@@ -24,7 +24,7 @@ returns-2 : tie.Need-returns-2 Inv-loop μ-loop
 returns-2 c = not-above _ _ (c .before .before .loop .inv) (omega arith) (omega arith)
 
 returns-3 : tie.Need-returns-3 Inv-loop μ-loop
-returns-3 c = too-far _ _ (c .before .before .before .loop .inv) (omega arith) (omega arith)
+returns-3 c = too-far _ _ (c .before .before .before .loop .p) (omega arith) (omega arith)
 
 loop-again : tie.Need-loop-again Inv-loop μ-loop
 loop-again c = one-more (c .before .before .before .loop .inv) (omega arith) (omega arith)

@@ -11,11 +11,11 @@ use Rattle.stages.proofs.positions.read_positions.Statement.{statement}
 use Rattle.stages.proofs.positions.read_positions.Tie as tie
 
 abbrev Inv-loop : tie.InvT-loop
-Inv-loop book posts placed positions₀ p₀ positions p =
-    (p ≤ placed) × (positions ≡ padded 8 p (positionIn book posts) 0)
+Inv-loop book posts given positions₀ p₀ positions p =
+    (p ≤ given) × (positions ≡ padded 8 p (positionIn book posts) 0)
 
 abbrev μ-loop : tie.MeasureT-loop
-μ-loop book posts placed positions₀ p₀ positions p = placed - p
+μ-loop book posts given positions₀ p₀ positions p = given - p
 
 loop-holds : tie.Need-loop-holds Inv-loop μ-loop
 loop-holds c = (omega arith, padded-none 8 _ 0)
@@ -27,7 +27,7 @@ loop-again c =
 
 returns : tie.Need-returns Inv-loop μ-loop
 returns c =
-    let all : c .before .loop .p ≡ c .before .before .before .args .placed = omega arith in
+    let all : c .before .loop .p ≡ c .before .before .before .args .given = omega arith in
     rw all at (c .before .loop .inv .1)
 
 pub read-positions-spec : {M : Type 1} → statement M
