@@ -2,7 +2,7 @@
 use mathlib.Core.Path.{_≡_, refl, ap, _∙_}
 use mathlib.Core.Logic.{_≢_}
 use mathlib.Core.List.{List}
-use Prim.Native.Nat.{ℕ, _+_, _*_, _%_, _<_}
+use Prim.Native.Nat.{ℕ, _%_, _<_}
 use native.Mathlib.Omega.{arith}
 use lib.ListN.{length}
 use borrow.Author.Tests.{eq-eqb, ne-eqb}
@@ -25,11 +25,14 @@ module _ (book : List ℕ) (p q v : ℕ) (time : List ℕ) where
     number-small : runningTime book p q v .refusal < 256
     number-small = rw time-number (refusal-below 256 (timeChecks book p q v) (omega arith) refl)
 
+    word : runningTimeCall book p q v time .answer ≡ runningTime book p q v .refusal
+    word = rw with-room (omega arith)
+
     number : refusalIn (runningTimeCall book p q v time .answer) ≡ runningTime book p q v .refusal
     number =
         let n = runningTime book p q v .refusal in
-        let low : (n + 256 * 0) % 256 ≡ n = omega (arith, number-small) in
-        rw with-room low
+        let low : n % 256 ≡ n = omega (arith, number-small) in
+        rw word low
 
     told : runningTime book p q v .refusal ≡ 0
         → let c = runningTimeCall book p q v time in
@@ -53,4 +56,4 @@ module _ (book : List ℕ) (p q v : ℕ) (time : List ℕ) where
       (λ e. ap (λ (c : TimeCall). c .time) (other-length e))
 
 pub time-told : TimeTold
-time-told = record { number = number; told = told; other-length = other-length; refused = refused }
+time-told = record { word = word; number = number; told = told; other-length = other-length; refused = refused }

@@ -30,9 +30,11 @@ runningTimeCall book from to speed time =
     (timeAfter (runningTime book from to speed) time)
     (timeCall (wordOf strangeState 0) time)
 
--- what is claimed of it: the low byte is the number of the refusal, the bytes of an accepted question say its seconds
--- and its rest, and a refusal changes nothing
+-- what is claimed of it: the word is the number of the refusal and no more, and its low byte holds that; the bytes of
+-- an accepted question say its seconds and its rest, and a refusal changes nothing
 pub record TimeTold : Type 0 where
+  pub word : (book : List ℕ) (p q v : ℕ) (time : List ℕ) → length time ≡ timeLength
+      → runningTimeCall book p q v time .answer ≡ runningTime book p q v .refusal
   pub number : (book : List ℕ) (p q v : ℕ) (time : List ℕ) → length time ≡ timeLength
       → refusalIn (runningTimeCall book p q v time .answer) ≡ runningTime book p q v .refusal
   pub told : (book : List ℕ) (p q v : ℕ) (time : List ℕ) → length time ≡ timeLength

@@ -16,7 +16,7 @@ use Rattle.line.specs.declared.line.Outcome.the-variants.{Refused}
 use Rattle.line.specs.declared.line.Reading.{Reading}
 use Rattle.line.specs.Line.{inRange}
 use Rattle.line.specs.Route.{distance}
-use Rattle.line.specs.Positions.{metresAt, mostMetres}
+use Rattle.line.specs.Positions.{metresAt, mostMetres, positionsInOrder}
 use Rattle.line.specs.Book.{lastEdition, firstEdition, editionOf, postsOf, bookChecksFrom, acceptedBook}
 use Rattle.line.specs.Book.{readPositioned, outcomeNumber}
 use Rattle.line.specs.Claims.{ReadAs}
@@ -33,7 +33,7 @@ module _ (b : List ℕ) (l : Line) (ps : List ℕ) (is-read : readPositioned b �
   pub book-passed : refusal (bookChecksFrom lastEdition b) ≡ 0
   book-passed = read-line lastEdition b l ps is-read .0
 
-  pub posts-same : l .posts ≡ postsOf b
+  posts-same : l .posts ≡ postsOf b
   posts-same = ap (λ (m : Line). m .posts) (read-line lastEdition b l ps is-read .1)
 
   told : (lastEdition ≤ editionOf b) × ReadAs b l ps
@@ -42,6 +42,13 @@ module _ (b : List ℕ) (l : Line) (ps : List ℕ) (is-read : readPositioned b �
   pub few-posts : l .posts ≤ 8
   few-posts = well-formed l (told .1 .formed) .few-posts
 
+  -- every post has a position, and they are in order
+  pub in-order : positionsInOrder (l .posts) ps ≡ true
+  in-order =
+      let known = high firstEdition lastEdition (editionOf b) (told .1 .edition .known) in
+      let third : editionOf b ≡ lastEdition = omega (arith, told .0) in
+      rw (positioned-last (editionOf b) (l .posts) third) at (told .1 .edition .in-order)
+
   module _ (p q : ℕ) where
     -- the metres by the positions that were read
     pub metres-read : metres b p q ≡ distance (metresAt ps p) (metresAt ps q)
@@ -49,10 +56,7 @@ module _ (b : List ℕ) (l : Line) (ps : List ℕ) (is-read : readPositioned b �
 
     pub few-metres : p < l .posts → q < l .posts → distance (metresAt ps p) (metresAt ps q) ≤ mostMetres
     few-metres from to =
-        let known = high firstEdition lastEdition (editionOf b) (told .1 .edition .known) in
-        let third : editionOf b ≡ lastEdition = omega (arith, told .0) in
-        let all = positioned-last (editionOf b) (l .posts) third in
-        let each = bounded _ ps (rw all at (told .1 .edition .in-order)) in
+        let each = bounded (l .posts) ps in-order in
         omega (arith, each p from, each q to)
 
 -- ---- the question

@@ -5,26 +5,28 @@ use mathlib.Core.Logic.{_≢_, _⊎_, inl, inr}
 use mathlib.Core.Bool.{Bool, true, false, _&&_}
 use mathlib.Core.List.{List}
 use Prim.Native.Nat.{ℕ, zero, suc, _+_, _*_, _/_, _^_, _≤_, _<_}
-use native.Mathlib.Nat.{div-add-mod, div-le-self, mod-lt, mul-comm, zero-div, zero-mod}
+use native.Mathlib.Nat.{div-add-mod, div-le-self, mod-lt, mul-add, mul-comm, zero-div, zero-mod}
 use native.Mathlib.Omega.{arith}
 use lib.Dec.{ltb}
 use lib.ListN.{length}
 use borrow.Author.Tests.{ltb-true}
 use Rattle.common.specs.Check.{refusal, unlessRefused}
-use Rattle.common.proofs.Tests.{and-left, and-right}
+use Rattle.common.proofs.Tests.{and-left, and-right, by-equality}
 use Rattle.common.proofs.Check.{passed-by, both-pass, clear, not-given, accepts, refuses}
 use Rattle.common.proofs.Word.{high-digit}
 use Rattle.line.specs.Refusal as number
 use Rattle.line.specs.declared.line.Line.{Line}
 use Rattle.line.specs.Book.{lastEdition, namedLength, postsOf, editionOf, positionsOf, lineIn, bookChecksFrom}
 use Rattle.line.specs.Book.{acceptedBook, refusedBy, readFrom, readPositioned, outcomeNumber}
+use Rattle.line.specs.Positions.{metresAt, positionsInOrder}
 use Rattle.line.proofs.WellFormed.{low, high}
+use Rattle.line.proofs.InOrder.{rising}
 use Rattle.line.proofs.Reading.{read-number}
 use Rattle.line.proofs.Positions.{positions}
 use Rattle.timing.specs.Timing.{Time, mostSpeed, metres, timed, questionChecks, timeChecks, noTime, runningTime}
 use Rattle.timing.specs.Claims.{Divides, Asked, RunningTime}
-use Rattle.timing.proofs.Cases.{metres-read, few-metres, refused-book, from-off, to-off, too-slow, too-fast}
-use Rattle.timing.proofs.Cases.{is-timed}
+use Rattle.timing.proofs.Cases.{in-order, metres-read, few-metres, refused-book, from-off, to-off, too-slow}
+use Rattle.timing.proofs.Cases.{too-fast, is-timed}
 
 -- ---- division with rest
 
@@ -133,6 +135,49 @@ module _ (b : List ℕ) (p q v : ℕ) where
     then-speed from to (inl h) = sym (too-slow b p q v l ps is-read from to h)
     then-speed from to (inr h) = sym (too-fast b p q v l ps is-read from to h)
 
+-- ---- the metres, and two ways one after the other
+
+apart : (b : List ℕ) (p q v : ℕ) (a : Asked b p q v) → metresAt (a .positions) p ≤ metresAt (a .positions) q
+    → metresAt (a .positions) p + metres b p q ≡ metresAt (a .positions) q
+apart b p q v a up = let far = metres-read b (a .line) (a .positions) (a .read) p q in omega arith
+
+-- a later post is no nearer
+no-nearer : (n : ℕ) (ps : List ℕ) → positionsInOrder n ps ≡ true → (p q : ℕ) → p ≤ q → q < n
+    → metresAt ps p ≤ metresAt ps q
+no-nearer n ps ordered p q h k = by-equality p q
+    (λ e. rw e (omega arith))
+    (λ e. let above = rising n ps ordered p q (omega arith) k in omega arith)
+
+-- the same asked between two other posts of the line
+abbrev asked-between : {b : List ℕ} {p q v : ℕ} (a : Asked b p q v) (x y : ℕ)
+    → x < a .line .posts → y < a .line .posts → Asked b x y v
+asked-between a x y from to = record {
+  line = a .line;
+  positions = a .positions;
+  read = a .read;
+  from = from;
+  to = to;
+  slow = a .slow;
+  fast = a .fast;
+}
+
+adds-up : (b : List ℕ) (p q r v : ℕ) → p ≤ q → q ≤ r → Asked b p r v
+    → let s = runningTime b p q v in
+    let t = runningTime b q r v in
+    let u = runningTime b p r v in
+    5 * v * (s .seconds + t .seconds) + (s .rest + t .rest) ≡ 5 * v * u .seconds + u .rest
+adds-up b p q r v h k a =
+    let near = no-nearer (a .line .posts) (a .positions) (in-order b (a .line) (a .positions) (a .read)) in
+    let first = asked-between a p q (a .from) (omega (arith, a .to)) in
+    let second = asked-between a q r (omega (arith, a .to)) (a .to) in
+    let one = apart b p q v first (near p q h (omega (arith, a .to))) in
+    let other = apart b q r v second (near q r k (a .to)) in
+    let whole = apart b p r v a (near p r (omega arith) (a .to)) in
+    let s = divides b p q v first .exact in
+    let t = divides b q r v second .exact in
+    let u = divides b p r v a .exact in
+    rw mul-add (omega arith)
+
 -- ---- the posts exchanged, and the same post twice
 
 both-ways : (x y : Bool) → x && y ≡ y && x
@@ -157,11 +202,12 @@ pub running-time : RunningTime
 running-time = record {
   answered = answered;
   accepted = accepted;
-  apart = λ b p q v a. metres-read b (a .line) (a .positions) (a .read) p q;
+  apart = apart;
   divides = divides;
   only = only;
   either-way = either-way;
   same-post = same-post;
+  adds-up = adds-up;
   no-time = no-time;
   book-first = λ b p q v n. book-first b p q v n;
   other-edition = other-edition;

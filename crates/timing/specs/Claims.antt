@@ -6,7 +6,6 @@ use Prim.Native.Nat.{ℕ, _+_, _*_, _≤_, _<_}
 use lib.ListN.{length}
 use Rattle.line.specs.Refusal as number
 use Rattle.line.specs.declared.line.Line.{Line}
-use Rattle.line.specs.Route.{distance}
 use Rattle.line.specs.Positions.{metresAt}
 use Rattle.line.specs.Book.{namedLength, editionOf, acceptedBook, readPositioned, outcomeNumber}
 use Rattle.timing.specs.Timing.{metres, noTime, runningTime}
@@ -32,7 +31,8 @@ pub record RunningTime : Type 0 where
   pub answered : (b : List ℕ) (p q v : ℕ) → runningTime b p q v .refusal ≡ 0 → Asked b p q v
   pub accepted : (b : List ℕ) (p q v : ℕ) → Asked b p q v → runningTime b p q v .refusal ≡ 0
   pub apart : (b : List ℕ) (p q v : ℕ) (a : Asked b p q v)
-      → metres b p q ≡ distance (metresAt (a .positions) p) (metresAt (a .positions) q)
+      → metresAt (a .positions) p ≤ metresAt (a .positions) q
+      → metresAt (a .positions) p + metres b p q ≡ metresAt (a .positions) q
   pub divides : (b : List ℕ) (p q v : ℕ) → Asked b p q v
       → let t = runningTime b p q v in Divides (metres b p q) v (t .seconds) (t .rest)
   pub only : (b : List ℕ) (p q v : ℕ) → Asked b p q v → (s r : ℕ) → Divides (metres b p q) v s r
@@ -40,6 +40,12 @@ pub record RunningTime : Type 0 where
   -- it does not matter which post is named first, and from a post to itself it takes no time
   pub either-way : (b : List ℕ) (p q v : ℕ) → runningTime b p q v ≡ runningTime b q p v
   pub same-post : (b : List ℕ) (p v : ℕ) → let t = runningTime b p p v in (t .seconds ≡ 0) × (t .rest ≡ 0)
+  -- with the rests no second is lost: those of two ways, one after the other, and of both together
+  pub adds-up : (b : List ℕ) (p q r v : ℕ) → p ≤ q → q ≤ r → Asked b p r v
+      → let s = runningTime b p q v in
+      let t = runningTime b q r v in
+      let u = runningTime b p r v in
+      5 * v * (s .seconds + t .seconds) + (s .rest + t .rest) ≡ 5 * v * u .seconds + u .rest
   -- a question that is refused has no time
   pub no-time : (b : List ℕ) (p q v : ℕ) → let t = runningTime b p q v in
       t .refusal ≢ 0 → (t .seconds ≡ 0) × (t .rest ≡ 0)

@@ -45,7 +45,7 @@ pub fn running_time(book: &[u8], from: PostNo, to: PostNo, speed: u32) -> Time
     let positions = reading.positions;
     let p = from.0 as usize;
     let q = to.0 as usize;
-    divided(apart(positions[p], positions[q]), speed)
+    timed(apart(positions[p], positions[q]), speed)
 }
 
 // How far apart two positions are.
@@ -59,16 +59,16 @@ fn apart(a: u32, b: u32) -> u32
 }
 
 // So many metres at that speed.
-fn divided(metres: u32, speed: u32) -> Time
+fn timed(metres: u32, speed: u32) -> Time
     requires { ⌜ (metres ≤ mostMetres) × (1 ≤ speed) × (speed ≤ mostSpeed) ⌝ }
     ensures { λ r. ⌜ r ≡ timed metres speed ⌝ }
 {
     let way = 18 * metres;
-    let second = 5 * speed;
+    let pace = 5 * speed;
     Time {
         refusal: 0,
-        seconds: way / second,
-        rest: way % second,
+        seconds: way / pace,
+        rest: way % pace,
     }
 }
 

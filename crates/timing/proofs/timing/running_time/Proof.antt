@@ -87,8 +87,8 @@ returns-5 c =
 abbrev on-line : tie.After-struct-known6 → tie.Else2
 on-line c = c .before .before .before .before .before
 
-divided-requires : tie.Need-divided-requires
-divided-requires c κs =
+timed-requires : tie.Need-timed-requires
+timed-requires c κs =
     let e = on-line (c .before) in
     let a = told e in
     let speed = c .before .before .before .before in (
@@ -103,7 +103,7 @@ returns-6 c =
     let e = on-line (m .before) in
     let a = told e in
     let speed = m .before .before .before .before in
-    rw (c .divided .ensures, m .apart .ensures, ← metres-read _ (line a) (positions a) (is-read a))
+    rw (c .timed .ensures, m .apart .ensures, ← metres-read _ (line a) (positions a) (is-read a))
     (is-timed _ _ _ _ (line a) (positions a) (is-read a) (departs e) (arrives e) (speed .before .if3 .left)
     (speed .if4 .left))
 
@@ -132,5 +132,5 @@ running-time-spec =
     (λ c. search needs)
     (λ c. arrives-in (on-line c))
     (λ c κs. search needs)
-    divided-requires
+    timed-requires
     returns-6)
