@@ -44,8 +44,8 @@ extern "C" {
 
 /*
  * Sizes of buffers, in bytes. Line, state, unit and time have exactly this length; table, journal
- * and out at least this length; a frame that is heard or answered has exactly this length, and the buffer
- * that a press is lent for its frame at least this length.
+ * and out at least this length; a frame that is heard or answered has exactly this length, and the
+ * buffer that a press is lent for its frame at least this length.
  */
 #define QUANGEVIT_LINE_BYTES 23
 #define QUANGEVIT_STATE_BYTES 56

@@ -235,7 +235,8 @@ static void running_times(void) {
     expect_time(2, 0, 55, 65 + 80 + 1, 62);
     expect(ask_time(0, 3, 55) == QUANGEVIT_WRONG_POST, "a way to a post off the line has a time");
     expect(ask_time(0, 1, QUANGEVIT_SPEED_MOST + 1) == QUANGEVIT_SPEED, "a time at 161 km/h");
-    expect(number_at(told + QUANGEVIT_TIME_SECONDS_AT) == 146, "a refusal has written");
+    expect(number_at(told + QUANGEVIT_TIME_SECONDS_AT) == 146, "a refusal has written seconds");
+    expect(number_at(told + QUANGEVIT_TIME_REST_AT) == 62, "a refusal has written a rest");
     book_3[11] = 1;
     expect(open_book(book_3, sizeof book_3) == QUANGEVIT_POSITIONS, "a book not from 0 is opened");
 }

@@ -1,4 +1,4 @@
-//! What filling a table, answering a frame and telling a running time cost: the proved code beside the model.
+//! What filling a table, answering a frame, reading a book and telling a running time cost: the proved code beside the model.
 //!
 //!     bench                                  times, as a markdown table
 //!     bench works                            each line and work that is measured

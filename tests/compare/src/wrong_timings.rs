@@ -322,7 +322,7 @@ const OF_ORDER: [(&str, Fault); 13] = [
         Fault::Times(|b, q| with_earlier(Check::Speed, Check::PostsAsked, b, q)),
     ),
     (
-        "9 before the book's numbers",
+        "9 right after the book's length",
         Fault::Times(|b, q| with_earlier(Check::PostsAsked, Check::Edition, b, q)),
     ),
     (
