@@ -169,7 +169,6 @@ module _ (least : ℕ) (b : List ℕ) where
           → l .sidings ≡ m → PostsRead b l ps
       posts-read l same counts set = record {
         posts = rw (same, header .is);
-        few = rw (header .is) at (header .few);
         tracks = rw (counts, header .is);
         sidings = rw (set, sidings .is);
         positions = positions-are;

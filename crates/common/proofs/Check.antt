@@ -161,6 +161,13 @@ unfolding unlessRefused
 refuses {n = zero} x f h = absurd (not-suc-le-zero h)
 refuses {n = suc n} x f h = refl
 
+-- the number that an answer tells: 0 where nothing is refused
+pub number-told : {A : Type 0} (number : A → ℕ) (x : A) (f : ℕ → A) → number x ≡ 0 → ((k : ℕ) → number (f k) ≡ k)
+    → (n : ℕ) → number (unlessRefused n x f) ≡ n
+unfolding unlessRefused
+number-told number x f e h zero = e
+number-told number x f e h (suc n) = h (suc n)
+
 -- the same in the direction of a definition `unlessRefused (refusal checks) ..`
 pub accepted-by : {A : Type 0} (x : A) (f : ℕ → A) {cs : List Check} → Refuses cs 0 → x ≡ unlessRefused (refusal cs) x f
 accepted-by x f r = sym (accepts x f (refusal-is r))

@@ -41,11 +41,10 @@ pub record PositionBytes : Type 0 where
   -- "counted in its length checks": under 6 + 5 P bytes is 14, before 16, and with as many it is 16; a byte less or
   -- more than 6 + 5 P + 2 T is 14
   pub lengths : numbersOf
-      (bookOf 13 3 2 (9 ∷ 9 ∷ 0 ∷ position 0 0 ++ position 0 1) 0 [] ∷ (0 ∷ 13 ∷ 3 ∷ 2 ∷ replicate 11 9)
-      ∷ (0 ∷ 14 ∷ 3 ∷ 2 ∷ replicate 12 9)
+      ((0 ∷ 13 ∷ 3 ∷ 2 ∷ replicate 11 9) ∷ (0 ∷ 14 ∷ 3 ∷ 2 ∷ replicate 12 9)
       ∷ bookOf 15 3 2 (1 ∷ 1 ∷ 0 ∷ position 0 0 ++ position 0 1) 1 (0 ∷ [])
       ∷ bookOf 17 3 2 (1 ∷ 1 ∷ 0 ∷ position 0 0 ++ position 0 1) 1 (0 ∷ 1 ∷ 0 ∷ []) ∷ [])
-      ≡ 14 ∷ 14 ∷ 16 ∷ 14 ∷ 14 ∷ []
+      ≡ 14 ∷ 16 ∷ 14 ∷ 14 ∷ []
   -- "not from 0, not strictly rising, or above 8,388,607", at the last post and at one before it; with 8,388,607 it is
   -- read
   pub in-order : numbersOf

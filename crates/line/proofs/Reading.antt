@@ -9,16 +9,10 @@ use lib.Dec.{ltb}
 use borrow.Author.Tests.{ltb-true}
 use Rattle.common.specs.Check.{refusal, unlessRefused}
 use Rattle.common.proofs.Tests.{by-equality}
-use Rattle.common.proofs.Check.{clear, not-given, accepts}
+use Rattle.common.proofs.Check.{clear, not-given, accepts, number-told}
 use Rattle.line.specs.Sorts.{Line, Outcome, Read, Refused, Reading}
 use Rattle.line.specs.Book.{positionsOf, lineIn, bookChecksFrom, acceptedBook, refusedBy, readFrom}
 use Rattle.line.specs.Book.{outcomeNumber}
-
-number-of : (n : ℕ) (l : Line) (ps : List ℕ)
-    → outcomeNumber (unlessRefused n (acceptedBook l ps) refusedBy .outcome) ≡ n
-unfolding unlessRefused
-number-of zero l ps = refl
-number-of (suc n) l ps = refl
 
 accepted-of : (n : ℕ) (m l : Line) (qs ps : List ℕ)
     → unlessRefused n (acceptedBook m qs) refusedBy ≡ acceptedBook l ps → (n ≡ 0) × (l ≡ m) × (ps ≡ qs)
@@ -39,7 +33,9 @@ isRead (Refused k) = false
 module _ (least : ℕ) (b : List ℕ) where
   pub read-number : outcomeNumber (readFrom least b .outcome) ≡ refusal (bookChecksFrom least b)
   unfolding readFrom
-  read-number = number-of (refusal (bookChecksFrom least b)) (lineIn b) (positionsOf b)
+  read-number =
+      number-told (λ (r : Reading). outcomeNumber (r .outcome)) (acceptedBook (lineIn b) (positionsOf b)) refusedBy
+      refl (λ k. refl) (refusal (bookChecksFrom least b))
 
   pub read-line : (l : Line) (ps : List ℕ) → readFrom least b ≡ acceptedBook l ps
       → (refusal (bookChecksFrom least b) ≡ 0) × (l ≡ lineIn b) × (ps ≡ positionsOf b)

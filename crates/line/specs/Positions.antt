@@ -10,11 +10,12 @@ use Rattle.common.specs.Below.{allBelow}
 abbrev pub metresAt : List ℕ → ℕ → ℕ
 metresAt ps p = getD ps p 0
 
+-- how far from the first post a post can be
 abbrev pub mostMetres : ℕ
 mostMetres = 8388607
 
--- the positions of n posts: from 0, strictly rising, and none above 8,388,607. Where no post has one, 0 stands at the
--- first place, and there is nothing else to test.
+-- the positions of n posts are none of these: "not from 0, not strictly rising, or above 8,388,607". Where no post has
+-- one, 0 stands at the first place, and there is nothing else to test.
 unfoldable pub positionsInOrder : ℕ → List ℕ → Bool
 positionsInOrder n ps =
     eqb (metresAt ps 0) 0

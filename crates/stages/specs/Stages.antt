@@ -1,7 +1,7 @@
 -- The stages in which a book is read, one for each part of its checks. Nothing above the reading cites them.
 use mathlib.Core.Path.{_≡_}
 use mathlib.Core.List.{List, _++_}
-use Prim.Native.Nat.{ℕ, _≤_, _<_}
+use Prim.Native.Nat.{ℕ, _<_}
 use lib.ListN.{length}
 use Rattle.common.specs.Check.{Check, refusal, unlessRefused}
 use Rattle.line.specs.declared.line.Line.{Line}
@@ -46,7 +46,6 @@ routesStage l = stageOf (routesChecks l) (l .trains)
 -- number of trains
 pub record PostsRead (b : List ℕ) (l : Line) (ps : List ℕ) : Type 0 where
   pub posts : l .posts ≡ postsOf b
-  pub few : postsOf b ≤ 8
   pub tracks : l .tracks ≡ lineIn b .tracks
   pub sidings : l .sidings ≡ sidingsOf b
   pub positions : ps ≡ positionsOf b

@@ -12,7 +12,7 @@ use lib.ListN.{length}
 use borrow.Author.Tests.{ltb-true}
 use Rattle.common.specs.Check.{refusal, unlessRefused}
 use Rattle.common.proofs.Tests.{and-left, and-right, by-equality}
-use Rattle.common.proofs.Check.{passed-by, both-pass, clear, not-given, accepts, refuses}
+use Rattle.common.proofs.Check.{passed-by, both-pass, clear, not-given, accepts, refuses, number-told}
 use Rattle.common.proofs.Word.{high-digit}
 use Rattle.line.specs.Refusal as number
 use Rattle.line.specs.declared.line.Line.{Line}
@@ -42,17 +42,14 @@ unfolding unlessRefused
 no-metres zero v = (zero-div _, zero-mod _)
 no-metres (suc n) v = (refl, refl)
 
--- ---- the number of a refusal
-
-number-of : (n m v : ℕ) → unlessRefused n (timed m v) noTime .refusal ≡ n
-unfolding unlessRefused
-number-of zero m v = refl
-number-of (suc n) m v = refl
+-- ---- the number of a question
 
 module _ (b : List ℕ) (p q v : ℕ) where
   pub time-number : runningTime b p q v .refusal ≡ refusal (timeChecks b p q v)
   unfolding runningTime
-  time-number = number-of (refusal (timeChecks b p q v)) (metres b p q) v
+  time-number =
+      number-told (λ (t : Time). t .refusal) (timed (metres b p q) v) noTime
+      refl (λ k. refl) (refusal (timeChecks b p q v))
 
   no-time : let t = runningTime b p q v in t .refusal ≢ 0 → (t .seconds ≡ 0) × (t .rest ≡ 0)
   unfolding runningTime
