@@ -36,8 +36,8 @@
 extern "C" {
 #endif
 
-/* 100 times the edition (what the ends answer) plus the revision: 500 is version 5.00. */
-#define QUANGEVIT_VERSION 500
+/* 100 times the edition (what the ends answer) plus the revision: 600 is version 6.00. */
+#define QUANGEVIT_VERSION 600
 
 #define QUANGEVIT_REFUSAL(answer) ((answer) & 255u)
 #define QUANGEVIT_SENT(answer) ((answer) >> 8)
@@ -48,7 +48,7 @@ extern "C" {
  * buffer that a press is lent for its frame at least this length.
  */
 #define QUANGEVIT_LINE_BYTES 23
-#define QUANGEVIT_STATE_BYTES 56
+#define QUANGEVIT_STATE_BYTES 74
 #define QUANGEVIT_TABLE_BYTES 32768
 #define QUANGEVIT_JOURNAL_BYTES 1180 /* 236 records */
 #define QUANGEVIT_OUT_BYTES 42       /* six frames */
@@ -67,7 +67,7 @@ extern "C" {
 #define QUANGEVIT_STACK_READ_BOOK 512
 #define QUANGEVIT_STACK_OPEN 896
 #define QUANGEVIT_STACK_RUNNING_TIME 640
-#define QUANGEVIT_STACK_ANSWER 1280
+#define QUANGEVIT_STACK_ANSWER 1536
 #define QUANGEVIT_STACK_UNIT 128 /* each call of a unit, and quangevit_version */
 
 /* ---- what the bytes mean */
@@ -118,11 +118,12 @@ enum quangevit_route_at { QUANGEVIT_ROUTE_START_AT = 0, QUANGEVIT_ROUTE_END_AT =
 
 /*
  * State: the number of posts, the tracks of posts 0 to 7, the siding byte, the number of trains,
- * then six bytes for each of trains 0 to 5, one byte for each of sections 0 to 6, which is 1 where a
+ * then nine bytes for each of trains 0 to 5, one byte for each of sections 0 to 6, which is 1 where a
  * gang has it and else 0, the number of local runs given since the opening, last the number of
- * records in the journal. Keep it between calls and do not change it. 56 bytes with another status,
- * with a detail that is not 0 where the status is Free, or with another byte for a section, encode
- * no state.
+ * records in the journal. Keep it between calls and do not change it. 74 bytes with another status,
+ * with a detail that is not 0 where the status is Free, with another byte than 0 or 1 for whether a
+ * train has a last move, with a post of it that is not 0 where there is none, or with another byte
+ * for a section, encode no state.
  */
 enum quangevit_state_at {
     QUANGEVIT_STATE_POSTS_AT = 0,
@@ -130,20 +131,23 @@ enum quangevit_state_at {
     QUANGEVIT_STATE_SIDINGS_AT = 9,
     QUANGEVIT_STATE_TRAINS_AT = 10,
     QUANGEVIT_STATE_FLEET_AT = 11, /* of train t: + QUANGEVIT_TRAIN_BYTES * t */
-    QUANGEVIT_STATE_POSSESSIONS_AT = 47, /* of section i: + i */
-    QUANGEVIT_STATE_GIVEN_AT = 54,
-    QUANGEVIT_STATE_LOGGED_AT = 55
+    QUANGEVIT_STATE_POSSESSIONS_AT = 65, /* of section i: + i */
+    QUANGEVIT_STATE_GIVEN_AT = 72,
+    QUANGEVIT_STATE_LOGGED_AT = 73
 };
 
-#define QUANGEVIT_TRAIN_BYTES 6
+#define QUANGEVIT_TRAIN_BYTES 9
 enum quangevit_train_at {
     QUANGEVIT_TRAIN_START_AT = 0,
     QUANGEVIT_TRAIN_END_AT = 1,
     QUANGEVIT_TRAIN_POST_AT = 2,
     QUANGEVIT_TRAIN_TRACK_AT = 3, /* at its post */
     QUANGEVIT_TRAIN_STATUS_AT = 4,
-    QUANGEVIT_TRAIN_DETAIL_AT = 5 /* Asked: number of its FA in the journal; Running: track at the
-                                     post it runs to; Free: 0 */
+    QUANGEVIT_TRAIN_DETAIL_AT = 5, /* Asked: number of its FA in the journal; Running: track at the
+                                      post it runs to; Free: 0 */
+    QUANGEVIT_TRAIN_LAST_AT = 6,   /* 1 where it has finished a move, else 0 */
+    QUANGEVIT_TRAIN_LAST_FROM_AT = 7, /* its last finished move, from post to post, or 0 and 0 */
+    QUANGEVIT_TRAIN_LAST_TO_AT = 8
 };
 
 enum quangevit_status {
@@ -223,7 +227,8 @@ enum quangevit_button {
     QUANGEVIT_ASK = 0,
     QUANGEVIT_DEPART = 1,
     QUANGEVIT_REACHED = 2,
-    QUANGEVIT_REPORT = 3
+    QUANGEVIT_REPORT = 3,
+    QUANGEVIT_AGAIN = 4
 };
 
 enum quangevit_refusal {
@@ -241,8 +246,6 @@ enum quangevit_refusal {
     QUANGEVIT_WRONG_POST = 9,       /* from or to not present and next post; LA, LB: not two
                                        neighbouring posts of the line, lower first; running time: a
                                        post not on the line */
-    QUANGEVIT_ALREADY_ASKED = 10,   /* FA of an Asked train */
-    QUANGEVIT_UNDER_AUTHORITY = 11, /* FA of a Running train */
     QUANGEVIT_NO_AUTHORITY = 12,    /* AM of a train not Running */
     QUANGEVIT_JOURNAL_FULL = 13,    /* fewer than 7 records left of 236 */
     QUANGEVIT_TORN_BOOK = 14,       /* length wrong, or the book ends too early */
@@ -252,7 +255,7 @@ enum quangevit_refusal {
     QUANGEVIT_OFF_THE_LINE = 18,    /* start or end off the line; a unit's numbers out of range */
     QUANGEVIT_OVERFULL = 19,        /* more trains start on the tracks of a post than it has */
     QUANGEVIT_NO_WAY_THROUGH = 20,  /* the trains cannot all reach their ends */
-    QUANGEVIT_NOT_NOW = 21,         /* button in the wrong phase, or no button */
+    QUANGEVIT_NOT_NOW = 21,         /* button in the wrong phase, Again at the start, or no button */
     QUANGEVIT_NOT_AWAITED = 22,     /* FE in the wrong phase or for another move */
     QUANGEVIT_SIDINGS = 23,         /* the siding byte names a post not on the line */
     QUANGEVIT_SECTION_TAKEN = 24,   /* LA: a train or a gang has the section */
@@ -280,8 +283,8 @@ uint32_t quangevit_read_book(const uint8_t *book, size_t book_len, uint8_t *line
  * Opens a book: fills the table and writes the state in which every train is Free at its start, on
  * its track there, no gang has a section, and the journal has no record. What the state buffer held
  * is not looked at; the journal is only measured. Checks, in this order: 1, a state buffer that is
- * not 56 bytes, and nothing is changed; 2, table or journal; those of quangevit_read_book from 14
- * on; 19; 20. A refusal by 2, 4, 14 to 20, 23 or 27 writes 56 zeros, a state on which
+ * not 74 bytes, and nothing is changed; 2, table or journal; those of quangevit_read_book from 14
+ * on; 19; 20. A refusal by 2, 4, 14 to 20, 23 or 27 writes 74 zeros, a state on which
  * quangevit_answer gives 1; the table is then left alone, but for 20, which leaves it filled.
  */
 uint32_t quangevit_open(const uint8_t *book, size_t book_len, uint8_t *state, size_t state_len,
@@ -292,8 +295,14 @@ uint32_t quangevit_open(const uint8_t *book, size_t book_len, uint8_t *state, si
  * Answers a frame (an FA or an AM of a driver's unit, an LA or an LB of a gang): writes the state
  * afterwards, the records of the frame and of its answers from the journal's next record on, and
  * the answers' frames at the beginning of out, 0 to 6 of them, for the units; an LA gets its LE.
- * Checks, in this order: 1, then 2 to 9 by their numbers (8 not for LA and LB), then 10 or 11 for an
- * FA, 12 for an AM, 24 and 26 for an LA, 25 for an LB, then 13. A refusal changes nothing.
+ *
+ * A frame that repeats an earlier one is answered, and neither state nor journal is changed: an FA
+ * for the next move of an Asked train by its AFE, of a Running train by its FE, and an AM of the
+ * train's last finished move by no frame. Nobody gets an authority by a repeat.
+ *
+ * Checks, in this order: 1, then 2 to 9 by their numbers (8 not for LA and LB; an AM of the last
+ * finished move passes after 7, and an FA of a train that is not Free after 9), 12 for an AM, 24 and
+ * 26 for an LA, 25 for an LB, then 13. A refusal changes nothing. No call answers 10 or 11.
  */
 uint32_t quangevit_answer(uint8_t *state, size_t state_len, const uint8_t *table, size_t table_len,
                           uint8_t *journal, size_t journal_len, const uint8_t *frame,
@@ -324,8 +333,12 @@ uint32_t quangevit_running_time(const uint8_t *book, size_t book_len, uint8_t fr
  *   Under way  Reached                  Arrived
  *   Arrived    Report                   Standing, at the next post   AM for the move just made
  *
- * Another button is 21, and Ask at the end 8. Another FE for its own train is 22. Another AFE, an FE
- * for another train, and an LA, LE or LB is heard and changes nothing.
+ * Any other press of these four buttons is 21, and Ask at the end 8. Another FE for its own train is
+ * 22. Another AFE, an FE for another train, and an LA, LE or LB is heard and changes nothing.
+ *
+ * Again changes no phase and sends once more what may be lost: in Asked and Declined the FA for its
+ * move, in Standing past the start, also at the end, the AM of the last move. Else it is 21. A lost
+ * AM can be sent again until Ask is pressed, and not after it: press Again before Ask.
  */
 
 /*
@@ -337,7 +350,7 @@ uint32_t quangevit_make_unit(uint8_t train, uint8_t start, uint8_t end, uint8_t 
                              size_t unit_len);
 
 /*
- * Presses a button. Ask and Report give a frame, an FA and an AM: its seven bytes are at the
+ * Presses a button. Ask, Report and Again give a frame, an FA or an AM: its seven bytes are at the
  * beginning of `frame` and the answer says 1 sent; else `frame` is left alone. Checks, in this
  * order: 1; 2, a frame buffer under 7 bytes, whatever the button; 21, also for a number that is no
  * button's; 8. A refusal changes nothing.

@@ -8,7 +8,7 @@ use Rattle.line.specs.Route.{sectionOf}
 use Rattle.journal.specs.Journal.{recordOf, emptyBatch}
 use Rattle.rules.specs.State.{withPossession}
 use Rattle.rules.specs.Granting.{begun, sends, settled}
-use Rattle.rules.specs.Answer.{accepted}
+use Rattle.rules.specs.Answer.{anew}
 use Rattle.authority.specs.Progress.{addRecords, progressOf, progressWith}
 use Rattle.accepting.specs.Types.{Move, La, Le, Lb, Record, State, Progress}
 use Rattle.accepting.specs.Acceptable.{OnSection}
@@ -26,8 +26,8 @@ module _ (s : State) (m : Move) (k : OnSection s m) (i : ℕ) (own : i ≡ secti
 -- the LA is logged, and then its LE
 pub lent-told : (s : State) (m : Move) (b : State) → b ≡ withPossession s (m .from .0) true (s .given + 1)
     → (p : Progress) → p ≡ progressWith b emptyBatch (recordOf (La m)) → (table : List ℕ)
-    → progressWith (p .state) (p .batch) (recordOf (Le m)) ≡ progressOf (accepted table s (La m))
-unfolding accepted addRecords
+    → progressWith (p .state) (p .batch) (recordOf (Le m)) ≡ progressOf (anew table s (La m))
+unfolding anew addRecords
 lent-told s m b e p held table =
     sends-held (begun b (recordOf (La m))) p held (recordOf (Le m)) (Le m)
     ∙ ap (λ (c : State). let w = begun c (recordOf (La m)) in
@@ -36,6 +36,6 @@ lent-told s m b e p held table =
 -- the LB is logged, and then the granting goes on
 pub returned-told : (s : State) (m : Move) (b : State) → b ≡ withPossession s (m .from .0) false (s .given)
     → (entry : Record) → entry ≡ recordOf (Lb m) → (table : List ℕ)
-    → progressOf (settled table (begun b entry)) ≡ progressOf (accepted table s (Lb m))
-unfolding accepted
+    → progressOf (settled table (begun b entry)) ≡ progressOf (anew table s (Lb m))
+unfolding anew
 returned-told s m b e entry is table = rw (e, is)

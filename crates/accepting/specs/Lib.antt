@@ -1,3 +1,4 @@
--- What a frame that is accepted must meet. What it does is in `rules`.
+-- What a frame that is accepted must meet, and a repeat's answers as the code holds them. What it does is in `rules`.
 pub mod Types
 pub mod Acceptable
+pub mod Repeating

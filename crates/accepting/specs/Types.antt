@@ -9,3 +9,5 @@ pub use Rattle.rules.specs.declared.state.Status.the-variants.{Asked}
 pub use Rattle.rules.specs.declared.state.Train.{Train}
 pub use Rattle.rules.specs.declared.state.State.{State}
 pub use Rattle.authority.specs.declared.granting.Progress.{Progress}
+pub use Rattle.accepting.specs.declared.repeats.Repeat.{Repeat}
+pub use Rattle.accepting.specs.declared.repeats.Repeat.the-variants.{Not, Silent, Told}

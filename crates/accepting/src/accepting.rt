@@ -1,4 +1,4 @@
-// What an accepted frame does.
+// What an accepted frame does that repeats none.
 ghost use mathlib.Core.Path.{_≡_};
 ghost use mathlib.Core.Bool.{true};
 ghost use mathlib.Core.List.{List};
@@ -8,7 +8,7 @@ ghost use Rattle.accepting.specs.Types.{Fa, Am, La, Lb, Asked};
 ghost use Rattle.rules.specs.State.{trainOf, withStatus, arrivedNext, withTrain, oneLogged};
 ghost use Rattle.rules.specs.Valid.{consistent};
 ghost use Rattle.rules.specs.Granting.{Work, begun, settled};
-ghost use Rattle.rules.specs.Answer.{mostLogged, accepted, declined, untouched};
+ghost use Rattle.rules.specs.Answer.{mostLogged, declined, untouched, anew};
 ghost use Rattle.authority.specs.Progress.{progressOf};
 ghost use Rattle.accepting.specs.Acceptable.{Ready, Acceptable};
 use authority::Progress;
@@ -33,7 +33,7 @@ use validity::with_train;
 // The frame is logged and answered. What is none of FA, AM, LA and LB is not accepted.
 pub fn accept(state: State, table: &[u8], message: Message) -> Progress
     requires { ⌜ Acceptable state message ⌝ }
-    ensures { λ r. ⌜ r ≡ progressOf (accepted (now (table .entry)) state message) ⌝ }
+    ensures { λ r. ⌜ r ≡ progressOf (anew (now (table .entry)) state message) ⌝ }
 {
     match message {
         Message::Fa(m) => request(state, table, m),
@@ -51,7 +51,7 @@ pub fn accept(state: State, table: &[u8], message: Message) -> Progress
 // Running .. If the asker was not granted, its AFE comes last."
 fn request(state: State, table: &[u8], m: Move) -> Progress
     requires { ⌜ Ready state (Fa m) (withStatus (trainOf state (m .train .0)) (Asked (state .logged))) ⌝ }
-    ensures { λ r. ⌜ r ≡ progressOf (accepted (now (table .entry)) state (Fa m)) ⌝ }
+    ensures { λ r. ⌜ r ≡ progressOf (anew (now (table .entry)) state (Fa m)) ⌝ }
 {
     let asked = with_status(train_of(state, m.train), Status::Asked(state.logged));
     let work = take(state, table, record_of(Message::Fa(m)), m.train, asked);
@@ -61,7 +61,7 @@ fn request(state: State, table: &[u8], m: Move) -> Progress
 // 01: "AM: the train becomes Free at the post it ran to. Then the same granting."
 fn arrival(state: State, table: &[u8], m: Move) -> Progress
     requires { ⌜ Ready state (Am m) (arrivedNext (state .sidings) (trainOf state (m .train .0))) ⌝ }
-    ensures { λ r. ⌜ r ≡ progressOf (accepted (now (table .entry)) state (Am m)) ⌝ }
+    ensures { λ r. ⌜ r ≡ progressOf (anew (now (table .entry)) state (Am m)) ⌝ }
 {
     let free = arrived(state.sidings, train_of(state, m.train));
     take(state, table, record_of(Message::Am(m)), m.train, free)
@@ -71,7 +71,7 @@ fn arrival(state: State, table: &[u8], m: Move) -> Progress
 // before.
 fn lend(state: State, m: Move) -> Progress
     requires { ⌜ Acceptable state (La m) ⌝ }
-    ensures { λ r. ⌜ ((table : List ℕ) → r ≡ progressOf (accepted table state (La m))) ⌝ }
+    ensures { λ r. ⌜ ((table : List ℕ) → r ≡ progressOf (anew table state (La m))) ⌝ }
 {
     let lent = with_possession(state, line::section(m.from, m.to), true, state.given + 1);
     let asked = logged(lent, logging::empty(), record_of(Message::La(m)));
@@ -83,7 +83,7 @@ fn lend(state: State, m: Move) -> Progress
 // "LB frees it and starts the same granting as AM."
 fn give_back(state: State, table: &[u8], m: Move) -> Progress
     requires { ⌜ Acceptable state (Lb m) ⌝ }
-    ensures { λ r. ⌜ r ≡ progressOf (accepted (now (table .entry)) state (Lb m)) ⌝ }
+    ensures { λ r. ⌜ r ≡ progressOf (anew (now (table .entry)) state (Lb m)) ⌝ }
 {
     let freed = with_possession(state, line::section(m.from, m.to), false, state.given);
     settle(freed, table, record_of(Message::Lb(m)))

@@ -1,4 +1,4 @@
--- The work on an accepted frame, message by message: it keeps the invariant, and each FE among the answers has its
+-- The work on a new frame, message by message: it keeps the invariant, and each FE among the answers has its
 -- request in the journal.
 use mathlib.Core.Path.{_≡_, refl, sym, ap, _∙_}
 use mathlib.Core.Logic.{⊎-elim}
@@ -8,31 +8,28 @@ use mathlib.Core.List.{List·Memᴰ·not-nil}
 use Prim.Native.Nat.{ℕ, _+_, _≤_, _<_}
 use native.Mathlib.Omega.{arith}
 use lib.ListN.{length, set, length-append}
-use lib.Seq.{getD-set-same, getD-set-other}
 use Rattle.common.specs.Part.{replaced}
 use Rattle.common.proofs.Part.{replaced-more}
 use Rattle.common.proofs.Tests.{clash, by-cases}
 use Rattle.common.proofs.Below.{count-le, count-some}
-use Rattle.frame.specs.RoundTrip.{IsMessage}
-use Rattle.journal.specs.Journal.{journalLength, blank, recordOf, frameOf}
-use Rattle.journal.proofs.Records.{logged-as-sent}
+use Rattle.journal.specs.Journal.{journalLength, recordOf}
 use Rattle.rules.specs.declared.state.Status.the-variants.{Asked}
-use Rattle.rules.specs.State.{isAsked, askedAs, trainOf, holdersOf, nextMove, withStatus, withTrain, withPossession}
+use Rattle.rules.specs.State.{isAsked, trainOf, holdersOf, nextMove, withStatus, withTrain, withPossession}
 use Rattle.rules.specs.State.{oneLogged}
 use Rattle.rules.specs.Valid.{mostGiven}
-use Rattle.rules.specs.Granting.{grantable, Work, begun, sends, granted, settled, granting, grantRecord}
-use Rattle.rules.specs.Answer.{mostLogged, taken, declined, accepted}
-use Rattle.rules.proofs.Changes.{grantable-facts}
+use Rattle.rules.specs.Granting.{Work, begun, sends, granted, settled, granting}
+use Rattle.rules.specs.Answer.{mostLogged, taken, declined, anew}
+use Rattle.rules.proofs.Trains.{free-idle}
 use Rattle.rules.proofs.Grants.{askedCount, Turn, grants-keep, granted-fewer}
 use Rattle.rules.proofs.Settling.{settled-settles}
-use Rattle.rules.proofs.Acceptance.{Section, Taken, request, arrival, lending, return}
+use Rattle.rules.proofs.Acceptance.{RoomLeft, Section, Taken, request, arrival, lending, return}
 use Rattle.assurance.specs.Types.{Line, Move, Message, Fa, Fe, Afe, Am, La, Le, Lb, Record, State}
 use Rattle.assurance.specs.Observer.{Observer, noteFrame, noteAnswer, noteAnswers}
 use Rattle.assurance.specs.WholeList.{Requested, isFeOf}
 use Rattle.assurance.proofs.Invariant.{Invariant}
 use Rattle.assurance.proofs.Logging.{replaced-one, later-set, requested-later, heard-more}
-use Rattle.assurance.proofs.Steps.{own-authority, NoFe, request-kept, arrival-kept, grant-kept, logged-kept}
-use Rattle.assurance.proofs.Steps.{lent-kept, return-kept}
+use Rattle.assurance.proofs.Steps.{own-authority, NoFe, grant-requested, grant-kept, request-kept, arrival-kept}
+use Rattle.assurance.proofs.Steps.{logged-kept, lent-kept, return-kept}
 
 -- room in the journal for a record of each Asked train
 abbrev pub Room : Work → Type 0
@@ -43,28 +40,6 @@ pub record Worked (table : List ℕ) (n : ℕ) (j : List Record) (o : Observer) 
   pub counted : w .state .logged ≡ n + length (w .logged)
   pub kept : Invariant table (w .state) (replaced j n (w .logged)) (noteAnswers o (w .sent))
   pub requested : (m : Move) → List·Memᴰ (Fe m) (w .sent) → Requested (w .state .logged) (replaced j n (w .logged)) m
-
--- the FE of a grant has its request
-grant-requested : (table : List ℕ) (s : State) (j : List Record) (o : Observer) → Invariant table s j o
-    → (t : ℕ) → t < s .trains → s .logged < journalLength → grantable table s t ≡ true
-    → Requested (s .logged + 1) (set j (s .logged) (grantRecord s t)) (nextMove s t)
-unfolding IsMessage
-grant-requested table s j o inv t known space e =
-    let m = nextMove s t in
-    let number = askedAs (trainOf s t .status) in
-    let asks = grantable-facts table s t e .asks in
-    let lower : number < s .logged = inv .valid-state .each t known .numbered asks in
-    record {
-      granted = s .logged;
-      below = omega arith;
-      authority = ap frameOf (getD-set-same j (s .logged) (grantRecord s t) blank (omega (arith, inv .room)))
-          ∙ sym (logged-as-sent (Fe m) tt);
-      requested = number;
-      lower = lower;
-      request = ap frameOf (getD-set-other j (s .logged) number (grantRecord s t) blank (λ z. omega arith)
-          ∙ inv .each t known .request asks)
-          ∙ sym (logged-as-sent (Fa m) tt);
-    }
 
 -- a message whose record gives no authority is no FE
 pub not-fe : (a : Message) → NoFe a → (m : Move) → Fe m ≡ a → ⊥
@@ -161,24 +136,24 @@ module _ (table : List ℕ) (n : ℕ) (j : List Record) (o : Observer) (long : j
       (λ r z. absurd (not-fe (Le m) (λ u. refl) r z))
 
 pub accepted-worked : (table : List ℕ) (s : State) (j : List Record) (o : Observer) → Invariant table s j o
-    → (a : Message) → Taken s a
-    → Worked table (s .logged) j (noteFrame o a) (accepted table s a)
-unfolding accepted
-accepted-worked table s j o inv a (request m q free idle) =
+    → RoomLeft s → (a : Message) → Taken s a
+    → Worked table (s .logged) j (noteFrame o a) (anew table s a)
+unfolding anew
+accepted-worked table s j o inv room a (request m q free) =
     let w = taken s (Fa m) (withStatus (trainOf s (m .train .0)) (Asked (s .logged))) in
     let k = settled-worked table (s .logged) j (noteFrame o (Fa m)) (inv .room) w
-    (begun-worked table (s .logged) j (noteFrame o (Fa m)) (inv .room) _ _ refl (q .space)
-    (request-kept table s j o inv m q idle)) in
+    (begun-worked table (s .logged) j (noteFrame o (Fa m)) (inv .room) _ _ refl room
+    (request-kept table s j o inv m q room (free-idle (trainOf s (m .train .0) .status) free))) in
     let known : m .train .0 < settled table w .state .trains =
     rw (ap (λ (l : Line). l .trains) (settled-settles table w .line)) (q .known) in
     declined-worked table (s .logged) j (noteFrame o (Fa m)) (inv .room) m (settled table w) known k
-accepted-worked table s j o inv a (arrival m q runs) =
+accepted-worked table s j o inv room a (arrival m q runs) =
     settled-worked table (s .logged) j (noteFrame o (Am m)) (inv .room) _
-    (begun-worked table (s .logged) j (noteFrame o (Am m)) (inv .room) _ _ refl (q .space)
-    (arrival-kept table s j o inv m q runs)) .0
-accepted-worked table s j o inv a (lending m q free few) =
-    lent-worked table (s .logged) j o (inv .room) s m refl (q .space) inv q free few
-accepted-worked table s j o inv a (return m q held) =
+    (begun-worked table (s .logged) j (noteFrame o (Am m)) (inv .room) _ _ refl room
+    (arrival-kept table s j o inv m q room runs)) .0
+accepted-worked table s j o inv room a (lending m q free few) =
+    lent-worked table (s .logged) j o (inv .room) s m refl room inv q free few
+accepted-worked table s j o inv room a (return m q held) =
     settled-worked table (s .logged) j (noteFrame o (Lb m)) (inv .room) _
-    (begun-worked table (s .logged) j (noteFrame o (Lb m)) (inv .room) _ _ refl (q .space)
-    (return-kept table s j o inv m (q .on) (omega (arith, q .space)) held)) .0
+    (begun-worked table (s .logged) j (noteFrame o (Lb m)) (inv .room) _ _ refl room
+    (return-kept table s j o inv m (q .on) (omega (arith, room)) held)) .0

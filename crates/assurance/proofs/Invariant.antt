@@ -2,7 +2,7 @@
 -- train's record, and of the sections that gangs have.
 use mathlib.Core.Path.{_≡_, refl, sym, ap, subst, _∙_}
 use mathlib.Core.Logic.{_≢_}
-use mathlib.Core.Bool.{Bool, true, false}
+use mathlib.Core.Bool.{Bool, true, false, false≢true}
 use mathlib.Core.List.{List}
 use Prim.Native.Nat.{ℕ, _+_, _≤_, _<_}
 use native.Mathlib.Omega.{arith}
@@ -23,18 +23,30 @@ use Rattle.completion.proofs.Agreement.{completable-cong}
 use Rattle.rules.specs.declared.state.Status.{Status}
 use Rattle.rules.specs.declared.state.Status.the-variants.{Free, Asked, Running}
 use Rattle.rules.specs.declared.state.Train.{Train}
-use Rattle.rules.specs.State.{isAsked, askedAs, nextOf, reachedBy, trainOf, lineOf, possessed, reached, stateWith}
+use Rattle.rules.specs.State.{isAsked, isRunning, askedAs, nextOf, reachedBy, trainOf, lineOf, possessed, reached}
+use Rattle.rules.specs.State.{stateWith}
 use Rattle.rules.proofs.Trains.{changed, changed-own, changed-other, changed-each, changed-line}
 use Rattle.rules.proofs.Validity.{Consistent}
 use Rattle.assurance.specs.Types.{Line, Message, Fa, Fe, Afe, Am, La, Le, Lb, Refused, Record, State}
 use Rattle.assurance.specs.Observer.{Claim, nothing, asked, authority, Seen, Observer}
-use Rattle.assurance.specs.WholeList.{isFeOf}
+use Rattle.assurance.specs.WholeList.{Requested, isFeOf}
+use Rattle.assurance.proofs.Logging.{later-set, requested-later}
 
 -- what the observer has of a train, by its record
 abbrev pub claimOf : Status → ℕ → ℕ → Claim
 claimOf Free p q = nothing
 claimOf (Asked n) p q = asked
 claimOf (Running k) p q = authority p q
+
+pub asked-claim : (w : Status) (p q : ℕ) → isAsked w ≡ true → claimOf w p q ≡ asked
+asked-claim Free p q e = absurd (false≢true e)
+asked-claim (Asked n) p q e = refl
+asked-claim (Running k) p q e = absurd (false≢true e)
+
+pub running-claim : (w : Status) (p q : ℕ) → isRunning w ≡ true → claimOf w p q ≡ authority p q
+running-claim Free p q e = absurd (false≢true e)
+running-claim (Asked n) p q e = absurd (false≢true e)
+running-claim (Running k) p q e = refl
 
 abbrev pub seenOf : Train → Seen
 seenOf x = record { post = x .at .0; claim = claimOf (x .status) (x .at .0) (nextOf x) }
@@ -50,6 +62,8 @@ pub record Agrees (n : ℕ) (j : List Record) (y : Seen) (t : ℕ) (x : Train) :
   pub request : isAsked (x .status) ≡ true
       → recordAt j (askedAs (x .status)) ≡ recordOf (Fa (moveOf t (x .at .0) (nextOf x)))
   pub authorities : given n j t ≡ reachedBy x
+  -- 02, card 6: a Running train's FE is there, with its request, so that it can be sent again
+  pub granted : isRunning (x .status) ≡ true → Requested n j (moveOf t (x .at .0) (nextOf x))
 
 -- the table's bits are those of the line's completable configurations
 pub record Right (l : Line) (table : List ℕ) : Type 0 where
@@ -104,6 +118,7 @@ still-agrees table s j o inv r space u k plain y same =
           ∙ v .request q;
       authorities = given-more (s .logged) j r u (omega (arith, inv .room))
           ∙ rw (plain, v .authorities) (omega arith);
+      granted = λ q. requested-later (later-set (s .logged) j r) (v .granted q);
     }
 
 -- ---- one train's change

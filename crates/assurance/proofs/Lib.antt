@@ -1,8 +1,8 @@
 -- The whole list of frames: what ties state, journal and observer together, that every frame keeps it, and that it says
 -- what is claimed.
+pub mod Logging
 pub mod Invariant
 pub mod Standstill
-pub mod Logging
 pub mod Steps
 pub mod Accept
 pub mod Records

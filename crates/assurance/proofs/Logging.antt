@@ -12,8 +12,9 @@ use Rattle.common.specs.Part.{replaced}
 use Rattle.common.proofs.Part.{replaced-none, replaced-more}
 use Rattle.frame.specs.Frame.{readFrame}
 use Rattle.journal.specs.Journal.{blank, frameOf, recordAt}
-use Rattle.rules.specs.Answer.{accepted, answered}
-use Rattle.rules.proofs.Acceptance.{Passed, accepted-facts, taken-space}
+use Rattle.rules.specs.Answer.{anew, answered}
+use Rattle.rules.specs.Repeats.{toldAgain}
+use Rattle.rules.proofs.Acceptance.{RoomLeft, Taken, Passed, accepted-facts}
 use Rattle.assurance.specs.Types.{Move, Message, Record, State}
 use Rattle.assurance.specs.Run.{newRecords}
 use Rattle.assurance.specs.Observer.{Observer, noteAnswer, noteAnswers}
@@ -49,16 +50,24 @@ replaced-part j n b h =
     ∙ ap (take (length b)) (drop-at (take n j) (b ++ rest) n (length-take-le n j h))
     ∙ take-at b rest (length b) refl
 
--- those that an accepted frame adds
+-- those that a new frame adds
 pub new-logged : (table : List ℕ) (s : State) (j : List Record) (frame out : List ℕ) → Passed s table j frame out
-    → let w = accepted table s (readFrame frame) in newRecords s (answered (s .logged) j out w) ≡ w .logged
-new-logged table s j frame out p =
-    let w = accepted table s (readFrame frame) in
-    let facts = accepted-facts table s (p .valid-state) (readFrame frame) (p .message) in
+    → Taken s (readFrame frame) → RoomLeft s
+    → let w = anew table s (readFrame frame) in newRecords s (answered (s .logged) j out w) ≡ w .logged
+new-logged table s j frame out p t room =
+    let w = anew table s (readFrame frame) in
+    let facts = accepted-facts table s (p .valid-state) (readFrame frame) t in
     let size : w .state .logged - s .logged ≡ length (w .logged) = omega (arith, facts .counted) in
     rw size
     (replaced-part j (s .logged) (w .logged)
-    (omega (arith, p .long-journal, taken-space s (readFrame frame) (p .message))))
+    (omega (arith, p .long-journal)))
+
+-- a repeat adds none
+pub none-logged : (s : State) (j : List Record) (out : List ℕ) (answers : List Message)
+    → newRecords s (toldAgain s j out answers) ≡ []
+none-logged s j out answers =
+    let none : s .logged - s .logged ≡ 0 = omega arith in
+    rw none
 
 -- a later journal: the records below the count n are the same
 pub record Later (n : ℕ) (j : List Record) (n′ : ℕ) (j′ : List Record) : Type 0 where

@@ -7,7 +7,7 @@ use Prim.Native.Nat.{ℕ, _+_, _≤_, _<_}
 use native.Mathlib.Omega.{arith}
 use lib.Dec.{leb, ltb}
 use lib.ListN.{length, getD, replicate, getD-replicate, List·getD-eq-default}
-use borrow.Author.Tests.{leb-true}
+use borrow.Author.Tests.{leb-true, eq-eqb}
 use Rattle.common.specs.Below.{countBelow}
 use Rattle.common.specs.Check.{refusal}
 use Rattle.common.specs.Tabulate.{valuesFrom, padded}
@@ -113,6 +113,7 @@ module _ (l : Line) (table : List ℕ) (journal : List Record) (a : Accepted l t
       inside = start-between _ _;
       busy = λ q. absurd (true≢false q);
       numbered = λ q. absurd (false≢true q);
+      finished = rw (eq-eqb (routeOf l t .start .0) _ refl);
     });
     sections = λ i k.
         let holds : ℕ → Bool = λ t. holdsSection (located (openedState l) t) i in
@@ -146,7 +147,12 @@ module _ (l : Line) (table : List ℕ) (journal : List Record) (a : Accepted l t
     right = subst (λ (z : Line). Right z (filled l table)) (sym same) right;
     room = a .room;
     each = λ t k.
-        rw (fresh-train t k) (record { seen = refl; request = λ q. absurd (false≢true q); authorities = omega arith });
+        rw (fresh-train t k) (record {
+          seen = refl;
+          request = λ q. absurd (false≢true q);
+          authorities = omega arith;
+          granted = λ q. absurd (false≢true q);
+        });
     gangs = λ i. rw (opened-unlent i);
     seven = refl;
     completable = subst (λ (z : Line). Completable z (reached (openedState l))) (sym same)

@@ -1,7 +1,7 @@
 -- How many records there can be. Each post travelled takes at most four, FA, AFE, FE and AM, so that a train's record
 -- says how many it can have taken so far; a local run takes three, LA, LE and LB, of which the last is open while the
 -- gang has the section. The journal's count is at most their sum: at most 228, since six trains travel at most seven
--- posts each, and at most twenty local runs are given. Every accepted frame raises the sum. For any table.
+-- posts each, and at most twenty local runs are given. Every new frame raises the sum. For any table.
 use mathlib.Core.Path.{_≡_, refl, sym, ap}
 use mathlib.Core.Bool.{Bool, true, false, false≢true}
 use mathlib.Core.List.{List}
@@ -23,7 +23,7 @@ use Rattle.journal.specs.Journal.{recordOf}
 use Rattle.rules.specs.State.{isFree, isAsked, isRunning, trainOf, lineOf, possessed, withStatus, arrivedNext}
 use Rattle.rules.specs.State.{withPossession}
 use Rattle.rules.specs.Granting.{Work, begun, granted, settled, granting}
-use Rattle.rules.specs.Answer.{taken, declined, accepted}
+use Rattle.rules.specs.Answer.{taken, declined, anew}
 use Rattle.rules.proofs.Trains.{running-is, route-of, changed, changed-own, changed-other}
 use Rattle.rules.proofs.Validity.{Consistent}
 use Rattle.rules.proofs.Changes.{grantable-facts, short-place}
@@ -101,7 +101,7 @@ few-records s d =
         (λ e. omega (arith, free-none (x .status) e, travelled-within _ _ _ (d .each t k .inside)))
         (λ e. omega (arith, most-three (x .status), next-within _ _ _ (d .each t k .inside) (d .each t k .busy e)))
 
--- ---- an accepted frame
+-- ---- a new frame
 
 module _ (table : List ℕ) (e n : ℕ) where
   granted-bounded : (w : Work) (t : ℕ) → Bounded e n (w .state) → Turn table w t → Bounded e n (granted w t .state)
@@ -128,13 +128,13 @@ lent-change s i held n k =
     count-change (s .posts) (possessed s) (possessed (withPossession s i held n)) i k
     (λ u ku h. others-possessed s i held n u h)
 
--- every accepted frame keeps the count bounded, and raises the bound
+-- every new frame keeps the count bounded, and raises the bound
 pub accepted-bounded : (table : List ℕ) (s : State) → Consistent s → length (s .possessions) ≡ 7
-    → (a : Message) → Taken s a → (n : ℕ) → Bounded 0 n s → Bounded 0 (n + 1) (accepted table s a .state)
-unfolding accepted
-accepted-bounded table s d seven a (request m q free idle) n b =
+    → (a : Message) → Taken s a → (n : ℕ) → Bounded 0 n s → Bounded 0 (n + 1) (anew table s a .state)
+unfolding anew
+accepted-bounded table s d seven a (request m q free) n b =
     let t = m .train .0 in
-    let none = free-none (trainOf s t .status) (neither (trainOf s t .status) free idle) in
+    let none = free-none (trainOf s t .status) free in
     let c =
     changed-sum recordsOf s t (withStatus (trainOf s t) (Asked (s .logged))) (s .logged + 1) (q .known)
     (short-place s t (q .short)) in

@@ -1,37 +1,45 @@
 -- A request, an arrival and a grant keep the invariant, each a change of one train's record with one record logged; so
 -- do an AFE and an LA, which are logged alone, and a section lent or given back.
 use mathlib.Core.Path.{_≡_, refl, sym, ap, _∙_}
-use mathlib.Core.Bool.{true, false, false≢true}
+use mathlib.Core.Logic.{_≢_}
+use mathlib.Core.Bool.{true, false, and-false, false≢true}
 use mathlib.Core.List.{List}
 use Prim.Native.Nat.{ℕ, _+_, _<_}
 use native.Mathlib.Omega.{arith}
+use lib.Dec.{eqb}
 use lib.ListN.{length, set, length-set}
-use lib.Seq.{getD-set-same}
-use borrow.Author.Tests.{eq-eqb}
+use lib.Seq.{getD-set-same, getD-set-other}
+use borrow.Author.Tests.{eq-eqb, ne-eqb}
 use Rattle.common.specs.Below.{ofBool}
 use Rattle.common.specs.Update.{update}
 use Rattle.common.proofs.Tests.{by-equality}
 use Rattle.common.proofs.Update.{update-own, update-other}
-use Rattle.journal.specs.Journal.{journalLength, blank, recordOf}
-use Rattle.line.proofs.Travel.{next-travelled}
+use Rattle.frame.specs.RoundTrip.{IsMessage}
+use Rattle.journal.specs.Journal.{journalLength, blank, recordOf, frameOf}
+use Rattle.journal.proofs.Records.{logged-as-sent}
+use Rattle.line.proofs.Travel.{next-travelled, next-other}
 use Rattle.completion.specs.Configuration.{Completable, moved}
 use Rattle.completion.proofs.Agreement.{completable-cong}
-use Rattle.rules.specs.declared.state.Status.the-variants.{Asked}
+use Rattle.rules.specs.declared.state.Status.{Status}
+use Rattle.rules.specs.declared.state.Status.the-variants.{Free, Asked, Running}
 use Rattle.rules.specs.declared.state.Train.{Train}
-use Rattle.rules.specs.State.{isAsked, isRunning, nextOf, reachedBy, trainOf, lineOf, possessed, holdersOf, reached}
-use Rattle.rules.specs.State.{nextMove, withStatus, arrivedNext, withTrain, withPossession, oneLogged}
+use Rattle.rules.specs.State.{isFree, isAsked, isRunning, askedAs, isLast, nextOf, reachedBy, trainOf, lineOf}
+use Rattle.rules.specs.State.{possessed, holdersOf, reached, nextMove, withStatus, arrivedNext, withTrain}
+use Rattle.rules.specs.State.{withPossession, oneLogged}
 use Rattle.rules.specs.Valid.{mostGiven}
 use Rattle.rules.specs.Granting.{grantable, granting, grantRecord}
 use Rattle.rules.proofs.Trains.{asked-idle, running-is, in-fleet}
 use Rattle.rules.proofs.Changes.{grantable-facts, short-place, valid-logged, valid-request, valid-arrival, valid-grant}
 use Rattle.rules.proofs.Possessions.{others-possessed, lent-possessed, back-unpossessed, valid-possession}
-use Rattle.rules.proofs.Acceptance.{NextMove}
+use Rattle.rules.proofs.Validity.{finished-move}
+use Rattle.rules.proofs.Acceptance.{RoomLeft, NextMove}
 use Rattle.rules.proofs.Reached.{moved-within}
 use Rattle.assurance.specs.Types.{Move, Message, Fa, Fe, Am, Le, Lb, Record, State}
 use Rattle.assurance.specs.Observer.{Claim, nothing, asked, authority, Seen, Observer, isFor, noteFrame}
 use Rattle.assurance.specs.Observer.{withSeen, noteAnswer}
-use Rattle.assurance.specs.WholeList.{isFeOf}
-use Rattle.assurance.proofs.Invariant.{given, given-more, other-train, Invariant, changed-kept, record-kept}
+use Rattle.assurance.specs.WholeList.{Requested, isFeOf}
+use Rattle.assurance.proofs.Invariant.{claimOf, given, given-more, other-train, Invariant, changed-kept}
+use Rattle.assurance.proofs.Invariant.{record-kept}
 
 -- the record of an FE is one of its train's
 pub own-authority : (m : Move) → isFeOf (m .train .0) (recordOf (Fe m)) ≡ true
@@ -50,6 +58,27 @@ seenWith p c = record { post = p; claim = c }
 module _ (table : List ℕ) (s : State) (j : List Record) (o : Observer) (inv : Invariant table s j o) (t : ℕ)
     (known : t < s .trains)
     (space : s .logged < journalLength) where
+  -- the FE of a grant has its request
+  pub grant-requested : grantable table s t ≡ true
+      → Requested (s .logged + 1) (set j (s .logged) (grantRecord s t)) (nextMove s t)
+  unfolding IsMessage
+  grant-requested e =
+      let m = nextMove s t in
+      let number = askedAs (trainOf s t .status) in
+      let asks = grantable-facts table s t e .asks in
+      let lower : number < s .logged = inv .valid-state .each t known .numbered asks in
+      record {
+        granted = s .logged;
+        below = omega arith;
+        authority = ap frameOf (getD-set-same j (s .logged) (grantRecord s t) blank (omega (arith, inv .room)))
+            ∙ sym (logged-as-sent (Fe m) tt);
+        requested = number;
+        lower = lower;
+        request = ap frameOf (getD-set-other j (s .logged) number (grantRecord s t) blank (λ z. omega arith)
+            ∙ inv .each t known .request asks)
+            ∙ sym (logged-as-sent (Fa m) tt);
+      }
+
   pub grant-kept : grantable table s t ≡ true
       → Invariant table (oneLogged (withTrain s t (granting s t))) (set j (s .logged) (grantRecord s t))
       (noteAnswer o (Fe (nextMove s t)))
@@ -69,6 +98,7 @@ module _ (table : List ℕ) (s : State) (j : List Record) (o : Observer) (inv : 
         request = λ q. absurd (false≢true q);
         authorities = given-more (s .logged) j (grantRecord s t) t (omega (arith, inv .room))
             ∙ rw (own-authority (nextMove s t), inv .each t known .authorities, idle) (omega arith);
+        granted = λ q. grant-requested e;
       })
       (rw further (inv .right .sound (moved (reached s) t) (moved-within s d t known (g .asks)) (g .bit)))
 
@@ -90,9 +120,38 @@ module _ (table : List ℕ) (s : State) (j : List Record) (o : Observer) (inv : 
       → given (s .logged + 1) (set j (s .logged) (recordOf a)) t ≡ given (s .logged) j t
   same-given a t e space = given-more (s .logged) j (recordOf a) t (journal-room space) ∙ rw e (omega arith)
 
-  module _ (m : Move) (n : NextMove s m) where
+  -- a new AM is for its train's authority
+  pub authorised : (m : Move) → NextMove s m → isRunning (trainOf s (m .train .0) .status) ≡ true
+      → isFor (o .train (m .train .0) .claim) (m .from .0) (m .to .0) ≡ true
+  authorised m n runs = rw (
+    inv .each (m .train .0) (n .known) .seen,
+    running-is (trainOf s (m .train .0) .status) runs .1,
+    n .to,
+    n .from,
+    eq-eqb (trainOf s (m .train .0) .at .0) _ refl,
+    eq-eqb (nextOf (trainOf s (m .train .0))) _ refl,
+  )
+
+  -- an AM of the last finished move is for no authority: one is for the way on from the present post
+  pub finished-unauthorised : (m : Move) → m .train .0 < s .trains
+      → isLast (trainOf s (m .train .0) .last) (m .from .0) (m .to .0) ≡ true
+      → isFor (o .train (m .train .0) .claim) (m .from .0) (m .to .0) ≡ false
+  finished-unauthorised m known finished =
+      let x = trainOf s (m .train .0) in
+      let v = inv .valid-state .each (m .train .0) known in
+      let here = finished-move x (v .finished) _ _ finished .2 in
+      rw (inv .each (m .train .0) known .seen)
+      (elsewhere (x .status) (x .at .0) (nextOf x) (λ busy z. next-other _ _ _ (v .inside) (v .busy busy) (z ∙ here)))
+    where
+      elsewhere : (w : Status) (p q : ℕ) → (isFree w ≡ false → q ≢ m .to .0)
+          → isFor (claimOf w p q) (m .from .0) (m .to .0) ≡ false
+      elsewhere Free p q h = refl
+      elsewhere (Asked k) p q h = refl
+      elsewhere (Running k) p q h = rw (ne-eqb q (m .to .0) (h refl)) (and-false (eqb p (m .from .0)))
+
+  module _ (m : Move) (n : NextMove s m) (room : RoomLeft s) where
     space : s .logged < journalLength
-    space = omega (arith, n .space)
+    space = omega (arith, room)
 
     place : m .train .0 < length (s .fleet)
     place = short-place s (m .train .0) (n .short)
@@ -113,20 +172,9 @@ module _ (table : List ℕ) (s : State) (j : List Record) (o : Observer) (inv : 
           request = λ q.
               getD-set-same j (s .logged) (recordOf (Fa m)) blank (journal-room space) ∙ rw (← n .to, ← n .from);
           authorities = same-given (Fa m) t refl space ∙ inv .each t (n .known) .authorities ∙ rw idle;
+          granted = λ q. absurd (false≢true q);
         })
         (stays t x (rw idle))
-
-    -- an AM that is taken is for its train's authority
-    pub authorised : isRunning (trainOf s (m .train .0) .status) ≡ true
-        → isFor (o .train (m .train .0) .claim) (m .from .0) (m .to .0) ≡ true
-    authorised runs = rw (
-      inv .each (m .train .0) (n .known) .seen,
-      running-is (trainOf s (m .train .0) .status) runs .1,
-      n .to,
-      n .from,
-      eq-eqb (trainOf s (m .train .0) .at .0) _ refl,
-      eq-eqb (nextOf (trainOf s (m .train .0))) _ refl,
-    )
 
     pub arrival-kept : isRunning (trainOf s (m .train .0) .status) ≡ true
         → let x = arrivedNext (s .sidings) (trainOf s (m .train .0)) in
@@ -140,7 +188,7 @@ module _ (table : List ℕ) (s : State) (j : List Record) (o : Observer) (inv : 
         let further : reachedBy x ≡ reached s t =
         rw runs (omega (arith, next-travelled _ _ _ (inv .valid-state .each t (n .known) .inside) (n .short))) in
         let arrived : Observer = withSeen o t (seenWith (m .to .0) nothing) in
-        let heard : noteFrame o (Am m) ≡ arrived = rw (authorised runs) in
+        let heard : noteFrame o (Am m) ≡ arrived = rw (authorised m n runs) in
         rw heard (changed-kept table s j o arrived t (recordOf (Am m)) x inv (other-train (Am m)) space
         (λ u h. update-other (o .train) t _ u h) (λ i. refl) place refl
         (valid-arrival s (inv .valid-state) t (n .known) (n .short) runs)
@@ -148,6 +196,7 @@ module _ (table : List ℕ) (s : State) (j : List Record) (o : Observer) (inv : 
           seen = update-own (o .train) t _ ∙ rw (n .to);
           request = λ q. absurd (false≢true q);
           authorities = same-given (Am m) t refl space ∙ v .authorities ∙ sym further;
+          granted = λ q. absurd (false≢true q);
         })
         (stays t x further))
 

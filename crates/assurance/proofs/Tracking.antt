@@ -17,19 +17,20 @@ use Rattle.rules.specs.declared.state.Status.the-variants.{Asked}
 use Rattle.rules.specs.State.{isAsked, isRunning, nextOf, trackAhead, trainOf, lineOf, freeTrack, withStatus}
 use Rattle.rules.specs.State.{arrivedNext, withPossession}
 use Rattle.rules.specs.Granting.{Work, begun, granted, settled, granting, grantRecord}
-use Rattle.rules.specs.Answer.{taken, declined, accepted, answer}
-use Rattle.rules.proofs.Trains.{idle-ahead, route-of, changed, changed-each}
+use Rattle.rules.specs.Answer.{taken, declined, anew, answer}
+use Rattle.rules.proofs.Trains.{free-idle, idle-ahead, route-of, changed, changed-each}
 use Rattle.rules.proofs.Changes.{short-place}
 use Rattle.rules.proofs.Grants.{Turn, grants-keep, granted-place}
-use Rattle.rules.proofs.Acceptance.{NextMove, Taken, request, arrival, lending, return, by-verdict}
+use Rattle.rules.proofs.Acceptance.{NextMove, Taken, request, arrival, lending, return, Repeats, declined-before}
+use Rattle.rules.proofs.Acceptance.{granted-before, arrived-before, by-verdict}
 use Rattle.assurance.specs.Types.{Line, Move, Message, Fa, Afe, Am, Lb, Record, State}
 use Rattle.assurance.specs.Run.{Input, newRecords, run}
 use Rattle.assurance.specs.Observer.{Observer, isFor, noteBy}
 use Rattle.assurance.specs.Tracks.{TracksTold, Tracks, trackFrame, trackRecord, trackRecords, trackBy}
 use Rattle.assurance.specs.Tracks.{observeTracks}
 use Rattle.assurance.proofs.Invariant.{Invariant}
-use Rattle.assurance.proofs.Logging.{new-logged}
-use Rattle.assurance.proofs.Steps.{authorised}
+use Rattle.assurance.proofs.Logging.{new-logged, none-logged}
+use Rattle.assurance.proofs.Steps.{authorised, finished-unauthorised}
 use Rattle.assurance.proofs.Exchanged.{Settled, answer-kept}
 
 -- what is told of a train, by its record
@@ -117,11 +118,12 @@ module _ (s : State) (k : Tracks) (h : TracksAgree s k) (m : Move) (n : NextMove
 accepted-tells : (table : List ℕ) (s : State) (o : Observer) (k : Tracks) → TracksAgree s k → (a : Message) → Taken s a
     → ((m : Move) → NextMove s m → isRunning (trainOf s (m .train .0) .status) ≡ true
     → isFor (o .train (m .train .0) .claim) (m .from .0) (m .to .0) ≡ true)
-    → Tells table (trackFrame (lineOf s) o k a) (accepted table s a)
-unfolding accepted recordOf trackRecords
-accepted-tells table s o k h a (request m n free idle) authority =
+    → Tells table (trackFrame (lineOf s) o k a) (anew table s a)
+unfolding anew recordOf trackRecords
+accepted-tells table s o k h a (request m n free) authority =
     let w = taken s (Fa m) (withStatus (trainOf s (m .train .0)) (Asked (s .logged))) in
-    declined-tells table k m (settled table w) (settled-tells table k w (asked-tells s k h m n table idle))
+    declined-tells table k m (settled table w) (settled-tells table k w
+    (asked-tells s k h m n table (free-idle (trainOf s (m .train .0) .status) free)))
 accepted-tells table s o k h a (arrival m n runs) authority =
     settled-tells table _ (taken s (Am m) (arrivedNext (s .sidings) (trainOf s (m .train .0))))
     (arrived-tells s k h m n table o (authority m n runs))
@@ -134,13 +136,23 @@ accepted-tells table s o k h a (return m n held) authority =
 
 module _ (table : List ℕ) (s : State) (j : List Record) (o : Observer) (inv : Invariant table s j o)
     (k : Tracks) (h : TracksAgree s k) (frame out : List ℕ) where
+  -- a repeat tells nothing new
+  again-tells : (a : Message) (answers : List Message) → Repeats s a answers
+      → TracksAgree s (trackRecords (trackFrame (lineOf s) o k a) [])
+  unfolding trackRecords
+  again-tells a answers (declined-before m n asks) = h
+  again-tells a answers (granted-before m n runs) = h
+  again-tells a answers (arrived-before m known finished) =
+      rw (finished-unauthorised table s j o inv m known finished) h
+
   answer-tells : let a = answer s table j frame out in
       TracksAgree (a .state) (trackBy (lineOf s) o k frame (a .verdict) (newRecords s a))
   answer-tells = by-verdict s table j frame out
       (λ a. TracksAgree (a .state) (trackBy (lineOf s) o k frame (a .verdict) (newRecords s a)))
       (λ n e. h)
-      (λ p. rw (new-logged table s j frame out p)
-      (accepted-tells table s o k h (readFrame frame) (p .message) (authorised table s j o inv)))
+      (λ p answers r. rw (none-logged s j out answers) (again-tells (readFrame frame) answers r))
+      (λ p t room. rw (new-logged table s j frame out p t room)
+      (accepted-tells table s o k h (readFrame frame) t (authorised table s j o inv)))
 
 pub run-tells : (table : List ℕ) (inputs : List Input) (s : State) (j : List Record) (o : Observer) (k : Tracks)
     → Settled table s j o → TracksAgree s k

@@ -22,8 +22,8 @@ use Rattle.driver.proofs.Validity.{validity}
 use Rattle.rules.specs.State.{lineOf}
 use Rattle.rules.specs.Answer.{Answer, answer}
 use Rattle.rules.specs.Opening.{Opening, openingWith}
-use Rattle.rules.proofs.Acceptance.{taken-space, by-verdict, refusal-leaves, accepted-facts}
-use Rattle.calls.specs.Types.{Button, Ask, Depart, Reached, Report, Unit, Pressed}
+use Rattle.rules.proofs.Acceptance.{by-verdict, refusal-leaves, accepted-facts}
+use Rattle.calls.specs.Types.{Button, Ask, Depart, Reached, Report, Again, Unit, Pressed}
 use Rattle.calls.specs.Types.{Line, Record, State, RefusedBy}
 use Rattle.calls.specs.Word.{wordOf, refusalIn}
 use Rattle.encoding.specs.UnitBytes.{unitLength, unitBytes, encodesUnit, unitIn, buttonOf}
@@ -60,9 +60,9 @@ opened-shaped book table n =
 module _ (s : State) (table : List ℕ) (journal : List Record) (frame out : List ℕ) where
   answer-shaped : Shaped s → Shaped (answer s table journal frame out .state)
   answer-shaped h =
-      by-verdict s table journal frame out (λ (a : Answer). Shaped (a .state)) (λ n e. h)
-      (λ p.
-      let k = accepted-facts table s (p .valid-state) (readFrame frame) (p .message) in
+      by-verdict s table journal frame out (λ (a : Answer). Shaped (a .state)) (λ n e. h) (λ p answers r. h)
+      (λ p t room.
+      let k = accepted-facts table s (p .valid-state) (readFrame frame) t in
       record {
         eight = ap (λ (l : Line). length (l .tracks)) (k .line) ∙ h .eight;
         six = k .size ∙ h .six;
@@ -73,16 +73,16 @@ module _ (s : State) (table : List ℕ) (journal : List Record) (frame out : Lis
   pub answer-line : lineOf (answer s table journal frame out .state) ≡ lineOf s
   answer-line =
       by-verdict s table journal frame out (λ (a : Answer). lineOf (a .state) ≡ lineOf s) (λ n e. refl)
-      (λ p. accepted-facts table s (p .valid-state) (readFrame frame) (p .message) .line)
+      (λ p answers r. refl) (λ p t room. accepted-facts table s (p .valid-state) (readFrame frame) t .line)
 
   -- ---- the journal
 
   pub answer-records : length (answer s table journal frame out .journal) ≡ length journal
   answer-records =
       by-verdict s table journal frame out (λ (a : Answer). length (a .journal) ≡ length journal) (λ n e. refl)
-      (λ p.
-      let k = accepted-facts table s (p .valid-state) (readFrame frame) (p .message) in
-      let room = taken-space s (readFrame frame) (p .message) in
+      (λ p answers r. refl)
+      (λ p t room.
+      let k = accepted-facts table s (p .valid-state) (readFrame frame) t in
       length-replaced journal (s .logged) _ (omega (arith, k .few, p .long-journal)))
 
 -- ---- the claims
@@ -149,6 +149,7 @@ no-refusal b f Ask = refl
 no-refusal b f Depart = refl
 no-refusal b f Reached = refl
 no-refusal b f Report = refl
+no-refusal b f Again = refl
 
 -- by the unit's outcome: a refusal leaves it, and what is carried out is no refusal
 pressed-unit : (b f : List ℕ) → encodesUnit b ≡ true → (x : Button) (p : Pressed) → outcomes.PressOutcome (unitIn b) x p

@@ -72,11 +72,11 @@ module _ (b : List ℕ) (k room : ℕ) where
       short h = sym (refusal-is (pass is (pass good (stop (lt-leb 7 room h)))))
 
       module _ (long : 7 ≤ room) where
-        pub no-button : 3 < k → notNow ≡ refusal (pressCallChecks b k room)
-        no-button h = sym (refusal-is (pass is (pass good (pass (le-leb 7 room long) (stop (lt-leb k 3 h))))))
+        pub no-button : 4 < k → notNow ≡ refusal (pressCallChecks b k room)
+        no-button h = sym (refusal-is (pass is (pass good (pass (le-leb 7 room long) (stop (lt-leb k 4 h))))))
 
-        pub asked : k ≤ 3 → 0 ≡ refusal (pressCallChecks b k room)
-        asked h = sym (refusal-is (pass is (pass good (pass (le-leb 7 room long) (pass (le-leb k 3 h) none)))))
+        pub asked : k ≤ 4 → 0 ≡ refusal (pressCallChecks b k room)
+        asked h = sym (refusal-is (pass is (pass good (pass (le-leb 7 room long) (pass (le-leb k 4 h) none)))))
 
 -- the press itself
 module _ (b : List ℕ) (k : ℕ) (f : List ℕ) where

@@ -41,7 +41,7 @@ pub record OpenCall : Type 0 where
 abbrev pub openCallOf : ℕ → List ℕ → List ℕ → OpenCall
 openCallOf answer state table = record { answer = answer; state = state; table = table }
 
--- a `state` buffer that is not 56 bytes is 1, nothing changed, before every other check. Else as 01. What `state`
+-- a `state` buffer that is not 74 bytes is 1, nothing changed, before every other check. Else as 01. What `state`
 -- held is not looked at. The journal is not written.
 unfoldable pub openCall : List ℕ → List ℕ → List ℕ → List ℕ → OpenCall
 openCall book state table journal =

@@ -1,6 +1,6 @@
 -- The declared types that the calls speak of, under one module.
 pub use Rattle.driver.specs.declared.state.Button.{Button}
-pub use Rattle.driver.specs.declared.state.Button.the-variants.{Ask, Depart, Reached, Report}
+pub use Rattle.driver.specs.declared.state.Button.the-variants.{Ask, Depart, Reached, Report, Again}
 pub use Rattle.driver.specs.declared.state.Unit.{Unit}
 pub use Rattle.driver.specs.declared.result.Made.{Made}
 pub use Rattle.driver.specs.declared.result.Heard.{Heard}

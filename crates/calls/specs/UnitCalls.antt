@@ -50,6 +50,10 @@ pub record PressCall : Type 0 where
 abbrev pub pressed : ℕ → List ℕ → List ℕ → PressCall
 pressed answer unit frame = record { answer = answer; unit = unit; frame = frame }
 
+-- the number of Again
+abbrev pub lastButton : ℕ
+lastButton = 4
+
 -- in order: encodes no unit 1; unit not valid 1; frame under 7 bytes 2; then 21, 8. A number that is no button's is 21.
 -- Of the lent frame only the length is looked at.
 abbrev pub pressCallChecks : List ℕ → ℕ → ℕ → List Check
@@ -57,7 +61,7 @@ pressCallChecks unit button room =
     check strangeState (encodesUnit unit)
     ∷ check strangeState (validUnit (unitIn unit))
     ∷ check shortStore (leb 7 room)
-    ∷ check notNow (leb button 3)
+    ∷ check notNow (leb button lastButton)
     ∷ []
 
 -- A press that gives a frame writes its seven bytes at the beginning of `frame`, else `frame` is untouched.

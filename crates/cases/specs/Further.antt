@@ -133,12 +133,13 @@ pub record Precedence : Type 0 where
       ∷ RefusedBy 6 ∷ RefusedBy 6 ∷ RefusedBy 7 ∷ RefusedBy 7
       ∷ RefusedBy 9 ∷ RefusedBy 9 ∷ RefusedBy 9 ∷ RefusedBy 12
       ∷ RefusedBy 3 ∷ RefusedBy 3 ∷ []
-  -- of a Running train, 9 before 11; of an Asked one, 9 before 10 and 12; at the end, 8 before 9 and 12
+  -- 02, card 6: "Refusals 10 and 11 go". Of a Running train, 9 before its FE again; of an Asked one, 9 before its AFE
+  -- again, and 12; at the end, 8 before 9 and 12, but for its last finished move
   pub later : verdictsOf (ran bookX (map bytesOf
       (fa 0 0 1 ∷ fa 0 1 2 ∷ fa 0 0 1 ∷ fa 1 2 1 ∷ am 0 0 1 ∷ fa 0 1 2 ∷ fa 0 0 1 ∷ fa 0 1 2 ∷ am 0 1 2
       ∷ am 1 2 1 ∷ am 0 1 2 ∷ fa 0 2 2 ∷ am 0 1 2 ∷ am 0 0 0 ∷ [])))
-      ≡ Sent 1 ∷ RefusedBy 9 ∷ RefusedBy 11 ∷ Sent 1 ∷ Sent 0 ∷ Sent 1 ∷ RefusedBy 9 ∷ RefusedBy 10 ∷ RefusedBy 12
-      ∷ Sent 1 ∷ Sent 0 ∷ RefusedBy 8 ∷ RefusedBy 8 ∷ RefusedBy 8 ∷ []
+      ≡ Sent 1 ∷ RefusedBy 9 ∷ Sent 1 ∷ Sent 1 ∷ Sent 0 ∷ Sent 1 ∷ RefusedBy 9 ∷ Sent 1 ∷ RefusedBy 12
+      ∷ Sent 1 ∷ Sent 0 ∷ RefusedBy 8 ∷ Sent 0 ∷ RefusedBy 8 ∷ []
   -- 13 with six records left and not with seven, and after 12
   pub full : verdictsOf (ranWithRecords 230 (map bytesOf (fa 0 0 1 ∷ am 0 0 1 ∷ []))) ≡ RefusedBy 13 ∷ RefusedBy 12 ∷ []
   pub room : verdictsOf (ranWithRecords 229 (bytesOf (fa 0 0 1) ∷ [])) ≡ Sent 1 ∷ []

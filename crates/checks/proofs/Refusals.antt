@@ -1,62 +1,54 @@
 -- The checks of a frame in the order in which the code makes them: which number is given where one fails.
-use mathlib.Core.Path.{_≡_, refl, sym, ap, _∙_}
+use mathlib.Core.Path.{_≡_, refl, sym, ap, subst, _∙_}
 use mathlib.Core.Logic.{_≢_}
-use mathlib.Core.Bool.{Bool, true, false, not, _&&_}
+use mathlib.Core.Bool.{Bool, true, false, not, _&&_, true≢false}
 use mathlib.Core.List.{List, [], _∷_, _++_}
 use Prim.Native.Nat.{ℕ, _+_, _≤_, _<_}
 use native.Mathlib.Omega.{arith}
 use lib.Dec.{leb}
-use borrow.Author.Tests.{lt-ltb, le-ltb, eq-eqb, ne-eqb, ltb-true}
+use borrow.Author.Tests.{lt-ltb, le-ltb, eq-eqb, ne-eqb}
 use Rattle.common.specs.Check.{Check, check, refusal}
 use Rattle.common.proofs.Check.{Refuses, none, stop, pass, refusal-is, numbered, passed-by, check-passes, check-fails}
 use Rattle.common.proofs.Check.{first-part, second-part, refuses-of, pass-all}
 use Rattle.line.specs.Route.{sectionOf}
 use Rattle.line.specs.Refusal.{strangeState, shortStore, wrongEnd, unknownTrain, atItsEnd, wrongPost}
-use Rattle.line.specs.Refusal.{alreadyAsked, underAuthority, noAuthority, journalFull}
-use Rattle.line.specs.Refusal.{sectionTaken, noLocalRun, twentyGiven}
+use Rattle.line.specs.Refusal.{noAuthority, journalFull, sectionTaken, noLocalRun, twentyGiven}
 use Rattle.frame.specs.Frame.{readChecks, readFrame}
 use Rattle.frame.specs.RoundTrip.{IsMessage}
 use Rattle.frame.proofs.Outcome.{read-passed, read-refused}
 use Rattle.journal.specs.Journal.{journalLength}
 use Rattle.completion.specs.Table.{tableLength}
-use Rattle.checks.specs.Types.{Move, Message, Fa, Fe, Afe, Am, La, Le, Lb, Refused, Status, Train, State}
-use Rattle.rules.specs.State.{atEnd, nextOf, isAsked, isRunning, trainOf, possessed, sectionFree}
+use Rattle.checks.specs.Types.{Move, Message, Fa, Fe, Afe, Am, La, Le, Lb, Refused, Status, Free, Asked, Running}
+use Rattle.checks.specs.Types.{Train, State}
+use Rattle.rules.specs.State.{isFree, isRunning, isLast, atEnd, nextOf, trainOf, possessed, sectionFree}
 use Rattle.rules.specs.Valid.{mostGiven, valid}
-use Rattle.rules.specs.Answer.{outLength, forBox, knows, moveChecks, hasRoom, gangByte, sectionChecks}
-use Rattle.rules.specs.Answer.{contentChecks, frameChecks}
-use Rattle.rules.proofs.Acceptance.{neighbours}
+use Rattle.rules.specs.Answer.{outLength, forBox, knows, moveChecks, hasRoom, requestChecks, arrivalChecks, gangByte}
+use Rattle.rules.specs.Answer.{sectionChecks, askedAgain, arrivedAgain, ofNew, contentChecks, frameChecks}
+use Rattle.rules.proofs.Acceptance.{neighbours, free-new}
 use Rattle.checks.specs.Messages.{messageRefusal}
 
 -- ---- the checks of a move
 
-module _ (s : State) (m : Move) where
-  pub no-train : s .trains ≤ m .train .0 → unknownTrain ≡ refusal (moveChecks s m)
-  no-train h = sym (refusal-is (stop (le-ltb _ _ h)))
+module _ (x : Train) (m : Move) where
+  pub train-ended : atEnd x ≡ true → atItsEnd ≡ refusal (moveChecks x m)
+  train-ended e = sym (refusal-is (stop (rw e)))
 
-  -- the train is known, and x is its record
-  module _ (known : m .train .0 < s .trains) (x : Train) (own : x ≡ trainOf s (m .train .0)) where
-    known-train : knows s m ≡ true
-    known-train = lt-ltb _ _ known
+  module _ (short : atEnd x ≡ false) where
+    onward : not (atEnd x) ≡ true
+    onward = rw short
 
-    pub train-ended : atEnd x ≡ true → atItsEnd ≡ refusal (moveChecks s m)
-    train-ended e = sym (refusal-is (pass known-train (stop (rw (← own, e)))))
+    pub other-from : m .from .0 ≢ x .at .0 → wrongPost ≡ refusal (moveChecks x m)
+    other-from h = sym (refusal-is (pass onward (stop (rw (ne-eqb _ _ h)))))
 
-    module _ (short : atEnd x ≡ false) where
-      onward : not (atEnd (trainOf s (m .train .0))) ≡ true
-      onward = rw (← own, short)
+    module _ (from : m .from .0 ≡ x .at .0) (q : ℕ) (next : q ≡ nextOf x) where
+      pub other-to : m .to .0 ≢ q → wrongPost ≡ refusal (moveChecks x m)
+      other-to h =
+          let other = ne-eqb (m .to .0) (nextOf x) (λ z. h (z ∙ sym next)) in
+          sym (refusal-is (pass onward (stop (rw (eq-eqb _ _ from, other)))))
 
-      pub other-from : m .from .0 ≢ x .at .0 → wrongPost ≡ refusal (moveChecks s m)
-      other-from h = sym (refusal-is (pass known-train (pass onward (stop (rw (← own, ne-eqb _ _ h))))))
-
-      module _ (from : m .from .0 ≡ x .at .0) (q : ℕ) (next : q ≡ nextOf x) where
-        pub other-to : m .to .0 ≢ q → wrongPost ≡ refusal (moveChecks s m)
-        other-to h =
-            let other = ne-eqb (m .to .0) (nextOf x) (λ z. h (z ∙ sym next)) in
-            sym (refusal-is (pass known-train (pass onward (stop (rw (← own, eq-eqb _ _ from, other))))))
-
-        pub move-passes : m .to .0 ≡ q → 0 ≡ refusal (moveChecks s m)
-        move-passes to = sym (refusal-is (pass known-train (pass onward
-            (pass (rw (← own, eq-eqb _ _ from, eq-eqb _ _ (to ∙ next))) none))))
+      pub move-passes : m .to .0 ≡ q → 0 ≡ refusal (moveChecks x m)
+      move-passes to =
+          sym (refusal-is (pass onward (pass (rw (eq-eqb _ _ from, eq-eqb _ _ (to ∙ next))) none)))
 
 -- ---- checks in two parts, of which the first gives n
 
@@ -67,47 +59,70 @@ module _ (first : List Check) (numbers : numbered first ≡ true) {n : ℕ} (num
   after-part : n ≡ 0 → {cs : List Check} {k : ℕ} → Refuses cs k → k ≡ refusal (first ++ cs)
   after-part zero r = sym (refusal-is (pass-all first numbers (sym number ∙ zero) r))
 
--- ---- the checks of what a train's message says: those of its move, and then cs
+-- ---- the checks of what a train's message says
 
--- n is what those of the move give
-pub record Moved (s : State) (m : Move) (n : ℕ) : Type 0 where
-  pub number : n ≡ refusal (moveChecks s m)
+module _ (s : State) (m : Move) where
+  pub no-train-asks : s .trains ≤ m .train .0 → unknownTrain ≡ refusal (contentChecks s (Fa m))
+  no-train-asks h = sym (refusal-is (stop (le-ltb _ _ h)))
 
-module _ {s : State} {m : Move} {n : ℕ} (x : Moved s m n) where
-  pub move-refuses : (cs : List Check) → n ≢ 0 → n ≡ refusal (moveChecks s m ++ cs)
-  move-refuses = part-refuses (moveChecks s m) refl (x .number)
+  pub no-train-arrives : s .trains ≤ m .train .0 → unknownTrain ≡ refusal (contentChecks s (Am m))
+  no-train-arrives h = sym (refusal-is (stop (le-ltb _ _ h)))
 
-  -- 7, 8 and 9 pass
-  module _ (zero : n ≡ 0) where
-    pub train-low : s .trains ≤ 6 → m .train .0 < 6
-    train-low few =
-        let known : knows s m ≡ true = passed-by (moveChecks s m) refl (sym (x .number) ∙ zero) unknownTrain in
-        omega (arith, few, ltb-true (m .train .0) (s .trains) known)
+  -- the train is known, and x is its record
+  module _ (known : m .train .0 < s .trains) (x : Train) (own : x ≡ trainOf s (m .train .0)) where
+    after-train : (f : Train → List Check) {k : ℕ} → Refuses (f x) k
+        → k ≡ refusal (check unknownTrain (knows s m) ∷ f (trainOf s (m .train .0)))
+    after-train f {k} r =
+        sym (refusal-is (pass (lt-ltb _ _ known) (subst (λ (y : Train). Refuses (f y) k) own r)))
 
-    after-move : {cs : List Check} {k : ℕ} → Refuses cs k → k ≡ refusal (moveChecks s m ++ cs)
-    after-move = after-part (moveChecks s m) refl (x .number) zero
+    -- of an FA 8 and 9, which give n, and then 13 where it repeats none
+    abbrev ofFa : Train → List Check
+    ofFa y = moveChecks y m ++ ofNew (askedAgain (y .status) m) (requestChecks s)
 
-  -- and w is the train's status
-  module _ (zero : n ≡ 0) {w : Status} (own : w ≡ trainOf s (m .train .0) .status) where
-    -- of an FA 10, 11 and 13 are left
-    pub already-asked : isAsked w ≡ true → alreadyAsked ≡ refusal (contentChecks s (Fa m))
-    already-asked e = after-move zero (stop (rw (← own, e)))
+    module _ (n : ℕ) (number : n ≡ refusal (moveChecks x m)) where
+      pub fa-refuses : n ≢ 0 → n ≡ refusal (contentChecks s (Fa m))
+      fa-refuses h = after-train ofFa (refuses-of _ (sym (part-refuses (moveChecks x m) refl number _ h)))
 
-    module _ (unasked : isAsked w ≡ false) where
-      pub under-authority : isRunning w ≡ true → underAuthority ≡ refusal (contentChecks s (Fa m))
-      under-authority e = after-move zero (pass (rw (← own, unasked)) (stop (rw (← own, e))))
+      module _ (zero : n ≡ 0) where
+        after-move : {cs : List Check} {k : ℕ} → Refuses cs k → Refuses (moveChecks x m ++ cs) k
+        after-move r = pass-all (moveChecks x m) refl (sym number ∙ zero) r
 
-      pub request-room : isRunning w ≡ false → {k : ℕ} → k ≡ refusal (check journalFull (hasRoom s) ∷ [])
-          → k ≡ refusal (contentChecks s (Fa m))
-      request-room e r = after-move zero (pass (rw (← own, unasked)) (pass (rw (← own, e)) (refuses-of _ (sym r))))
+        pub fa-again : isFree (x .status) ≡ false → 0 ≡ refusal (contentChecks s (Fa m))
+        fa-again e = after-train ofFa (after-move (asked-before (x .status) e))
+          where
+            asked-before : (w : Status) → isFree w ≡ false → Refuses (ofNew (askedAgain w m) (requestChecks s)) 0
+            asked-before Free z = absurd (true≢false z)
+            asked-before (Asked k) z = none
+            asked-before (Running k) z = none
 
-    -- of an AM 12 and 13 are left
-    pub no-authority : isRunning w ≡ false → noAuthority ≡ refusal (contentChecks s (Am m))
-    no-authority e = after-move zero (stop (rw (← own, e)))
+        pub fa-room : isFree (x .status) ≡ true → {k : ℕ} → k ≡ refusal (check journalFull (hasRoom s) ∷ [])
+            → k ≡ refusal (contentChecks s (Fa m))
+        fa-room e r = after-train ofFa (after-move (rw (free-new (x .status) m e) (refuses-of _ (sym r))))
 
-    pub arrival-room : isRunning w ≡ true → {k : ℕ} → k ≡ refusal (check journalFull (hasRoom s) ∷ [])
-        → k ≡ refusal (contentChecks s (Am m))
-    arrival-room e r = after-move zero (pass (rw (← own, e)) (refuses-of _ (sym r)))
+    -- of an AM, where it names no finished move, 8 and 9, then 12 and 13
+    abbrev ofAm : Train → List Check
+    ofAm y = ofNew (arrivedAgain (y .last) m) (moveChecks y m ++ arrivalChecks s y)
+
+    abbrev finished : Bool
+    finished = isLast (x .last) (m .from .0) (m .to .0)
+
+    pub am-again : finished ≡ true → 0 ≡ refusal (contentChecks s (Am m))
+    am-again e = after-train ofAm (rw e none)
+
+    module _ (other : finished ≡ false) (n : ℕ) (number : n ≡ refusal (moveChecks x m)) where
+      onward-am : {k : ℕ} → Refuses (moveChecks x m ++ arrivalChecks s x) k → k ≡ refusal (contentChecks s (Am m))
+      onward-am r = after-train ofAm (rw other r)
+
+      pub am-refuses : n ≢ 0 → n ≡ refusal (contentChecks s (Am m))
+      am-refuses h = onward-am (refuses-of _ (sym (part-refuses (moveChecks x m) refl number _ h)))
+
+      module _ (zero : n ≡ 0) where
+        pub no-authority : isRunning (x .status) ≡ false → noAuthority ≡ refusal (contentChecks s (Am m))
+        no-authority e = onward-am (after-move n number zero (stop e))
+
+        pub am-room : isRunning (x .status) ≡ true → {k : ℕ} → k ≡ refusal (check journalFull (hasRoom s) ∷ [])
+            → k ≡ refusal (contentChecks s (Am m))
+        am-room e r = onward-am (after-move n number zero (pass e (refuses-of _ (sym r))))
 
 -- ---- the checks of a section
 

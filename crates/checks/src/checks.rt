@@ -1,7 +1,7 @@
 // Whether a frame is refused, and by which number. 01: "Checks in order: 1, 2, 3, 4, 5, 6, 7, 8 (at
-// its end), 9, then 10 or 11 for FA, 12 for AM, then 13." 02, card 4, for LA and LB, after 6: 7, 9,
-// "then for LA 24, section taken, and 26, twenty already given; for LB 25, no local run there; then
-// 13."
+// its end), 9, then .. 12 for AM, then 13." 02, card 4, for LA and LB, after 6: 7, 9, "then for LA 24,
+// section taken, and 26, twenty already given; for LB 25, no local run there; then 13." Card 6: an FA
+// of a train that is not Free passes after 9, and an AM of the last finished move after 7.
 ghost use mathlib.Core.Path.{_≡_};
 ghost use mathlib.Core.Bool.{true, _&&_};
 ghost use mathlib.Core.List.{[], _∷_};
@@ -23,16 +23,17 @@ use journal::JOURNAL_LENGTH;
 use journal::MOST_SENT;
 use line::refusal;
 use rules::State;
+use rules::Train;
 use table::TABLE_LENGTH;
 use validity::MOST_GIVEN;
 use validity::at_end;
 use validity::holders_of;
-use validity::is_asked;
+use validity::is_free;
+use validity::is_last;
 use validity::is_running;
 use validity::next_post;
 use validity::possessed;
 use validity::section_free;
-use validity::status_of;
 use validity::train_of;
 use validity::valid;
 
@@ -87,16 +88,17 @@ fn request_refusal(state: State, m: Move) -> u8
     requires { ⌜ state .trains ≤ 6 ⌝ }
     ensures { λ r. ⌜ r ≡ refusal (contentChecks state (Fa m)) ⌝ }
 {
-    let number = move_refusal(state, m);
+    if state.trains <= m.train.0 {
+        return refusal::UNKNOWN_TRAIN;
+    }
+    let train = train_of(state, m.train);
+    let number = move_refusal(train, m);
     if number != 0 {
         return number;
     }
-    let status = status_of(state, m.train);
-    if is_asked(status) {
-        return refusal::ALREADY_ASKED;
-    }
-    if is_running(status) {
-        return refusal::UNDER_AUTHORITY;
+    let status = train.status;
+    if !is_free(status) {
+        return 0;
     }
     room_refusal(state)
 }
@@ -106,11 +108,20 @@ fn arrival_refusal(state: State, m: Move) -> u8
     requires { ⌜ state .trains ≤ 6 ⌝ }
     ensures { λ r. ⌜ r ≡ refusal (contentChecks state (Am m)) ⌝ }
 {
-    let number = move_refusal(state, m);
+    if state.trains <= m.train.0 {
+        return refusal::UNKNOWN_TRAIN;
+    }
+    let train = train_of(state, m.train);
+    let last = train.last;
+    if is_last(last, m.from, m.to) {
+        return 0;
+    }
+    let number = move_refusal(train, m);
     if number != 0 {
         return number;
     }
-    if !is_running(status_of(state, m.train)) {
+    let status = train.status;
+    if !is_running(status) {
         return refusal::NO_AUTHORITY;
     }
     room_refusal(state)
@@ -167,15 +178,10 @@ fn section_refusal(state: State, m: Move) -> u8
     0
 }
 
-// Whether the train is known and the move is its next one.
-fn move_refusal(state: State, m: Move) -> u8
-    requires { ⌜ state .trains ≤ 6 ⌝ }
-    ensures { λ r. ⌜ r ≡ refusal (moveChecks state m) ⌝ }
+// Whether the move is the train's next one.
+fn move_refusal(train: Train, m: Move) -> u8
+    ensures { λ r. ⌜ r ≡ refusal (moveChecks train m) ⌝ }
 {
-    if state.trains <= m.train.0 {
-        return refusal::UNKNOWN_TRAIN;
-    }
-    let train = train_of(state, m.train);
     if at_end(train) {
         return refusal::AT_ITS_END;
     }

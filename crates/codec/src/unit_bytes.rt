@@ -63,7 +63,8 @@ pub fn button_of(number: u8) -> Button
         0 => Button::Ask,
         1 => Button::Depart,
         2 => Button::Reached,
-        3..=255 => Button::Report,
+        3 => Button::Report,
+        4..=255 => Button::Again,
     }
 }
 

@@ -1,6 +1,6 @@
--- How many frames were accepted. Of trains: two for each post travelled, and one for a train that is Asked or Running;
--- each accepted one adds one to the sum, and a grant leaves it. Of gangs: the count given has the LAs, and of those the
--- ones without an LB are the sections that gangs have. For any table.
+-- How many new frames were accepted. Of trains: two for each post travelled, and one for a train that is Asked or
+-- Running; each new one adds one to the sum, and a repeat and a grant leave it. Of gangs: the count given has the LAs,
+-- and of those the ones without an LB are the sections that gangs have. For any table.
 use mathlib.Core.Path.{_≡_, refl, sym, ap, _∙_}
 use mathlib.Core.Bool.{Bool, true, false}
 use mathlib.Core.List.{List, [], _∷_}
@@ -23,9 +23,9 @@ use Rattle.rules.specs.declared.state.Train.{Train}
 use Rattle.rules.specs.State.{isAsked, isRunning, reachedBy, trainOf, lineOf, possessed, withStatus, arrivedNext}
 use Rattle.rules.specs.State.{withPossession, oneLogged}
 use Rattle.rules.specs.Granting.{Work, begun, granted, settled, granting}
-use Rattle.rules.specs.Answer.{taken, declined, accepted, answer}
+use Rattle.rules.specs.Answer.{taken, declined, anew, answer}
 use Rattle.rules.specs.Refusals.{ofTrain}
-use Rattle.rules.proofs.Trains.{asked-idle, running-is, route-of}
+use Rattle.rules.proofs.Trains.{asked-idle, running-is, free-idle, free-unasked, route-of}
 use Rattle.rules.proofs.Validity.{Consistent}
 use Rattle.rules.proofs.Changes.{grantable-facts, short-place}
 use Rattle.rules.proofs.Grants.{Turn, grants-keep, granted-place}
@@ -34,12 +34,13 @@ use Rattle.rules.proofs.Acceptance.{Taken, request, arrival, lending, return, b
 use Rattle.assurance.specs.Types.{Move, Message, Fa, Am, Lb, Record, State}
 use Rattle.assurance.specs.Run.{Input, run}
 use Rattle.assurance.specs.Observer.{Observer}
-use Rattle.conduct.specs.Arrival.{isAccepted, acceptedFrames, asksSection, givesBack, framesTold, mostFrames}
+use Rattle.conduct.specs.Arrival.{isNew, newFrames, asksSection, givesBack, framesTold, mostFrames}
 use Rattle.assurance.proofs.Invariant.{Invariant}
 use Rattle.assurance.proofs.Records.{changed-sum, lentIn, lent-change}
 use Rattle.assurance.proofs.Exchanged.{Settled, answer-kept}
 use Rattle.assurance.proofs.Told.{at-post, asked-told, authority-told}
 use Rattle.conduct.proofs.LocalRuns.{settled-given}
+use Rattle.conduct.proofs.Repeats.{repeat-told, new-told}
 
 abbrev framesOf : Train → ℕ
 framesOf x =
@@ -73,14 +74,15 @@ module _ (table : List ℕ) where
       (λ q. rw q (same (w .state)))
       (λ q. rw q)
 
-  -- an accepted frame of a train is one more
+  -- a new frame of a train is one more
   accepted-frames : (s : State) → Consistent s → (a : Message) → Taken s a
-      → framesIn (accepted table s a .state) ≡ framesIn s + ofBool (ofTrain a)
-  unfolding accepted
-  accepted-frames s d a (request m q free idle) =
+      → framesIn (anew table s a .state) ≡ framesIn s + ofBool (ofTrain a)
+  unfolding anew
+  accepted-frames s d a (request m q free) =
       let t = m .train .0 in
       let x = withStatus (trainOf s t) (Asked (s .logged)) in
-      let one : framesOf (trainOf s t) + 1 ≡ framesOf x = rw (free, idle) (omega arith) in
+      let w = trainOf s t .status in
+      let one : framesOf (trainOf s t) + 1 ≡ framesOf x = rw (free-unasked w free, free-idle w free) (omega arith) in
       let c = changed-sum framesOf s t x (s .logged + 1) (q .known) (short-place s t (q .short)) in
       declined-keeps framesIn (λ v. refl) m (settled table (taken s (Fa m) x))
       ∙ settled-frames (framesIn s + 1) (taken s (Fa m) x) (omega arith)
@@ -100,9 +102,9 @@ module _ (table : List ℕ) where
   -- ---- of gangs
 
   accepted-given : (s : State) (a : Message) → Taken s a
-      → accepted table s a .state .given ≡ s .given + ofBool (asksSection a)
-  unfolding accepted
-  accepted-given s a (request m q free idle) =
+      → anew table s a .state .given ≡ s .given + ofBool (asksSection a)
+  unfolding anew
+  accepted-given s a (request m q free) =
       let w = taken s (Fa m) (withStatus (trainOf s (m .train .0)) (Asked (s .logged))) in
       declined-keeps (λ v. v .given) (λ v. refl) m (settled table w) ∙ settled-given table w ∙ omega arith
   accepted-given s a (arrival m q runs) =
@@ -116,9 +118,9 @@ module _ (table : List ℕ) where
       grants-keep table (λ v. lentIn (v .state) ≡ lentIn (w .state)) (λ v t e f. e) (w .state .trains) w refl
 
   accepted-lent : (s : State) → Consistent s → length (s .possessions) ≡ 7 → (a : Message) → Taken s a
-      → ofBool (asksSection a) + lentIn s ≡ ofBool (givesBack a) + lentIn (accepted table s a .state)
-  unfolding accepted
-  accepted-lent s d seven a (request m q free idle) =
+      → ofBool (asksSection a) + lentIn s ≡ ofBool (givesBack a) + lentIn (anew table s a .state)
+  unfolding anew
+  accepted-lent s d seven a (request m q free) =
       let w = taken s (Fa m) (withStatus (trainOf s (m .train .0)) (Asked (s .logged))) in
       omega (arith, declined-keeps lentIn (λ v. refl) m (settled table w), settled-lent w)
   accepted-lent s d seven a (arrival m q runs) =
@@ -138,39 +140,40 @@ module _ (table : List ℕ) where
 
   -- ---- a run
 
-  -- a number of the state that each accepted frame of a kind raises by one counts them
+  -- a number of the state that each new frame of a kind raises by one counts them
   run-counts : (kind : Message → Bool) (f : State → ℕ)
-      → ((s : State) → Consistent s → (a : Message) → Taken s a
-      → f (accepted table s a .state) ≡ f s + ofBool (kind a))
-      → (is : List Input) (s : State) (j : List Record)
-      → let r = run table s j is in acceptedFrames kind (r .exchanges) + f s ≡ f (r .state)
-  unfolding run acceptedFrames
-  run-counts kind f raises [] s j = omega arith
-  run-counts kind f raises (i ∷ is) s j =
+      → ((s : State) → Consistent s → (a : Message) → Taken s a → f (anew table s a .state) ≡ f s + ofBool (kind a))
+      → (is : List Input) (s : State) (j : List Record) (o : Observer) → Settled table s j o
+      → let r = run table s j is in newFrames kind o (r .exchanges) + f s ≡ f (r .state)
+  unfolding run newFrames
+  run-counts kind f raises [] s j o k = omega arith
+  run-counts kind f raises (i ∷ is) s j o k =
       let a = answer s table j (i .frame) (i .out) in
-      omega (arith, one, run-counts kind f raises is (a .state) (a .journal))
+      let after = answer-kept table s j o k (i .frame) (i .out) .after in
+      omega (arith, one, run-counts kind f raises is (a .state) (a .journal) _ after)
     where
       one : let a = answer s table j (i .frame) (i .out) in
-          ofBool (isAccepted kind (i .frame) (a .verdict)) + f s ≡ f (a .state)
+          ofBool (isNew kind o (i .frame) (a .verdict)) + f s ≡ f (a .state)
       one = by-verdict s table j (i .frame) (i .out)
-          (λ a. ofBool (isAccepted kind (i .frame) (a .verdict)) + f s ≡ f (a .state))
+          (λ a. ofBool (isNew kind o (i .frame) (a .verdict)) + f s ≡ f (a .state))
           (λ n e. omega arith)
-          (λ p. omega (arith, raises s (p .valid-state) (readFrame (i .frame)) (p .message)))
+          (λ p answers r. rw (repeat-told table s j o (k .kept) (readFrame (i .frame)) answers r) (omega arith))
+          (λ p t room. rw (new-told table s j o (k .kept) (readFrame (i .frame)) t)
+          (omega (arith, raises s (p .valid-state) (readFrame (i .frame)) t)))
 
-  pub run-frames : (is : List Input) (s : State) (j : List Record)
-      → let r = run table s j is in acceptedFrames ofTrain (r .exchanges) + framesIn s ≡ framesIn (r .state)
+  pub run-frames : (is : List Input) (s : State) (j : List Record) (o : Observer) → Settled table s j o
+      → let r = run table s j is in newFrames ofTrain o (r .exchanges) + framesIn s ≡ framesIn (r .state)
   run-frames = run-counts ofTrain framesIn accepted-frames
 
-  pub run-given : (is : List Input) (s : State) (j : List Record)
-      → let r = run table s j is in acceptedFrames asksSection (r .exchanges) + s .given ≡ r .state .given
+  pub run-given : (is : List Input) (s : State) (j : List Record) (o : Observer) → Settled table s j o
+      → let r = run table s j is in newFrames asksSection o (r .exchanges) + s .given ≡ r .state .given
   run-given = run-counts asksSection (λ s. s .given) (λ s d a t. accepted-given s a t)
 
   -- the LAs are the LBs and the sections that gangs still have
   pub run-lent : (is : List Input) (s : State) (j : List Record) (o : Observer) → Settled table s j o
       → let r = run table s j is in
-      acceptedFrames asksSection (r .exchanges) + lentIn s
-      ≡ acceptedFrames givesBack (r .exchanges) + lentIn (r .state)
-  unfolding run acceptedFrames
+      newFrames asksSection o (r .exchanges) + lentIn s ≡ newFrames givesBack o (r .exchanges) + lentIn (r .state)
+  unfolding run newFrames
   run-lent [] s j o k = refl
   run-lent (i ∷ is) s j o k =
       let a = answer s table j (i .frame) (i .out) in
@@ -178,13 +181,15 @@ module _ (table : List ℕ) where
       omega (arith, one, run-lent is (a .state) (a .journal) _ after)
     where
       one : let a = answer s table j (i .frame) (i .out) in
-          ofBool (isAccepted asksSection (i .frame) (a .verdict)) + lentIn s
-          ≡ ofBool (isAccepted givesBack (i .frame) (a .verdict)) + lentIn (a .state)
+          ofBool (isNew asksSection o (i .frame) (a .verdict)) + lentIn s
+          ≡ ofBool (isNew givesBack o (i .frame) (a .verdict)) + lentIn (a .state)
       one = by-verdict s table j (i .frame) (i .out)
-          (λ a. ofBool (isAccepted asksSection (i .frame) (a .verdict)) + lentIn s
-          ≡ ofBool (isAccepted givesBack (i .frame) (a .verdict)) + lentIn (a .state))
+          (λ a. ofBool (isNew asksSection o (i .frame) (a .verdict)) + lentIn s
+          ≡ ofBool (isNew givesBack o (i .frame) (a .verdict)) + lentIn (a .state))
           (λ n e. refl)
-          (λ p. accepted-lent s (p .valid-state) (k .kept .seven) (readFrame (i .frame)) (p .message))
+          (λ p answers r. rw (repeat-told table s j o (k .kept) (readFrame (i .frame)) answers r))
+          (λ p t room. rw (new-told table s j o (k .kept) (readFrame (i .frame)) t)
+          (accepted-lent s (p .valid-state) (k .kept .seven) (readFrame (i .frame)) t))
 
   pub lent-told : (s : State) (j : List Record) (o : Observer) → Invariant table s j o
       → lentIn s ≡ sumBelow (s .posts) (o .gangs)

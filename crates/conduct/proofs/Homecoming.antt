@@ -1,5 +1,5 @@
 -- Every train can still come home. While a gang has a section, its LB is accepted; then, while a train is short of its
--- end, some such train is not waiting: its AM, or its FA, is accepted. Every accepted frame raises the number of
+-- end, some such train is not waiting: its AM, or its FA, is accepted. Every new frame raises the number of
 -- records that trains and gangs can have taken, which is at most 228, so that this ends, with every train at its end.
 use mathlib.Core.Path.{_≡_, refl, ap, subst, _∙_}
 use mathlib.Core.Bool.{Bool, true, false, not}
@@ -22,9 +22,9 @@ use Rattle.completion.proofs.Rule.{length-table}
 use Rattle.rules.specs.State.{isAsked, isRunning, atEnd, trainOf, lineOf, possessed, nextMove}
 use Rattle.rules.specs.Answer.{outLength, accepted, answered, refused, answer}
 use Rattle.rules.specs.Opening.{openedState}
-use Rattle.rules.proofs.Trains.{route-of}
+use Rattle.rules.proofs.Trains.{idle-free, route-of}
 use Rattle.rules.proofs.Possessions.{possessed-on}
-use Rattle.rules.proofs.Acceptance.{NextMove, Taken, request, arrival, lending, return}
+use Rattle.rules.proofs.Acceptance.{NextMove, Taken, request, arrival, lending, return, taken-new, accepted-anew}
 use Rattle.rules.proofs.Taking.{taken-accepted}
 use Rattle.assurance.specs.Types.{Line, Message, Fa, Am, Lb, Record, State}
 use Rattle.assurance.specs.Run.{Input, run}
@@ -40,21 +40,20 @@ use Rattle.assurance.proofs.Ran.{RunKept, run-kept}
 
 -- ---- one frame that is accepted
 
-module _ {table : List ℕ} {s : State} {j : List Record} {o : Observer} (k : Settled table s j o) (u : ℕ)
-    (known : u < s .trains) (short : Short s u) where
+module _ (s : State) (u : ℕ) (known : u < s .trains) (short : Short s u) where
   pub next-move : NextMove s (nextMove s u)
-  next-move = record { known = known; short = short; from = refl; to = refl; space = room-settled k }
+  next-move = record { known = known; short = short; from = refl; to = refl }
 
   -- a train that is short of its end and has not asked sends its next move's AM or FA
   next-frame : isAsked (trainOf s u .status) ≡ false → (a : Message) × Taken s a
-  next-frame free = by-cases (isRunning (trainOf s u .status))
+  next-frame unasked = by-cases (isRunning (trainOf s u .status))
       (λ e. (Am (nextMove s u), arrival (nextMove s u) next-move e))
-      (λ e. (Fa (nextMove s u), request (nextMove s u) next-move free e))
+      (λ e. (Fa (nextMove s u), request (nextMove s u) next-move (idle-free (trainOf s u .status) unasked e)))
 
 -- what is taken is a message
 pub taken-message : (s : State) (a : Message) → Taken s a → IsMessage a
 unfolding IsMessage
-taken-message s a (request m q free idle) = tt
+taken-message s a (request m q free) = tt
 taken-message s a (arrival m q runs) = tt
 taken-message s a (lending m q free few) = tt
 taken-message s a (return m q held) = tt
@@ -76,12 +75,14 @@ module _ (table : List ℕ) (long : tableLength ≤ length table) where
   unfolding answer
   raises s j o k a t =
       let read : readFrame (bytesOf a) ≡ a = round-trip .back a (taken-message s a t) in
-      let e = taken-accepted s table j buffer (valid-settled k) long (k .kept .room) (omega arith) a t in
+      let e =
+      taken-accepted s table j buffer (valid-settled k) long (k .kept .room) (omega arith) (room-settled k) a t in
       let b = accepted-bounded table s (k .kept .valid-state) (k .kept .seven) a t (worth s)
       (record { spare = omega (arith, k .bounded); raised = omega (arith, k .bounded) }) .raised in
       rw (
         accepts (answered (s .logged) j buffer (accepted table s (readFrame (bytesOf a)))) (refused s j buffer) e,
         read,
+        accepted-anew table s a (taken-new s (k .kept .valid-state) a t),
       ) (omega arith)
 
   -- ---- until every train is at its end
@@ -105,7 +106,7 @@ module _ (table : List ℕ) (long : tableLength ≤ length table) where
   give-back s j o k i held = (
     Lb (sectionMove i),
     return (sectionMove i)
-        (record { gang = refl; upper = refl; on = possessed-on s i held; space = room-settled k })
+        (record { gang = refl; upper = refl; on = possessed-on s i held })
         held,
   )
 
@@ -132,7 +133,7 @@ module _ (table : List ℕ) (long : tableLength ≤ length table) where
       let g =
       goes-on table s (k .kept .valid-state) (k .kept .right) (k .kept .completable) (none-lent s z) (k .nobody)
       (f .0) (f .1) (eqb-false _ _ (not-true _ (f .2))) in
-      let a = next-frame k (g .0) (g .1) (g .2) (g .3) in
+      let a = next-frame s (g .0) (g .1) (g .2) (g .3) in
       step (a .0) (a .1)))
       (λ e. record {
         inputs = [];

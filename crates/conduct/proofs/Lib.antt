@@ -6,6 +6,7 @@ pub mod Alike
 pub mod Unread
 pub mod NeverRefused
 pub mod Homecoming
+pub mod Repeats
 pub mod Waiting
 pub mod Accepted
 pub mod Arrival

@@ -1,6 +1,7 @@
 -- Runs under local responsibility: the claims of `specs/LocalRuns.antt`, by the cases of a frame that is taken.
 use mathlib.Core.Path.{_≡_, refl, ap, subst, _∙_}
 use mathlib.Core.Bool.{true, false}
+use mathlib.Core.Option.{none}
 use mathlib.Core.List.{List, [], _∷_}
 use Prim.Native.Nat.{ℕ, _+_, _<_}
 use native.Mathlib.Omega.{arith}
@@ -14,13 +15,14 @@ use Rattle.frame.proofs.RoundTrip.{round-trip}
 use Rattle.journal.specs.Journal.{recordOf}
 use Rattle.rules.specs.State.{possessed, withPossession}
 use Rattle.rules.specs.Granting.{Work, begun, settled}
-use Rattle.rules.specs.Answer.{gangByte, accepted, Answer, answered, refused, answer}
+use Rattle.rules.specs.Answer.{gangByte, again, anew, accepted, Answer, answered, refused, answer}
 use Rattle.rules.specs.Refusals.{Handed}
 use Rattle.rules.proofs.Changes.{grantable-facts}
 use Rattle.rules.proofs.Grants.{grants-keep}
 use Rattle.rules.proofs.Possessions.{others-possessed, lent-possessed, possessed-on, back-unpossessed}
-use Rattle.rules.proofs.Acceptance.{Section, Taken, request, arrival, lending, return, Passed, by-verdict}
-use Rattle.rules.proofs.Acceptance.{accepted-facts}
+use Rattle.rules.proofs.Validity.{valid-facts}
+use Rattle.rules.proofs.Acceptance.{Section, Taken, request, arrival, lending, return, Passed, taken-new, repeats-again}
+use Rattle.rules.proofs.Acceptance.{new-or-again, accepted-anew, by-verdict, accepted-facts}
 use Rattle.rules.proofs.Taking.{taken-accepted}
 use Rattle.assurance.specs.Types.{Move, Message, La, Le, Lb, State, Sent}
 use Rattle.assurance.specs.Observer.{answersOf}
@@ -36,7 +38,7 @@ section-named m q =
     ∙ ap (λ (n : ℕ). moveOf gangByte (m .from .0) n) (q .upper)
 
 pub taken-la : (s : State) (a : Message) (m : Move) → a ≡ La m → Taken s a → Section s m × MayLend s (m .from .0)
-taken-la s a m e (request n q free idle) = absurd (let z : _≡_ {A = ℕ} 0 1 = cc in omega arith)
+taken-la s a m e (request n q free) = absurd (let z : _≡_ {A = ℕ} 0 1 = cc in omega arith)
 taken-la s a m e (arrival n q runs) = absurd (let z : _≡_ {A = ℕ} 0 1 = cc in omega arith)
 taken-la s a m e (lending n q free few) =
     let same : n ≡ m = cc in
@@ -46,7 +48,7 @@ taken-la s a m e (return n q held) = absurd (let z : _≡_ {A = ℕ} 0 1 = cc in
 
 pub taken-lb : (s : State) (a : Message) (m : Move) → a ≡ Lb m → Taken s a
     → Section s m × (possessed s (m .from .0) ≡ true)
-taken-lb s a m e (request n q free idle) = absurd (let z : _≡_ {A = ℕ} 0 1 = cc in omega arith)
+taken-lb s a m e (request n q free) = absurd (let z : _≡_ {A = ℕ} 0 1 = cc in omega arith)
 taken-lb s a m e (arrival n q runs) = absurd (let z : _≡_ {A = ℕ} 0 1 = cc in omega arith)
 taken-lb s a m e (lending n q free few) = absurd (let z : _≡_ {A = ℕ} 0 1 = cc in omega arith)
 taken-lb s a m e (return n q held) =
@@ -56,26 +58,38 @@ taken-lb s a m e (return n q held) =
 -- ---- a frame handed in
 
 -- one that is taken is accepted
-taken-sent : (h : Handed) (a : Message) → WithRoom h → h .frame ≡ bytesOf a → Taken (h .state) a
-    → answerTo h .verdict ≡ Sent (length (accepted (h .table) (h .state) (readFrame (bytesOf a)) .sent))
+taken-sent : (h : Handed) (a : Message) → IsMessage a → WithRoom h → h .frame ≡ bytesOf a → Taken (h .state) a
+    → answerTo h .verdict ≡ Sent (length (anew (h .table) (h .state) a .sent))
 unfolding answer
-taken-sent h a r e t =
+taken-sent h a is r e t =
     let p = r .prepared in
     let w = accepted (h .table) (h .state) (readFrame (bytesOf a)) in
     let passed = taken-accepted (h .state) (h .table) (h .journal) (h .out) (p .valid-state) (p .long-table)
-    (p .long-journal) (p .long-out) a t in
+    (p .long-journal) (p .long-out) (r .room) a t in
+    let new : w ≡ anew (h .table) (h .state) a =
+    rw (round-trip .back a is) (accepted-anew (h .table) (h .state) a
+    (taken-new (h .state) (valid-facts (h .state) (p .valid-state)) a t)) in
     rw e (ap (λ (b : Answer). b .verdict)
-    (accepts (answered (h .state .logged) (h .journal) (h .out) w) (refused (h .state) (h .journal) (h .out)) passed))
+    (accepts (answered (h .state .logged) (h .journal) (h .out) w) (refused (h .state) (h .journal) (h .out)) passed)
+    ∙ ap (λ (v : Work). Sent (length (v .sent))) new)
 
--- what holds of the answer to every frame that is taken holds of the answer to one that was not refused
-sent-taken : (h : Handed) (n : ℕ) (P : Answer → Type 0)
-    → (Passed (h .state) (h .table) (h .journal) (h .frame) (h .out)
-    → P (answered (h .state .logged) (h .journal) (h .out) (accepted (h .table) (h .state) (readFrame (h .frame)))))
+-- what holds of the answer to every new frame holds of the answer to one that was not refused and repeats none
+sent-taken : (h : Handed) (n : ℕ) (P : Answer → Type 0) → again (h .state) (readFrame (h .frame)) ≡ none
+    → (Passed (h .state) (h .table) (h .journal) (h .frame) (h .out) → Taken (h .state) (readFrame (h .frame))
+    → P (answered (h .state .logged) (h .journal) (h .out) (anew (h .table) (h .state) (readFrame (h .frame)))))
     → answerTo h .verdict ≡ Sent n → P (answerTo h)
-sent-taken h n P takes =
+sent-taken h n P fresh takes =
     by-verdict (h .state) (h .table) (h .journal) (h .frame) (h .out) (λ a. a .verdict ≡ Sent n → P a)
     (λ k q e. absurd (let z : _≡_ {A = ℕ} 0 1 = cc in omega arith))
-    (λ p e. takes p)
+    (λ p answers r e. absurd (new-or-again fresh (repeats-again r)))
+    (λ p t room e. takes p t)
+
+-- a gang's frame repeats none
+la-new : (h : Handed) (m : Move) → readFrame (h .frame) ≡ La m → again (h .state) (readFrame (h .frame)) ≡ none
+la-new h m e = ap (again (h .state)) e
+
+lb-new : (h : Handed) (m : Move) → readFrame (h .frame) ≡ Lb m → again (h .state) (readFrame (h .frame)) ≡ none
+lb-new h m e = ap (again (h .state)) e
 
 -- ---- the sections
 
@@ -91,8 +105,8 @@ settled-given table w =
 
 lent-changed : (table : List ℕ) (s : State) (m : Move) → length (s .possessions) ≡ 7 → m .from .0 < 7
     → m .from .0 + 1 < s .posts
-    → Changed s (m .from .0) true (s .given + 1) (accepted table s (La m) .state)
-unfolding accepted
+    → Changed s (m .from .0) true (s .given + 1) (anew table s (La m) .state)
+unfolding anew
 lent-changed table s m seven low on = record {
   own = lent-possessed s (m .from .0) (s .given + 1) on (rw seven low);
   others = others-possessed s (m .from .0) true (s .given + 1);
@@ -100,8 +114,8 @@ lent-changed table s m seven low on = record {
 }
 
 back-changed : (table : List ℕ) (s : State) (m : Move)
-    → Changed s (m .from .0) false (s .given) (accepted table s (Lb m) .state)
-unfolding accepted
+    → Changed s (m .from .0) false (s .given) (anew table s (Lb m) .state)
+unfolding anew
 back-changed table s m =
     let w = begun (withPossession s (m .from .0) false (s .given)) (recordOf (Lb m)) in
     record {
@@ -116,12 +130,16 @@ la-message : (m : Move) → IsMessage (La m)
 unfolding IsMessage
 la-message m = tt
 
-one-answer : (table : List ℕ) (s : State) (m : Move) → accepted table s (La m) .sent ≡ Le m ∷ []
-unfolding accepted
+lb-message : (m : Move) → IsMessage (Lb m)
+unfolding IsMessage
+lb-message m = tt
+
+one-answer : (table : List ℕ) (s : State) (m : Move) → anew table s (La m) .sent ≡ Le m ∷ []
+unfolding anew
 one-answer table s m = refl
 
-same-fleet : (table : List ℕ) (s : State) (m : Move) → accepted table s (La m) .state .fleet ≡ s .fleet
-unfolding accepted
+same-fleet : (table : List ℕ) (s : State) (m : Move) → anew table s (La m) .state .fleet ≡ s .fleet
+unfolding anew
 same-fleet table s m = refl
 
 lent : (h : Handed) (m : Move) (n : ℕ) → length (h .state .possessions) ≡ 7
@@ -134,10 +152,11 @@ lent h m n seven e = sent-taken h n
     (λ a. (answersOf (a .verdict) (a .out) ≡ Le m ∷ [])
     × (Changed (h .state) (m .from .0) true (h .state .given + 1) (a .state))
     × (a .state .fleet ≡ h .state .fleet))
-    (λ p.
-    let t = taken-la (h .state) (readFrame (h .frame)) m e (p .message) in
-    let facts = accepted-facts (h .table) (h .state) (p .valid-state) (readFrame (h .frame)) (p .message) in
-    let w = accepted (h .table) (h .state) (readFrame (h .frame)) in
+    (la-new h m e)
+    (λ p k.
+    let t = taken-la (h .state) (readFrame (h .frame)) m e k in
+    let facts = accepted-facts (h .table) (h .state) (p .valid-state) (readFrame (h .frame)) k in
+    let w = anew (h .table) (h .state) (readFrame (h .frame)) in
     let back = answers-back (w .sent) (h .out) (facts .messages) in
     let low : m .from .0 < 7 = omega (arith, t .0 .on, p .valid-state .line .few-posts) in (
       back ∙ rw e (one-answer (h .table) (h .state) m),
@@ -149,11 +168,12 @@ pub local-runs : LocalRuns
 local-runs = record {
   then = λ h i r e may.
       let m = sectionMove i in
-      let q : Section (h .state) m = record { gang = refl; upper = refl; on = may .on; space = r .room } in
-      taken-sent h (La m) r e (lending m q (may .free) (may .few))
-      ∙ rw (round-trip .back (La m) (la-message m), one-answer (h .table) (h .state) m);
-  only = λ h m n e. sent-taken h n (λ a. (m ≡ sectionMove (m .from .0)) × MayLend (h .state) (m .from .0)) (λ p.
-      let t = taken-la (h .state) (readFrame (h .frame)) m e (p .message) in
+      let q : Section (h .state) m = record { gang = refl; upper = refl; on = may .on } in
+      taken-sent h (La m) (la-message m) r e (lending m q (may .free) (may .few))
+      ∙ rw (one-answer (h .table) (h .state) m);
+  only = λ h m n e. sent-taken h n (λ a. (m ≡ sectionMove (m .from .0)) × MayLend (h .state) (m .from .0))
+      (la-new h m e) (λ p k.
+      let t = taken-la (h .state) (readFrame (h .frame)) m e k in
       (section-named m (t .0), t .1));
   lent = lent;
   blocks = λ s table t e. not-passed _ (λ g.
@@ -161,12 +181,14 @@ local-runs = record {
   back = λ h i r e held.
       let m = sectionMove i in
       let on = possessed-on (h .state) i held in
-      let q : Section (h .state) m = record { gang = refl; upper = refl; on = on; space = r .room } in
-      (_, taken-sent h (Lb m) r e (return m q held));
+      let q : Section (h .state) m = record { gang = refl; upper = refl; on = on } in
+      (_, taken-sent h (Lb m) (lb-message m) r e (return m q held));
   back-only = λ h m n e.
-      sent-taken h n (λ a. (m ≡ sectionMove (m .from .0)) × (possessed (h .state) (m .from .0) ≡ true)) (λ p.
-      let t = taken-lb (h .state) (readFrame (h .frame)) m e (p .message) in
+      sent-taken h n (λ a. (m ≡ sectionMove (m .from .0)) × (possessed (h .state) (m .from .0) ≡ true))
+      (lb-new h m e) (λ p k.
+      let t = taken-lb (h .state) (readFrame (h .frame)) m e k in
       (section-named m (t .0), t .1));
-  freed = λ h m n e. sent-taken h n (λ a. Changed (h .state) (m .from .0) false (h .state .given) (a .state)) (λ p.
+  freed = λ h m n e. sent-taken h n (λ a. Changed (h .state) (m .from .0) false (h .state .given) (a .state))
+      (lb-new h m e) (λ p k.
       rw e (back-changed (h .table) (h .state) m));
 }

@@ -33,21 +33,23 @@ module _ (table : List ℕ) where
     not-by : (n : ℕ) → refusal checks ≢ n → answer s table j frame out .verdict ≢ RefusedBy n
     not-by n h =
         by-verdict s table j frame out (λ a. a .verdict ≢ RefusedBy n) (λ m q e. h (let z : m ≡ n = cc in q ∙ z))
-        (λ p e. let z : _≡_ {A = ℕ} 0 1 = cc in omega arith)
+        (λ p answers r e. let z : _≡_ {A = ℕ} 0 1 = cc in omega arith)
+        (λ p t room e. let z : _≡_ {A = ℕ} 0 1 = cc in omega arith)
 
     not-strange : answer s table j frame out .verdict ≢ RefusedBy strangeState
     not-strange =
         not-by strangeState (not-given strangeState checks (omega arith)
         (and-both _ _ (valid-settled k)
-        (by-content s (λ cs. clear strangeState cs ≡ true) (λ m. refl) (λ m. refl) (λ m. refl) (λ m. refl) refl
-        (readFrame frame))))
+        (by-content s (λ cs. clear strangeState cs ≡ true) (λ m. refl) (λ m. refl) (λ m. refl) (λ m. refl) (λ m. refl)
+        (λ m. refl) refl (readFrame frame))))
 
     not-full : answer s table j frame out .verdict ≢ RefusedBy journalFull
     not-full =
         let room : hasRoom s ≡ true = le-leb (s .logged + mostLogged) journalLength (room-settled k) in
         not-by journalFull (not-given journalFull checks (omega arith)
-        (by-content s (λ cs. clear journalFull cs ≡ true) (λ m. and-both _ _ room refl) (λ m. and-both _ _ room refl)
-        (λ m. and-both _ _ room refl) (λ m. and-both _ _ room refl) refl (readFrame frame)))
+        (by-content s (λ cs. clear journalFull cs ≡ true) (λ m. and-both _ _ room refl) (λ m. refl)
+        (λ m. and-both _ _ room refl) (λ m. refl) (λ m. and-both _ _ room refl) (λ m. and-both _ _ room refl) refl
+        (readFrame frame)))
 
   -- what holds of the answer to each frame that finds a settled state holds of every exchange of a run from one
   each-exchange : (P : Verdict → Type 0)

@@ -14,7 +14,7 @@ use Rattle.completion.proofs.Rule.{bit-completable, completable-bit}
 use Rattle.rules.specs.State.{lineOf, reached, nextMove}
 use Rattle.rules.specs.Valid.{valid}
 use Rattle.rules.specs.Granting.{oldest, Work, granted, proceed, grants, granting}
-use Rattle.rules.specs.Answer.{accepted, runsGranting, answer}
+use Rattle.rules.specs.Answer.{again, anew, runsGranting, answer}
 use Rattle.rules.proofs.Validity.{Distinct, valid-facts, next-post-below, asked-short}
 use Rattle.rules.proofs.FreeTrack.{free-fewer, fewer-free}
 use Rattle.rules.proofs.Changes.{distinct-change, grantable-facts, is-grantable}
@@ -23,45 +23,57 @@ use Rattle.rules.proofs.Oldest.{Oldest, oldest-none, oldest-some, earlier}
 use Rattle.rules.proofs.Grants.{askedCount, Turn, granted-fewer, granted-place, none-asked, few-asked}
 use Rattle.rules.proofs.Grants.{settled-next}
 use Rattle.rules.proofs.Settling.{settled-settles}
-use Rattle.rules.proofs.Acceptance.{by-verdict, refusal-leaves, paired, accepted-facts, accepted-valid}
+use Rattle.rules.proofs.Acceptance.{Repeats, declined-before, granted-before, arrived-before, repeats-again}
+use Rattle.rules.proofs.Acceptance.{new-or-again, by-verdict, refusal-leaves, paired, accepted-facts, accepted-valid}
 use Rattle.rules.proofs.Acceptance.{runs-nobody, accepted-nobody}
-use Rattle.assurance.specs.Types.{Fe, Record, State, Sent}
+use Rattle.assurance.specs.Types.{Message, Fe, Record, State, Sent}
 use Rattle.conduct.specs.OneFrame.{ValidKept, RefusalsChangeNothing, AtMostSix, BitInTable, TrackFound}
 use Rattle.conduct.specs.OneFrame.{NoneLeft, First, Granting, done, next, ExactGrant, OldestFirst, RightGrant}
 
 pub valid-kept : ValidKept
 valid-kept s table journal frame out e =
-    by-verdict s table journal frame out (λ a. valid (a .state) ≡ true) (λ n q. e)
-    (λ p. accepted-valid table s (p .valid-state) (readFrame frame) (p .message))
+    by-verdict s table journal frame out (λ a. valid (a .state) ≡ true) (λ n q. e) (λ p answers r. e)
+    (λ p. accepted-valid table s (p .valid-state) (readFrame frame))
 
 pub refusals-change-nothing : RefusalsChangeNothing
 refusals-change-nothing = refusal-leaves
+
+-- a repeat is answered by one frame at most
+one-again : {s : State} {a : Message} {answers : List Message} → Repeats s a answers → length answers ≤ 1
+one-again (declined-before m n asks) = omega arith
+one-again (granted-before m n runs) = omega arith
+one-again (arrived-before m known finished) = omega arith
 
 pub at-most-six : AtMostSix
 at-most-six s table journal frame out n =
     by-verdict s table journal frame out (λ a. a .verdict ≡ Sent n → n ≤ 6)
     (λ k q e. absurd (let z : _≡_ {A = ℕ} 0 1 = cc in omega arith))
-    (λ p e.
-    let a = accepted-facts table s (p .valid-state) (readFrame frame) (p .message) in
-    let same : length (accepted table s (readFrame frame) .sent) ≡ n = cc in
+    (λ p answers r e.
+    let same : length answers ≡ n = cc in
+    omega (arith, one-again r))
+    (λ p t room e.
+    let a = accepted-facts table s (p .valid-state) (readFrame frame) t in
+    let same : length (anew table s (readFrame frame) .sent) ≡ n = cc in
     omega (arith, a .few, paired a))
 
 pub bit-in-table : BitInTable
 bit-in-table s t e k asks = moved-code s (valid-facts s e) t k asks
 
 none-left : (s : State) (table : List ℕ) (journal : List Record) (frame out : List ℕ) (n : ℕ)
-    → runsGranting (readFrame frame) ≡ true
+    → runsGranting (readFrame frame) ≡ true → again s (readFrame frame) ≡ none
     → answer s table journal frame out .verdict ≡ Sent n → NoneLeft table (answer s table journal frame out .state)
-none-left s table journal frame out n runs =
+none-left s table journal frame out n runs fresh =
     by-verdict s table journal frame out (λ a. a .verdict ≡ Sent n → NoneLeft table (a .state))
     (λ k q e. absurd (let z : _≡_ {A = ℕ} 0 1 = cc in omega arith))
-    (λ p e. runs-nobody table s (readFrame frame) (p .message) runs .barred)
+    (λ p answers r e. absurd (new-or-again fresh (repeats-again r)))
+    (λ p t room e. runs-nobody table s (readFrame frame) t runs .barred)
 
 none-more : (s : State) (table : List ℕ) (journal : List Record) (frame out : List ℕ)
     → NoneLeft table s → NoneLeft table (answer s table journal frame out .state)
 none-more s table journal frame out before =
     by-verdict s table journal frame out (λ a. NoneLeft table (a .state)) (λ k q. before)
-    (λ p. accepted-nobody table s (readFrame frame) (p .message) (record { barred = before }) .barred)
+    (λ p answers r. before)
+    (λ p t room. accepted-nobody table s (readFrame frame) t (record { barred = before }) .barred)
 
 -- ---- the chain of grants
 

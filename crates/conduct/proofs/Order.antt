@@ -16,7 +16,7 @@ use Rattle.rules.proofs.Validity.{Consistent}
 use Rattle.assurance.specs.Types.{State}
 use Rattle.conduct.specs.Turns.{Turns}
 
--- k has the number of each train's last accepted FA, and n is that of the next frame
+-- k has the number of each train's last accepted FA that repeats none, and n is that of the next frame
 pub record InOrder (s : State) (n : ℕ) (k : Turns) : Type 0 where
   pub before : (t : ℕ) → t < s .trains → isAsked (trainOf s t .status) ≡ true → k t < n
   pub order : (t u : ℕ) → t < s .trains → u < s .trains

@@ -2,7 +2,8 @@
 use mathlib.Core.Path.{_≡_, refl, sym, ap, _∙_}
 use mathlib.Core.Logic.{inl, inr}
 use mathlib.Core.Bool.{true, false, false≢true}
-use mathlib.Core.List.{List}
+use mathlib.Core.Option.{Option, none, some}
+use mathlib.Core.List.{List, []}
 use Prim.Native.Nat.{ℕ, zero, suc, _+_, _*_, _<_}
 use native.Mathlib.Omega.{arith}
 use lib.ListN.{length, drop, length-map}
@@ -15,19 +16,20 @@ use Rattle.rules.specs.declared.state.Status.the-variants.{Asked}
 use Rattle.rules.specs.declared.state.Train.{Train}
 use Rattle.rules.specs.State.{isAsked, trainOf, nextMove, withStatus, arrivedNext, withPossession}
 use Rattle.rules.specs.Granting.{Work, begun, settled}
-use Rattle.rules.specs.Answer.{taken, declined, accepted, framesOf, Answer, answer}
+use Rattle.rules.specs.Answer.{again, taken, declined, anew, framesOf, Answer, answer}
+use Rattle.rules.specs.Repeats.{toldAgain}
 use Rattle.rules.proofs.Trains.{changed-own, changed-other}
 use Rattle.rules.proofs.Changes.{short-place}
 use Rattle.rules.proofs.Frames.{frames-length}
-use Rattle.rules.proofs.Acceptance.{NextMove, Taken, request, arrival, lending, return, by-verdict}
-use Rattle.rules.proofs.Acceptance.{accepted-facts}
+use Rattle.rules.proofs.Acceptance.{NextMove, Taken, request, arrival, lending, return, taken-new, repeats-again}
+use Rattle.rules.proofs.Acceptance.{new-or-again, by-verdict, accepted-facts}
 use Rattle.assurance.specs.Types.{Move, Message, Fa, Fe, Am, Lb, Record, State, Sent}
 use Rattle.assurance.specs.Run.{newRecords}
 use Rattle.assurance.specs.Observer.{readFrames}
 use Rattle.conduct.specs.Replies.{Awaited, Authorities, Reply, OnlyAdded, Replies}
 use Rattle.conduct.specs.Replies as replies
 use Rattle.conduct.proofs.Serving.{Serves, begins, settled-serves}
-use Rattle.assurance.proofs.Exchanged.{answers-back}
+use Rattle.assurance.proofs.Exchanged.{answers-back, again-messages}
 use Rattle.conduct.proofs.Recorded.{all-records, answer-adds, answer-logs}
 
 -- ---- from the state before the frame on
@@ -103,9 +105,9 @@ module _ (s : State) (m : Move) (n : NextMove s m) where
   arriving-reply table = replies.arrived m _ (authorities s _ (Am m) _
       (settled-serves table (taken s (Am m) arriving) (begins _ _)) arriving-awaited)
 
-accepted-reply : (table : List ℕ) (s : State) (a : Message) → Taken s a → Reply s a (accepted table s a .sent)
-unfolding accepted
-accepted-reply table s a (request m n free idle) = asking-reply s m n table
+accepted-reply : (table : List ℕ) (s : State) (a : Message) → Taken s a → Reply s a (anew table s a .sent)
+unfolding anew
+accepted-reply table s a (request m n free) = asking-reply s m n table
 accepted-reply table s a (arrival m n runs) = arriving-reply s m n table
 accepted-reply table s a (lending m n free few) = replies.lent m
 accepted-reply table s a (return m n held) = replies.returned m _ (authorities s _ (Lb m) _
@@ -116,38 +118,69 @@ accepted-reply table s a (return m n held) = replies.returned m _ (authorities s
 
 module _ (s : State) (table : List ℕ) (journal : List Record) (frame out : List ℕ) (n : ℕ) where
   reply : let a = answer s table journal frame out in
-      a .verdict ≡ Sent n → Reply s (readFrame frame) (readFrames n (a .out))
+      a .verdict ≡ Sent n → again s (readFrame frame) ≡ none → Reply s (readFrame frame) (readFrames n (a .out))
   reply = by-verdict s table journal frame out
-      (λ (a : Answer). a .verdict ≡ Sent n → Reply s (readFrame frame) (readFrames n (a .out)))
+      (λ (a : Answer). a .verdict ≡ Sent n → again s (readFrame frame) ≡ none
+      → Reply s (readFrame frame) (readFrames n (a .out)))
       (λ k q e. absurd (let z : _≡_ {A = ℕ} 0 1 = cc in omega arith))
-      (λ p e.
-      let w = accepted table s (readFrame frame) in
-      let facts = accepted-facts table s (p .valid-state) (readFrame frame) (p .message) in
+      (λ p answers r e fresh. absurd (new-or-again fresh (repeats-again r)))
+      (λ p t room e fresh.
+      let w = anew table s (readFrame frame) in
+      let facts = accepted-facts table s (p .valid-state) (readFrame frame) t in
       let same : n ≡ length (w .sent) = cc in
-      rw (same, answers-back (w .sent) out (facts .messages)) (accepted-reply table s (readFrame frame) (p .message)))
+      rw (same, answers-back (w .sent) out (facts .messages)) (accepted-reply table s (readFrame frame) t))
+
+  -- the frames of n answers are written, and what comes after them is as it was
+  rest-after : (l : List Message) → length l ≡ n → drop (7 * n) (replaced out 0 (framesOf l)) ≡ drop (7 * n) out
+  unfolding replaced
+  rest-after l same =
+      let size : length (framesOf l) ≡ 7 * n = frames-length l ∙ rw same in
+      let reach : 0 + length (framesOf l) ≡ 7 * n = omega arith in
+      drop-at (framesOf l) (drop (0 + length (framesOf l)) out) (7 * n) size ∙ ap (λ (k : ℕ). drop k out) reach
 
   rest-kept : let a = answer s table journal frame out in a .verdict ≡ Sent n → drop (7 * n) (a .out) ≡ drop (7 * n) out
-  unfolding replaced
   rest-kept = by-verdict s table journal frame out
       (λ (a : Answer). a .verdict ≡ Sent n → drop (7 * n) (a .out) ≡ drop (7 * n) out)
       (λ k q e. absurd (let z : _≡_ {A = ℕ} 0 1 = cc in omega arith))
-      (λ p e.
-      let l = accepted table s (readFrame frame) .sent in
-      let same : length l ≡ n = cc in
-      let size : length (framesOf l) ≡ 7 * n = frames-length l ∙ rw same in
-      let reach : 0 + length (framesOf l) ≡ 7 * n = omega arith in
-      drop-at (framesOf l) (drop (0 + length (framesOf l)) out) (7 * n) size ∙ ap (λ (k : ℕ). drop k out) reach)
+      (λ p answers r e. rest-after answers (let same : length answers ≡ n = cc in same))
+      (λ p t room e.
+      let l = anew table s (readFrame frame) .sent in
+      rest-after l (let same : length l ≡ n = cc in same))
+
+  repeated : (answers : List Message)
+      → let a = answer s table journal frame out in
+      a .verdict ≡ Sent n → again s (readFrame frame) ≡ some answers
+      → (a ≡ toldAgain s journal out answers) × (readFrames n (a .out) ≡ answers)
+  repeated answers = by-verdict s table journal frame out
+      (λ (a : Answer). a .verdict ≡ Sent n → again s (readFrame frame) ≡ some answers
+      → (a ≡ toldAgain s journal out answers) × (readFrames n (a .out) ≡ answers))
+      (λ k q e. absurd (let z : _≡_ {A = ℕ} 0 1 = cc in omega arith))
+      (λ p l r e told.
+      let same : l ≡ answers = some-same (sym (repeats-again r) ∙ told) in
+      let size : n ≡ length l = cc in (
+        ap (toldAgain s journal out) same,
+        rw size (answers-back l out (again-messages r)) ∙ same,
+      ))
+      (λ p t room e told. absurd (new-or-again (taken-new s (p .valid-state) (readFrame frame) t) told))
+    where
+      orNone : Option (List Message) → List Message
+      orNone none = []
+      orNone (some l) = l
+
+      some-same : {l k : List Message} → some l ≡ some k → l ≡ k
+      some-same z = ap orNone z
 
   read-count : (k : ℕ) (b : List ℕ) → length (readFrames k b) ≡ k
   unfolding readFrames
   read-count zero b = refl
   read-count (suc k) b = ap suc (read-count k (drop 7 b))
 
-  added : let a = answer s table journal frame out in a .verdict ≡ Sent n → OnlyAdded s journal frame out n a
-  added e =
+  added : let a = answer s table journal frame out in
+      a .verdict ≡ Sent n → again s (readFrame frame) ≡ none → OnlyAdded s journal frame out n a
+  added e fresh =
       let a = answer s table journal frame out in
       let f = answer-adds table s journal frame out in
-      let g = rw e at (answer-logs table s journal frame out) in
+      let g = rw e at (answer-logs table s journal frame out fresh) in
       let size : length (newRecords s a) ≡ 1 + n =
       sym (length-map (newRecords s a) withoutTrack) ∙ ap length (g .logged)
       ∙ omega (arith, length-map (readFrames n (a .out)) recordOf, read-count n (a .out)) in
@@ -160,4 +193,4 @@ module _ (s : State) (table : List ℕ) (journal : List Record) (frame out : Lis
       }
 
 pub all-replies : Replies
-all-replies = record { reply = reply; added = added }
+all-replies = record { reply = reply; added = added; repeated = repeated }

@@ -9,7 +9,7 @@ use native.Mathlib.Omega.{arith}
 use lib.Dec.{eqb}
 use lib.ListN.{length, length-append}
 use Rattle.common.specs.Part.{replaced}
-use Rattle.common.proofs.Tests.{by-cases}
+use Rattle.common.proofs.Tests.{clash, by-cases}
 use Rattle.common.proofs.Below.{any-cong}
 use Rattle.line.specs.Line.{tracksAt}
 use Rattle.line.specs.Holding.{Whereabouts, holdsPost}
@@ -22,15 +22,16 @@ use Rattle.rules.specs.declared.state.Status.the-variants.{Asked}
 use Rattle.rules.specs.State.{isAsked, nextOf, trackAt, trainOf, lineOf, trackHeld, nextMove, withStatus, arrivedNext}
 use Rattle.rules.specs.State.{withPossession}
 use Rattle.rules.specs.Granting.{Work, begun, granted, settled, grantRecord}
-use Rattle.rules.specs.Answer.{taken, declined, accepted, answer}
+use Rattle.rules.specs.Answer.{taken, declined, anew, answer}
 use Rattle.rules.specs.Opening.{openedState}
-use Rattle.rules.proofs.Trains.{route-of, changed-line}
+use Rattle.rules.proofs.Trains.{free-idle, route-of, changed-line}
 use Rattle.rules.proofs.Grants.{Turn, grants-keep, granted-line}
-use Rattle.rules.proofs.Acceptance.{Taken, request, arrival, lending, return, by-verdict, accepted-facts}
+use Rattle.rules.proofs.Acceptance.{RoomLeft, Taken, request, arrival, lending, return, by-verdict, accepted-facts}
 use Rattle.assurance.specs.Types.{Line, Move, Message, Fa, Fe, Afe, Am, La, Le, Lb, Record, State}
 use Rattle.assurance.specs.Run.{newRecords, run}
 use Rattle.assurance.specs.Observer.{Observer, atOpening, noteFrame, noteAnswers, answersOf, observe, locatedTold}
 use Rattle.assurance.specs.Tracks.{Tracks, tracksAtOpening, trackFrame, trackRecords, observeTracks}
+use Rattle.conduct.specs.Repeats.{repeatsTold}
 use Rattle.conduct.specs.RightTrack.{heldTold, dueRecord, OnTrack, RightTrack}
 use Rattle.assurance.proofs.Invariant.{Invariant}
 use Rattle.assurance.proofs.Logging.{split-last, new-logged}
@@ -39,6 +40,7 @@ use Rattle.assurance.proofs.Accept.{Room, Worked, not-fe, granted-worked, begun
 use Rattle.assurance.proofs.Exchanged.{answers-back}
 use Rattle.assurance.proofs.Tracking.{TracksAgree, Tells, granted-tells, asked-tells, arrived-tells}
 use Rattle.assurance.proofs.Opened.{opening-accepted, opened-line}
+use Rattle.conduct.proofs.Repeats.{repeat-told}
 use Rattle.assurance.proofs.Told.{told, track-as}
 use Rattle.assurance.proofs.WholeList.{opened-run, opened-told}
 
@@ -135,60 +137,63 @@ module _ (table : List ℕ) (c : ℕ) (j : List Record) (o : Observer) (long : j
 
 module _ (table : List ℕ) (s : State) (j : List Record) (o : Observer) (inv : Invariant table s j o) (k : Tracks)
     (h : TracksAgree s k) where
-  accepted-given : (a : Message) → Taken s a
-      → let w = accepted table s a in
+  accepted-given : RoomLeft s → (a : Message) → Taken s a
+      → let w = anew table s a in
       GivenOnTrack (lineOf s) (noteFrame o a) (trackFrame (lineOf s) o k a) (w .sent) (w .logged)
-  unfolding accepted noteAnswers recordOf trackRecords
-  accepted-given a (request m q free idle) =
+  unfolding anew noteAnswers recordOf trackRecords
+  accepted-given room a (request m q free) =
+      let idle = free-idle (trainOf s (m .train .0) .status) free in
       let w = taken s (Fa m) (withStatus (trainOf s (m .train .0)) (Asked (s .logged))) in
       declined-given table (s .logged) j (noteFrame o (Fa m)) (inv .room) (lineOf s) k m (settled table w)
       (settled-platformed table (s .logged) j (noteFrame o (Fa m)) (inv .room) (lineOf s) k w (record {
-        worked = begun-worked table (s .logged) j (noteFrame o (Fa m)) (inv .room) _ _ refl (q .space)
-            (request-kept table s j o inv m q idle);
+        worked = begun-worked table (s .logged) j (noteFrame o (Fa m)) (inv .room) _ _ refl room
+            (request-kept table s j o inv m q room idle);
         line = changed-line s (m .train .0) _ (s .logged + 1) refl;
         tells = asked-tells s k h m q table idle;
         paired = refl;
         given = on-track-none (lineOf s) (noteFrame o (Fa m)) k _;
       }))
-  accepted-given a (arrival m q runs) =
+  accepted-given room a (arrival m q runs) =
       let w = taken s (Am m) (arrivedNext (s .sidings) (trainOf s (m .train .0))) in
       settled-platformed table (s .logged) j (noteFrame o (Am m)) (inv .room) (lineOf s) _ w (record {
-        worked = begun-worked table (s .logged) j (noteFrame o (Am m)) (inv .room) _ _ refl (q .space)
-            (arrival-kept table s j o inv m q runs);
+        worked = begun-worked table (s .logged) j (noteFrame o (Am m)) (inv .room) _ _ refl room
+            (arrival-kept table s j o inv m q room runs);
         line = changed-line s (m .train .0) _ (s .logged + 1) refl;
         tells = arrived-tells s k h m q table o (authorised table s j o inv m q runs);
         paired = refl;
         given = on-track-none (lineOf s) (noteFrame o (Am m)) _ _;
       }) .given
-  accepted-given a (lending m q free few) =
+  accepted-given room a (lending m q free few) =
       on-track-more (lineOf s) o k [] (recordOf (La m) ∷ []) (Le m) (recordOf (Le m)) refl
       (on-track-none (lineOf s) o k _) (λ n z. absurd (not-fe (Le m) (λ u. refl) n z))
-  accepted-given a (return m q held) =
+  accepted-given room a (return m q held) =
       let w = begun (withPossession s (m .from .0) false (s .given)) (recordOf (Lb m)) in
       settled-platformed table (s .logged) j (noteFrame o (Lb m)) (inv .room) (lineOf s) k w (record {
-        worked = begun-worked table (s .logged) j (noteFrame o (Lb m)) (inv .room) _ _ refl (q .space)
-            (return-kept table s j o inv m (q .on) (omega (arith, q .space)) held);
+        worked = begun-worked table (s .logged) j (noteFrame o (Lb m)) (inv .room) _ _ refl room
+            (return-kept table s j o inv m (q .on) (omega (arith, room)) held);
         line = refl;
         tells = record { each = h .each };
         paired = refl;
         given = on-track-none (lineOf s) (noteFrame o (Lb m)) _ _;
       }) .given
 
-  answer-given : (frame out : List ℕ)
+  answer-given : (frame out : List ℕ) → repeatsTold o (readFrame frame) ≡ false
       → let a = answer s table j frame out in
       GivenOnTrack (lineOf s) (noteFrame o (readFrame frame)) (trackFrame (lineOf s) o k (readFrame frame))
       (answersOf (a .verdict) (a .out)) (newRecords s a)
-  answer-given frame out = by-verdict s table j frame out
+  answer-given frame out fresh = by-verdict s table j frame out
       (λ a. GivenOnTrack (lineOf s) (noteFrame o (readFrame frame)) (trackFrame (lineOf s) o k (readFrame frame))
       (answersOf (a .verdict) (a .out)) (newRecords s a))
       (λ n e. on-track-none (lineOf s) _ _ _)
-      (λ p.
-      let facts = accepted-facts table s (inv .valid-state) (readFrame frame) (p .message) in
+      (λ p answers r.
+      clash (repeatsTold o (readFrame frame)) (repeat-told table s j o inv (readFrame frame) answers r) fresh)
+      (λ p t room.
+      let facts = accepted-facts table s (inv .valid-state) (readFrame frame) t in
       rw (
-        new-logged table s j frame out p,
-        answers-back (accepted table s (readFrame frame) .sent) out (facts .messages),
+        new-logged table s j frame out p t room,
+        answers-back (anew table s (readFrame frame) .sent) out (facts .messages),
       )
-      (accepted-given (readFrame frame) (p .message)))
+      (accepted-given room (readFrame frame) t))
 
 pub right-track : RightTrack
 right-track book table journal inputs e =
@@ -201,7 +206,8 @@ right-track book table journal inputs e =
     let a = answer (r .state) (filled l table) (r .journal) (i .frame) (i .out) in
     subst
     (λ (z : Line).
-    GivenOnTrack z (noteFrame o (readFrame (i .frame))) (trackFrame z o k (readFrame (i .frame)))
+    repeatsTold o (readFrame (i .frame)) ≡ false
+    → GivenOnTrack z (noteFrame o (readFrame (i .frame))) (trackFrame z o k (readFrame (i .frame)))
     (answersOf (a .verdict) (a .out)) (newRecords (r .state) a))
     (after .line ∙ opened-line book)
     (answer-given (filled l table) (r .state) (r .journal) o (after .after .kept) k

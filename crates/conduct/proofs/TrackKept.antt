@@ -12,8 +12,8 @@ use Rattle.rules.specs.declared.state.Status.the-variants.{Asked}
 use Rattle.journal.specs.Journal.{recordOf}
 use Rattle.rules.specs.State.{isAsked, locatedAt, trackAt, trainOf, located, withStatus, arrivedNext, withPossession}
 use Rattle.rules.specs.Granting.{Work, begun, granting, granted, settled}
-use Rattle.rules.specs.Answer.{taken, declined, accepted}
-use Rattle.rules.proofs.Trains.{idle-ahead, changed-own, changed-other}
+use Rattle.rules.specs.Answer.{taken, declined, anew}
+use Rattle.rules.proofs.Trains.{free-idle, idle-ahead, changed-own, changed-other}
 use Rattle.rules.proofs.Validity.{Consistent}
 use Rattle.rules.proofs.Changes.{grantable-facts, short-place, valid-request, valid-arrival, arrival-track}
 use Rattle.rules.proofs.Changes.{asker-stands}
@@ -73,14 +73,15 @@ settled-gives table w d =
 declined-kept : (s : State) (m : Move) (w : Work) → KeptFrom s (w .state) → KeptFrom s (declined m w .state)
 declined-kept s m w h = by-cases (isAsked (trainOf (w .state) (m .train .0) .status)) (λ e. rw e h) (λ e. rw e h)
 
--- ---- an accepted frame
+-- ---- a new frame
 
 accepted-kept : (table : List ℕ) (s : State) → Consistent s → (a : Message) → Taken s a
-    → KeptFrom s (accepted table s a .state)
-unfolding accepted
+    → KeptFrom s (anew table s a .state)
+unfolding anew
 -- the asker stays where it is, on its track
-accepted-kept table s d a (request m n free idle) =
+accepted-kept table s d a (request m n free) =
     let t = m .train .0 in
+    let idle = free-idle (trainOf s t .status) free in
     let x = withStatus (trainOf s t) (Asked (s .logged)) in
     let w = taken s (Fa m) x in
     let g = settled-gives table w (valid-request s d t (n .known) (n .short) idle) in
@@ -123,4 +124,5 @@ pub track-kept : TrackKept
 track-kept s table journal frame out t p =
     by-verdict s table journal frame out (λ a. KeptFrom s (a .state))
     (λ n e u i held after. refl)
-    (λ q. accepted-kept table s (q .valid-state) (readFrame frame) (q .message)) t p
+    (λ q answers r u i held after. refl)
+    (λ q k room. accepted-kept table s (q .valid-state) (readFrame frame) k) t p

@@ -18,18 +18,20 @@ use Rattle.completion.specs.Table.{filled}
 use Rattle.rules.specs.declared.state.Status.the-variants.{Asked}
 use Rattle.rules.specs.State.{isAsked, trainOf, lineOf, nextMove, withStatus, arrivedNext, withPossession}
 use Rattle.rules.specs.Granting.{Work, begun, granted, settled, granting}
-use Rattle.rules.specs.Answer.{taken, declined, accepted, Answer, answer}
+use Rattle.rules.specs.Answer.{taken, declined, anew, Answer, answer}
 use Rattle.rules.specs.Opening.{openedState}
-use Rattle.rules.proofs.Trains.{changed-line}
+use Rattle.rules.proofs.Trains.{free-idle, changed-line}
 use Rattle.rules.proofs.Changes.{grantable-facts, short-place}
 use Rattle.rules.proofs.Oldest.{earlier}
 use Rattle.rules.proofs.Grants.{Turn, grants-keep, granted-place, granted-line}
-use Rattle.rules.proofs.Acceptance.{Taken, request, arrival, lending, return, by-verdict, accepted-facts}
+use Rattle.rules.proofs.Acceptance.{RoomLeft, Taken, request, arrival, lending, return, by-verdict, accepted-facts}
 use Rattle.assurance.specs.Types.{Line, Move, Message, Fa, Fe, Afe, Am, Le, Lb, Record, State}
 use Rattle.assurance.specs.Run.{Input, run}
 use Rattle.assurance.specs.Observer.{Observer, atOpening, noteFrame, noteAnswers, answersOf, observe}
+use Rattle.conduct.specs.Repeats.{repeatsTold}
 use Rattle.conduct.specs.Turns.{Turns, turnBy, turnIn, turnsFrom, turns, InTurn, TurnByTurn}
 use Rattle.assurance.proofs.Invariant.{Invariant}
+use Rattle.conduct.proofs.Repeats.{repeat-told, new-told}
 use Rattle.conduct.proofs.Order.{InOrder, no-more-asked, asks-last}
 use Rattle.assurance.proofs.Logging.{split-last}
 use Rattle.assurance.proofs.Steps.{request-kept, arrival-kept, return-kept}
@@ -100,7 +102,7 @@ module _ (table : List ℕ) (c : ℕ) (j : List Record) (o : Observer) (long : j
   settled-turned : (w : Work) → Turned w → Turned (settled table w)
   settled-turned w = grants-keep table Turned granted-turned (w .state .trains) w
 
--- what an accepted frame leaves
+-- what a new frame leaves
 record Kept (l : Line) (n : ℕ) (k : Turns) (o : Observer) (w : Work) : Type 0 where
   ordered : InOrder (w .state) n k
   given : GivenInTurn l k o (w .sent)
@@ -121,46 +123,46 @@ module _ (table : List ℕ) (s : State) (j : List Record) (o : Observer) (inv : 
   later : InOrder s (n + 1) k
   later = record { before = λ u ku e. omega (arith, h .before u ku e); order = h .order }
 
-  accepted-turned : (a : Message) → Taken s a
-      → Kept (lineOf s) (n + 1) (turnBy n k a) (noteFrame o a) (accepted table s a)
-  unfolding accepted noteAnswers recordOf
-  accepted-turned a (request m q free idle) =
+  accepted-turned : RoomLeft s → (a : Message) → Taken s a
+      → Kept (lineOf s) (n + 1) (turnBy n k a) (noteFrame o a) (anew table s a)
+  unfolding anew noteAnswers recordOf
+  accepted-turned room a (request m q free) =
       let t = m .train .0 in
       let x = withStatus (trainOf s t) (Asked (s .logged)) in
       let w = taken s (Fa m) x in
       declined-kept table (s .logged) j (noteFrame o (Fa m)) (inv .room) (lineOf s) (n + 1) (update k t n) m
       (settled table w)
       (settled-turned table (s .logged) j (noteFrame o (Fa m)) (inv .room) (lineOf s) (n + 1) (update k t n) w (record {
-        worked = begun-worked table (s .logged) j (noteFrame o (Fa m)) (inv .room) _ _ refl (q .space)
-            (request-kept table s j o inv m q idle);
+        worked = begun-worked table (s .logged) j (noteFrame o (Fa m)) (inv .room) _ _ refl room
+            (request-kept table s j o inv m q room (free-idle (trainOf s t .status) free));
         line = changed-line s t x (s .logged + 1) refl;
         ordered = asks-last s (inv .valid-state) t (s .logged + 1) n k (short-place s t (q .short)) h;
         given = given-none (lineOf s) (update k t n) (noteFrame o (Fa m));
       }))
-  accepted-turned a (arrival m q runs) =
+  accepted-turned room a (arrival m q runs) =
       let t = m .train .0 in
       let x = arrivedNext (s .sidings) (trainOf s t) in
       let w = taken s (Am m) x in
       let v =
       settled-turned table (s .logged) j (noteFrame o (Am m)) (inv .room) (lineOf s) (n + 1) k w (record {
-        worked = begun-worked table (s .logged) j (noteFrame o (Am m)) (inv .room) _ _ refl (q .space)
-            (arrival-kept table s j o inv m q runs);
+        worked = begun-worked table (s .logged) j (noteFrame o (Am m)) (inv .room) _ _ refl room
+            (arrival-kept table s j o inv m q room runs);
         line = changed-line s t x (s .logged + 1) refl;
         ordered = no-more-asked s t x (s .logged + 1) (n + 1) k (short-place s t (q .short)) refl later;
         given = given-none (lineOf s) k (noteFrame o (Am m));
       }) in
       record { ordered = v .ordered; given = v .given }
-  accepted-turned a (lending m q free few) = record {
+  accepted-turned room a (lending m q free few) = record {
     ordered = record { before = later .before; order = later .order };
     given = given-more (lineOf s) k o [] (Le m) (given-none (lineOf s) k o)
         (λ r z. absurd (not-fe (Le m) (λ u. refl) r z));
   }
-  accepted-turned a (return m q held) =
+  accepted-turned room a (return m q held) =
       let w = begun (withPossession s (m .from .0) false (s .given)) (recordOf (Lb m)) in
       let v =
       settled-turned table (s .logged) j (noteFrame o (Lb m)) (inv .room) (lineOf s) (n + 1) k w (record {
-        worked = begun-worked table (s .logged) j (noteFrame o (Lb m)) (inv .room) _ _ refl (q .space)
-            (return-kept table s j o inv m (q .on) (omega (arith, q .space)) held);
+        worked = begun-worked table (s .logged) j (noteFrame o (Lb m)) (inv .room) _ _ refl room
+            (return-kept table s j o inv m (q .on) (omega (arith, room)) held);
         line = refl;
         ordered = record { before = later .before; order = later .order };
         given = given-none (lineOf s) k (noteFrame o (Lb m));
@@ -170,28 +172,37 @@ module _ (table : List ℕ) (s : State) (j : List Record) (o : Observer) (inv : 
 -- ---- one frame of a list
 
 record Exchanges (s : State) (o : Observer) (n : ℕ) (k : Turns) (frame : List ℕ) (a : Answer) : Type 0 where
-  ordered : InOrder (a .state) (n + 1) (turnIn n k frame (a .verdict))
-  given : GivenInTurn (lineOf s) (turnIn n k frame (a .verdict)) (noteFrame o (readFrame frame))
+  ordered : InOrder (a .state) (n + 1) (turnIn n o k frame (a .verdict))
+  given : repeatsTold o (readFrame frame) ≡ false
+      → GivenInTurn (lineOf s) (turnIn n o k frame (a .verdict)) (noteFrame o (readFrame frame))
       (answersOf (a .verdict) (a .out))
 
 answer-turned : (table : List ℕ) (s : State) (j : List Record) (o : Observer) → Invariant table s j o → (n : ℕ)
     (k : Turns) → InOrder s n k → (frame out : List ℕ) → Exchanges s o n k frame (answer s table j frame out)
 answer-turned table s j o inv n k h frame out = by-verdict s table j frame out (Exchanges s o n k frame)
     (λ c e. record {
-      ordered = record { before = λ u ku e. omega (arith, h .before u ku e); order = h .order };
-      given = given-none (lineOf s) k (noteFrame o (readFrame frame));
+      ordered = later table s j o inv n k h;
+      given = λ new. given-none (lineOf s) k (noteFrame o (readFrame frame));
     })
-    (λ p.
-    let v = accepted-turned table s j o inv n k h (readFrame frame) (p .message) in
-    let facts = accepted-facts table s (inv .valid-state) (readFrame frame) (p .message) in
+    (λ p answers r.
+    let told = repeat-told table s j o inv (readFrame frame) answers r in
     record {
-      ordered = v .ordered;
-      given = rw (answers-back (accepted table s (readFrame frame) .sent) out (facts .messages)) (v .given);
+      ordered = rw told (later table s j o inv n k h);
+      given = λ new. clash (repeatsTold o (readFrame frame)) told new;
+    })
+    (λ p t room.
+    let v = accepted-turned table s j o inv n k h room (readFrame frame) t in
+    let facts = accepted-facts table s (inv .valid-state) (readFrame frame) t in
+    let fresh = new-told table s j o inv (readFrame frame) t in
+    record {
+      ordered = rw fresh (v .ordered);
+      given = rw (fresh, answers-back (anew table s (readFrame frame) .sent) out (facts .messages))
+          (λ new. v .given);
     })
 
 run-ordered : (table : List ℕ) (is : List Input) (s : State) (j : List Record) (o : Observer) → Settled table s j o
     → (n : ℕ) (k : Turns) → InOrder s n k
-    → let r = run table s j is in InOrder (r .state) (n + length is) (turnsFrom n k (r .exchanges))
+    → let r = run table s j is in InOrder (r .state) (n + length is) (turnsFrom n o k (r .exchanges))
 unfolding run turnsFrom
 run-ordered table [] s j o e n k h = record { before = λ u ku a. omega (arith, h .before u ku a); order = h .order }
 run-ordered table (i ∷ is) s j o e n k h =
@@ -223,8 +234,9 @@ turn-by-turn book table journal inputs e =
     let a = answer (r .state) (filled l table) (r .journal) (i .frame) (i .out) in
     subst
     (λ (z : Line).
-    GivenInTurn z (turnIn (length inputs) (turns (r .exchanges)) (i .frame) (a .verdict))
+    repeatsTold o (readFrame (i .frame)) ≡ false
+    → GivenInTurn z (turnIn (length inputs) o (turns l (r .exchanges)) (i .frame) (a .verdict))
     (noteFrame o (readFrame (i .frame))) (answersOf (a .verdict) (a .out)))
     (after .line ∙ opened-line book)
     (answer-turned (filled l table) (r .state) (r .journal) o (after .after .kept) (length inputs)
-    (turns (r .exchanges)) now (i .frame) (i .out) .given))
+    (turns l (r .exchanges)) now (i .frame) (i .out) .given))

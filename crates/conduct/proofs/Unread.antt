@@ -16,14 +16,15 @@ use Rattle.rules.specs.declared.state.Train.{Train}
 use Rattle.rules.specs.declared.state.Status.the-variants.{Asked}
 use Rattle.rules.specs.State.{isAsked, trainOf, withStatus, arrivedNext, stateWith, withPossession, oneLogged}
 use Rattle.rules.specs.Granting.{Work, begun, sends, grants, settled}
-use Rattle.rules.specs.Answer.{frameChecks, taken, declined, accepted, answered, refused, answer}
-use Rattle.rules.proofs.Trains.{changed, changed-other, changed-each}
+use Rattle.rules.specs.Answer.{again, frameChecks, taken, declined, anew, accepted, answered, refused, answer}
+use Rattle.rules.proofs.Trains.{free-idle, changed, changed-other, changed-each}
 use Rattle.rules.proofs.Validity.{Consistent}
 use Rattle.rules.proofs.Changes.{short-place, valid-request, valid-arrival}
 use Rattle.rules.proofs.Grants.{grants-keep, granted-place}
 use Rattle.rules.proofs.Settling.{settled-settles}
-use Rattle.rules.proofs.Acceptance.{NextMove, Taken, request, arrival, lending, return, frame-passed, by-verdict}
-use Rattle.rules.proofs.Acceptance.{return-begins}
+use Rattle.rules.proofs.Acceptance.{NextMove, Taken, request, arrival, lending, return, Repeats, declined-before}
+use Rattle.rules.proofs.Acceptance.{granted-before, arrived-before, Content, new, old, frame-passed, taken-new}
+use Rattle.rules.proofs.Acceptance.{repeats-again, accepted-again, accepted-anew, by-verdict, return-begins}
 use Rattle.assurance.specs.Types.{Line, Move, Message, Fa, Afe, Am, Lb, Record, State}
 use Rattle.conduct.specs.Unread.{Alike, SameAnswer, Unread, Kept, LeftAlone}
 use Rattle.conduct.proofs.Alike.{SameWork, refusal-same, changed-alike, possession-alike, logged-alike}
@@ -65,13 +66,13 @@ declined-same m w v k known = rw (k .state .train (m .train .0) known)
     }
 
 accepted-same : (table : List ℕ) (s u : State) → Alike s u → Consistent s → (b : Message) → Taken s b
-    → SameWork (accepted table s b) (accepted table u b)
-unfolding accepted
-accepted-same table s u a d b (request m n free idle) =
+    → SameWork (anew table s b) (anew table u b)
+unfolding anew
+accepted-same table s u a d b (request m n free) =
     let x = withStatus (trainOf s (m .train .0)) (Asked (s .logged)) in
     let y = withStatus (trainOf u (m .train .0)) (Asked (u .logged)) in
     let same : y ≡ x = rw (a .train (m .train .0) (n .known), a .logged) in
-    let v = valid-request s d (m .train .0) (n .known) (n .short) idle in
+    let v = valid-request s d (m .train .0) (n .known) (n .short) (free-idle (trainOf s (m .train .0) .status) free) in
     let line = settled-settles table (taken s (Fa m) x) .line in
     declined-same m _ _ (settled-same table _ _ v (taken-same s u a (Fa m) x y same (n .known) (n .short)))
     (rw (ap (λ (l : Line). l .trains) line) (n .known))
@@ -95,6 +96,36 @@ accepted-same table s u a d b (return m n held) =
       sent = refl;
     })
 
+-- what repeats an earlier frame in the one state does so in the other
+again-same : (s u : State) → Alike s u → (b : Message) → Content s b → again u b ≡ again s b
+again-same s u a b (new t room) = of t
+  where
+    of : {c : Message} → Taken s c → again u c ≡ again s c
+    of (request m n free) = rw (a .train (m .train .0) (n .known))
+    of (arrival m n runs) = rw (a .train (m .train .0) (n .known))
+    of (lending m n free few) = refl
+    of (return m n held) = refl
+again-same s u a b (old answers r) = of r
+  where
+    of : {c : Message} {l : List Message} → Repeats s c l → again u c ≡ again s c
+    of (declined-before m n asks) = rw (a .train (m .train .0) (n .known))
+    of (granted-before m n runs) = rw (a .train (m .train .0) (n .known))
+    of (arrived-before m known finished) = rw (a .train (m .train .0) known)
+
+content-same : (table : List ℕ) (s u : State) → Alike s u → Consistent s → (b : Message) → Content s b
+    → SameWork (accepted table s b) (accepted table u b)
+content-same table s u a d b c = of c
+  where
+    of : Content s b → SameWork (accepted table s b) (accepted table u b)
+    of (new t room) =
+        let fresh = taken-new s d b t in
+        rw (accepted-anew table s b fresh, accepted-anew table u b (again-same s u a b c ∙ fresh))
+        (accepted-same table s u a d b t)
+    of (old answers r) =
+        let told = repeats-again r in
+        rw (accepted-again table s b told, accepted-again table u b (again-same s u a b c ∙ told))
+        (record { state = a; logged = refl; sent = refl })
+
 answered-same : (s u : State) (journal : List Record) (out : List ℕ) (w v : Work) → Alike s u → SameWork w v
     → SameAnswer (answered (s .logged) journal out w) (answered (u .logged) journal out v)
 answered-same s u journal out w v a k = record {
@@ -113,7 +144,7 @@ unread s u table journal frame out a =
     (λ e.
     let p = frame-passed s table journal frame out e in
     rw e (answered-same s u journal out _ _ a
-    (accepted-same table s u a (p .valid-state) (readFrame frame) (p .message))))
+    (content-same table s u a (p .valid-state) (readFrame frame) (p .message))))
     (λ h.
     let positive : 0 < n = omega arith in
     rw (refuses _ (refused s journal out) positive, refuses _ (refused u journal out) positive)
@@ -187,9 +218,9 @@ own-kept : (s : State) (m : Move) → NextMove s m → (x : Train) → x .route 
 own-kept s m n x same =
     kept-changed s s (m .train .0) x _ (unchanged s) (n .known) (short-place s (m .train .0) (n .short)) same
 
-accepted-kept : (table : List ℕ) (s : State) (b : Message) → Taken s b → Kept s (accepted table s b .state)
-unfolding accepted
-accepted-kept table s b (request m n free idle) =
+accepted-kept : (table : List ℕ) (s : State) (b : Message) → Taken s b → Kept s (anew table s b .state)
+unfolding anew
+accepted-kept table s b (request m n free) =
     let w = taken s (Fa m) (withStatus (trainOf s (m .train .0)) (Asked (s .logged))) in
     declined-kept s m (settled table w)
     (settled-kept table s w (own-kept s m n _ refl))
@@ -205,4 +236,5 @@ accepted-kept table s b (return m n held) =
 pub left-alone : LeftAlone
 left-alone s table journal frame out = by-verdict s table journal frame out (λ a. Kept s (a .state))
     (λ n q. unchanged s)
-    (λ p. accepted-kept table s (readFrame frame) (p .message))
+    (λ p answers r. unchanged s)
+    (λ p t room. accepted-kept table s (readFrame frame) t)

@@ -5,6 +5,7 @@ pub mod LocalRuns
 pub mod Unread
 pub mod Replies
 pub mod Homecoming
+pub mod Repeats
 pub mod Waiting
 pub mod Arrival
 pub mod Turns

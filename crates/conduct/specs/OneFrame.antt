@@ -3,6 +3,7 @@
 use mathlib.Core.Path.{_≡_}
 use mathlib.Core.Logic.{_≢_}
 use mathlib.Core.Bool.{true, false}
+use mathlib.Core.Option.{none}
 use mathlib.Core.List.{List, _∷_, _++_}
 use Prim.Native.Nat.{ℕ, _≤_, _<_}
 use Rattle.line.specs.Route.{sectionOf}
@@ -15,7 +16,7 @@ use Rattle.rules.specs.State.{isAsked, askedAs, nextOf, trackAt, trainOf, lineO
 use Rattle.rules.specs.State.{reached, nextMove}
 use Rattle.rules.specs.Valid.{valid}
 use Rattle.rules.specs.Granting.{grantable, Work, granted, settled}
-use Rattle.rules.specs.Answer.{runsGranting, answer}
+use Rattle.rules.specs.Answer.{again, runsGranting, answer}
 use Rattle.assurance.specs.Types.{Message, Fe, Record, State, Sent, RefusedBy}
 
 -- a valid state stays valid
@@ -77,9 +78,9 @@ pub data Granting (table : List ℕ) : Work → Work → Type 0 where
 pub record ExactGrant : Type 0 where
   -- the granting of a frame is such a chain
   pub chain : (table : List ℕ) (w : Work) → valid (w .state) ≡ true → Granting table w (settled table w)
-  -- after an accepted frame that runs the granting none is left
+  -- after an accepted frame that runs the granting none is left. 02, card 6: a repeat runs none.
   pub none-left : (s : State) (table : List ℕ) (journal : List Record) (frame out : List ℕ) (n : ℕ)
-      → runsGranting (readFrame frame) ≡ true
+      → runsGranting (readFrame frame) ≡ true → again s (readFrame frame) ≡ none
       → answer s table journal frame out .verdict ≡ Sent n → NoneLeft table (answer s table journal frame out .state)
   -- and after any other frame none is left where none was before
   pub none-more : (s : State) (table : List ℕ) (journal : List Record) (frame out : List ℕ)

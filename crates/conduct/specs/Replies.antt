@@ -3,13 +3,15 @@
 use mathlib.Core.Path.{_≡_}
 use mathlib.Core.Logic.{_≢_, _⊎_}
 use mathlib.Core.Bool.{true}
+use mathlib.Core.Option.{none, some}
 use mathlib.Core.List.{List, [], _∷_, _++_, map, List·Memᴰ}
 use Prim.Native.Nat.{ℕ, _+_, _*_, _<_}
 use lib.ListN.{take, drop}
 use Rattle.frame.specs.Frame.{readFrame}
 use Rattle.journal.specs.Journal.{recordOf, withoutTrack, Tracked}
 use Rattle.rules.specs.State.{isAsked, trainOf, lineOf, nextMove}
-use Rattle.rules.specs.Answer.{Answer, answer}
+use Rattle.rules.specs.Answer.{again, Answer, answer}
+use Rattle.rules.specs.Repeats.{toldAgain}
 use Rattle.assurance.specs.Types.{Move, Message, Fa, Fe, Afe, Am, La, Le, Lb, Record, State, Verdict, Sent}
 use Rattle.assurance.specs.Types.{RefusedBy}
 use Rattle.assurance.specs.Run.{newRecords}
@@ -39,12 +41,13 @@ pub data Reply (s : State) : Message → List Message → Type 0 where
   lent : (m : Move) → Reply s (La m) (Le m ∷ [])
   returned : (m : Move) (answers : List Message) → Authorities s (Lb m) answers → Reply s (Lb m) answers
 
--- the records of one exchange, but for the tracks: "An accepted frame is logged, then each answer in order of sending."
+-- the records of one exchange that repeats none, but for the tracks: "An accepted frame is logged, then each answer in
+-- order of sending."
 abbrev pub loggedBy : Verdict → List ℕ → List ℕ → List Record
 loggedBy (RefusedBy n) frame out = []
 loggedBy (Sent n) frame out = map recordOf (readFrame frame ∷ readFrames n out)
 
--- the out buffer and the journal after an accepted frame with n answers
+-- the out buffer and the journal after an accepted frame, no repeat, with n answers
 pub record OnlyAdded (s : State) (journal : List Record) (frame out : List ℕ) (n : ℕ) (a : Answer) : Type 0 where
   -- "later bytes of the buffer are untouched"
   pub rest : drop (7 * n) (a .out) ≡ drop (7 * n) out
@@ -56,9 +59,15 @@ pub record OnlyAdded (s : State) (journal : List Record) (frame out : List ℕ) 
   pub tracked : (r : Record) → List·Memᴰ r (newRecords s a) → Tracked (lineOf s) r
 
 pub record Replies : Type 0 where
+  -- a frame that repeats none
   pub reply : (s : State) (table : List ℕ) (journal : List Record) (frame out : List ℕ) (n : ℕ)
       → let a = answer s table journal frame out in
-      a .verdict ≡ Sent n → Reply s (readFrame frame) (readFrames n (a .out))
+      a .verdict ≡ Sent n → again s (readFrame frame) ≡ none → Reply s (readFrame frame) (readFrames n (a .out))
   pub added : (s : State) (table : List ℕ) (journal : List Record) (frame out : List ℕ) (n : ℕ)
       → let a = answer s table journal frame out in
-      a .verdict ≡ Sent n → OnlyAdded s journal frame out n a
+      a .verdict ≡ Sent n → again s (readFrame frame) ≡ none → OnlyAdded s journal frame out n a
+  -- 02, card 6: a repeat is answered by its answers and leaves all else, whatever the table
+  pub repeated : (s : State) (table : List ℕ) (journal : List Record) (frame out : List ℕ) (n : ℕ)
+      (answers : List Message) → let a = answer s table journal frame out in
+      a .verdict ≡ Sent n → again s (readFrame frame) ≡ some answers
+      → (a ≡ toldAgain s journal out answers) × (readFrames n (a .out) ≡ answers)

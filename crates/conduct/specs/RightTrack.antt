@@ -1,7 +1,7 @@
 -- Which track an FE's record has, told by the tally: "An up train (end above start) gets the smallest unheld track, a
 -- down train the largest."
 use mathlib.Core.Path.{_≡_}
-use mathlib.Core.Bool.{Bool}
+use mathlib.Core.Bool.{Bool, false}
 use mathlib.Core.List.{List, _∷_, _++_}
 use Prim.Native.Nat.{ℕ, _+_}
 use lib.ListN.{length}
@@ -16,6 +16,7 @@ use Rattle.assurance.specs.Types.{Line, Move, Message, Fe, Record}
 use Rattle.assurance.specs.Run.{Input, newRecords, run, answerAfter}
 use Rattle.assurance.specs.Observer.{Observer, atOpening, noteFrame, noteAnswers, answersOf, observe, locatedTold}
 use Rattle.assurance.specs.Tracks.{Tracks, tracksAtOpening, trackFrame, trackRecords, observeTracks, trackTold}
+use Rattle.conduct.specs.Repeats.{repeatsTold}
 
 -- some train holds track j of post p
 abbrev pub heldTold : Line → Observer → Tracks → ℕ → ℕ → Bool
@@ -35,7 +36,8 @@ pub record OnTrack (l : Line) (o : Observer) (k : Tracks) (said : List Message) 
   pub size : length before ≡ 1 + length said
   pub split : records ≡ before ++ dueRecord l (noteAnswers o said) (trackRecords k before) m ∷ after
 
--- after every list, each FE in the answer to a further frame, with all that was said and logged before it heard
+-- after every list, each FE in the answer to a further frame that repeats none, with all that was said and logged
+-- before it heard. 02, card 6: a repeated FE has no record of its own.
 abbrev pub RightTrack : Type 0
 RightTrack = (book table : List ℕ) (journal : List Record) (inputs : List Input)
     → let o = opening book table journal in
@@ -45,7 +47,8 @@ RightTrack = (book table : List ℕ) (journal : List Record) (inputs : List Inpu
     let a = answerAfter (o .table) r (i .frame) (i .out) in
     let seen = observe (atOpening l) (r .exchanges) in
     let tracks = observeTracks l (atOpening l) (tracksAtOpening l) (r .exchanges) in
-    (said : List Message) (m : Move) (rest : List Message)
+    repeatsTold seen (readFrame (i .frame)) ≡ false
+    → (said : List Message) (m : Move) (rest : List Message)
     → answersOf (a .verdict) (a .out) ≡ said ++ Fe m ∷ rest
     → OnTrack l (noteFrame seen (readFrame (i .frame))) (trackFrame l seen tracks (readFrame (i .frame))) said m
     (newRecords (r .state) a)

@@ -2,6 +2,7 @@
 -- foresee turns by order of asking."
 use mathlib.Core.Path.{_≡_}
 use mathlib.Core.Logic.{_≢_}
+use mathlib.Core.Bool.{false, cond}
 use mathlib.Core.List.{List, [], _∷_, _++_}
 use Prim.Native.Nat.{ℕ, _+_, _<_}
 use lib.ListN.{length}
@@ -12,14 +13,15 @@ use Rattle.rules.specs.Opening.{opening}
 use Rattle.assurance.specs.Types.{Line, Move, Message, Fa, Fe, Afe, Am, La, Le, Lb, Refused, Record, Verdict}
 use Rattle.assurance.specs.Types.{Sent, RefusedBy}
 use Rattle.assurance.specs.Run.{Input, Exchange, run, answerAfter}
-use Rattle.assurance.specs.Observer.{Observer, atOpening, noteFrame, noteAnswers, answersOf, observe, nextTold}
+use Rattle.assurance.specs.Observer.{Observer, atOpening, noteFrame, noteAnswers, answersOf, note, observe, nextTold}
+use Rattle.conduct.specs.Repeats.{repeatsTold}
 use Rattle.conduct.specs.Waiting.{CouldGo}
 
--- by train: the number in the list of its last accepted FA
+-- by train: the number in the list of its last accepted FA that repeats none
 abbrev pub Turns : Type 0
 Turns = ℕ → ℕ
 
--- the accepted frame of number n
+-- the accepted frame of number n, which repeats none
 abbrev pub turnBy : ℕ → Turns → Message → Turns
 turnBy n k (Fa m) = update k (m .train .0) n
 turnBy n k (Fe m) = k
@@ -30,19 +32,19 @@ turnBy n k (Le m) = k
 turnBy n k (Lb m) = k
 turnBy n k (Refused c) = k
 
--- one exchange: a refused frame changes nothing
-abbrev pub turnIn : ℕ → Turns → List ℕ → Verdict → Turns
-turnIn n k frame (RefusedBy c) = k
-turnIn n k frame (Sent c) = turnBy n k (readFrame frame)
+-- one exchange: a refused frame changes nothing, nor does a repeat: a train that asks again keeps its turn
+abbrev pub turnIn : ℕ → Observer → Turns → List ℕ → Verdict → Turns
+turnIn n o k frame (RefusedBy c) = k
+turnIn n o k frame (Sent c) = cond (repeatsTold o (readFrame frame)) k (turnBy n k (readFrame frame))
 
 -- the exchanges from number n on
-unfoldable pub turnsFrom : ℕ → Turns → List Exchange → Turns
-turnsFrom n k [] = k
-turnsFrom n k (e ∷ es) = turnsFrom (n + 1) (turnIn n k (e .frame) (e .verdict)) es
+unfoldable pub turnsFrom : ℕ → Observer → Turns → List Exchange → Turns
+turnsFrom n o k [] = k
+turnsFrom n o k (e ∷ es) = turnsFrom (n + 1) (note o e) (turnIn n o k (e .frame) (e .verdict)) es
 
 -- a train that has not asked has 0, which nothing reads
-abbrev pub turns : List Exchange → Turns
-turns es = turnsFrom 0 (λ t. 0) es
+abbrev pub turns : Line → List Exchange → Turns
+turns l es = turnsFrom 0 (atOpening l) (λ t. 0) es
 
 -- the FE for the move m goes to a train that could go then, for its next section. Every other train that could go then
 -- asked after it: one that asked before it and still waits could not go.
@@ -52,7 +54,8 @@ pub record InTurn (l : Line) (k : Turns) (o : Observer) (m : Move) : Type 0 wher
   pub could : CouldGo l o (m .train .0)
   pub first : (t : ℕ) → t < l .trains → t ≢ m .train .0 → CouldGo l o t → k (m .train .0) < k t
 
--- after every list, each FE in the answer to a further frame, with all that was said before it heard
+-- after every list, each FE in the answer to a further frame that repeats none, with all that was said before it heard.
+-- By a repeat nobody gets an authority that did not have it (`RepeatsTold`).
 abbrev pub TurnByTurn : Type 0
 TurnByTurn = (book table : List ℕ) (journal : List Record) (inputs : List Input)
     → let o = opening book table journal in
@@ -60,7 +63,9 @@ TurnByTurn = (book table : List ℕ) (journal : List Record) (inputs : List Inpu
     → let l = lineIn book in
     let r = run (o .table) (o .state) journal inputs in
     let a = answerAfter (o .table) r (i .frame) (i .out) in
-    let heard = noteFrame (observe (atOpening l) (r .exchanges)) (readFrame (i .frame)) in
-    (said : List Message) (m : Move) (rest : List Message)
+    let seen = observe (atOpening l) (r .exchanges) in
+    repeatsTold seen (readFrame (i .frame)) ≡ false
+    → (said : List Message) (m : Move) (rest : List Message)
     → answersOf (a .verdict) (a .out) ≡ said ++ Fe m ∷ rest
-    → InTurn l (turnIn (length inputs) (turns (r .exchanges)) (i .frame) (a .verdict)) (noteAnswers heard said) m
+    → InTurn l (turnIn (length inputs) seen (turns l (r .exchanges)) (i .frame) (a .verdict))
+    (noteAnswers (noteFrame seen (readFrame (i .frame))) said) m

@@ -1,9 +1,9 @@
-// A state read from 56 bytes.
+// A state read from 74 bytes.
 ghost use mathlib.Core.Path.{_≡_};
 ghost use Prim.Native.Nat.{_+_, _≤_};
 ghost use lib.ListN.{length};
 ghost use Rattle.encoding.specs.StateBytes.{trainLength, stateLength};
-ghost use Rattle.encoding.specs.StateBytes.{statusOf, trainIn, tracksIn, fleetIn, possessionsIn, stateIn};
+ghost use Rattle.encoding.specs.StateBytes.{statusOf, lastIn, trainIn, tracksIn, fleetIn, possessionsIn, stateIn};
 use encoding::GIVEN_AT;
 use encoding::HEAD_LENGTH;
 use encoding::LOGGED_AT;
@@ -16,6 +16,7 @@ use encoding::TRAINS_AT;
 use line::PostNo;
 use line::Route;
 use line::TrackNo;
+use rules::Last;
 use rules::State;
 use rules::Status;
 use rules::Train;
@@ -85,6 +86,7 @@ fn train_in(bytes: &[u8], i: usize) -> Train
     ensures { λ r. ⌜ r ≡ trainIn (now (bytes .entry)) i ⌝ }
 {
     let status = status_of(bytes[i + 4], bytes[i + 5]);
+    let last = last_of(bytes[i + 6], bytes[i + 7], bytes[i + 8]);
     Train {
         route: Route {
             start: PostNo(bytes[i]),
@@ -93,6 +95,7 @@ fn train_in(bytes: &[u8], i: usize) -> Train
         at: PostNo(bytes[i + 2]),
         track: TrackNo(bytes[i + 3]),
         status,
+        last,
     }
 }
 
@@ -103,5 +106,14 @@ fn status_of(status: u8, detail: u8) -> Status
         0 => Status::Free,
         1 => Status::Asked(detail),
         2..=255 => Status::Running(TrackNo(detail)),
+    }
+}
+
+fn last_of(last: u8, from: u8, to: u8) -> Last
+    ensures { λ r. ⌜ r ≡ lastIn last from to ⌝ }
+{
+    match last {
+        0 => Last::Nothing,
+        1..=255 => Last::Done(PostNo(from), PostNo(to)),
     }
 }

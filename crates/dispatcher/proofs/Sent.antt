@@ -9,9 +9,11 @@ use lib.ListN.{length, getD, take, drop, length-append, length-drop}
 use lib.Seq.{take-suc, length-take-le, getD-drop, take-append-seam, drop-append-add, drop-drop}
 use Rattle.common.specs.Part.{replaced, replacedIfRoom}
 use Rattle.common.proofs.Part.{length-replaced, replaced-if, replaced-none}
+use Rattle.frame.specs.Frame.{bytesOf}
 use Rattle.journal.specs.Journal.{blank, frameOf}
-use Rattle.dispatcher.specs.Types.{Record}
-use Rattle.rules.specs.Answer.{outLength}
+use Rattle.dispatcher.specs.Types.{Message, Record}
+use Rattle.rules.specs.Answer.{outLength, framesOf}
+use Rattle.rules.proofs.Frames.{bytes-length}
 use Rattle.dispatcher.specs.Step.{framesIn}
 
 frames-size : (l : List Record) → length (framesIn l) ≡ 7 * length l
@@ -96,3 +98,23 @@ module _ (o : List ℕ) (items : List Record) (out : List ℕ) (k : ℕ) (w : Wr
 
   pub written-all : (n : ℕ) → k ≡ n → out ≡ replaced o 0 (framesIn (take n answers))
   written-all n e = w .written ∙ ap (λ (m : ℕ). replaced o 0 (framesIn (take m answers))) e
+
+-- ---- a repeat's answer
+
+-- one frame at the beginning of the buffer
+pub sent-first : (o : List ℕ) (a : Message) → outLength ≤ length o → (bytes : List ℕ) → bytes ≡ bytesOf a
+    → (after : List ℕ) → after ≡ replacedIfRoom o 0 bytes → after ≡ replaced o 0 (bytesOf a)
+sent-first o a room bytes e after placed =
+    let size = bytes-length a in
+    placed ∙ rw e (sym (replaced-if o 0 (bytesOf a) (omega arith)))
+
+-- the messages l, of which there is none or one
+pub sent-none : (o : List ℕ) (l : List Message) → l ≡ []
+    → (0 ≡ length l) × (o ≡ replaced o 0 (framesOf l))
+unfolding framesOf
+sent-none o l e = rw e (refl, sym (replaced-none o 0))
+
+pub sent-one : (o : List ℕ) (l : List Message) (a : Message) → l ≡ a ∷ [] → (k : ℕ) (after : List ℕ)
+    → (k ≡ 1) × (after ≡ replaced o 0 (bytesOf a)) → (k ≡ length l) × (after ≡ replaced o 0 (framesOf l))
+unfolding framesOf
+sent-one o l a e k after placed = rw (e, append-nil (bytesOf a)) placed

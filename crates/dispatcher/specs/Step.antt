@@ -7,7 +7,8 @@ use lib.ListN.{length, take, drop}
 use Rattle.common.specs.Check.{refusal, unlessRefused}
 use Rattle.frame.specs.Frame.{readFrame}
 use Rattle.journal.specs.Journal.{frameOf, emptyBatch, appended}
-use Rattle.dispatcher.specs.Types.{Record, Batch, State, Verdict, Sent, RefusedBy, Outcome}
+use Rattle.dispatcher.specs.Types.{Message, Record, Batch, State, Verdict, Sent, RefusedBy, Repeat, Not, Silent}
+use Rattle.dispatcher.specs.Types.{Told, Outcome}
 use Rattle.authority.specs.Progress.{batchOf}
 use Rattle.rules.specs.Answer.{frameChecks, accepted, answerOf, answer}
 
@@ -21,6 +22,12 @@ framesIn (r ∷ l) = frameOf r ++ framesIn l
 -- of the first n items the answers: all but the first, which is the frame's own
 abbrev pub answersIn : List Record → ℕ → List Record
 answersIn items n = take (n - 1) (drop 1 items)
+
+-- the messages by which a repeat is answered
+abbrev pub messagesOf : Repeat → List Message
+messagesOf Not = []
+messagesOf Silent = []
+messagesOf (Told a) = a ∷ []
 
 -- ---- the outcome
 

@@ -7,4 +7,6 @@ pub use Rattle.rules.specs.declared.state.State.{State}
 pub use Rattle.rules.specs.declared.result.Verdict.{Verdict}
 pub use Rattle.rules.specs.declared.result.Verdict.the-variants.{Sent, Refused as RefusedBy}
 pub use Rattle.authority.specs.declared.granting.Progress.{Progress}
+pub use Rattle.accepting.specs.declared.repeats.Repeat.{Repeat}
+pub use Rattle.accepting.specs.declared.repeats.Repeat.the-variants.{Not, Silent, Told}
 pub use Rattle.dispatcher.specs.declared.stepping.Outcome.{Outcome}

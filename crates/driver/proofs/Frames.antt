@@ -15,8 +15,8 @@ use Rattle.frame.specs.RoundTrip.{IsMessage}
 use Rattle.frame.proofs.Outcome.{read-passed, read-refused}
 use Rattle.driver.specs.Types.{Move, Message, Fa, Fe, Afe, Am, La, Le, Lb, Refused, Phase, Asked}
 use Rattle.driver.specs.Types.{Declined, Granted, Unit}
-use Rattle.driver.specs.State.{samePhase, ownMove, inPhase, validUnit}
-use Rattle.driver.specs.Hearing.{forTrain, forMove, awaiting, forUnit, awaited, hearChecks, phaseAfter, heardWith}
+use Rattle.driver.specs.State.{samePhase, awaiting, ownMove, inPhase, validUnit}
+use Rattle.driver.specs.Hearing.{forTrain, forMove, forUnit, awaited, hearChecks, phaseAfter, heardWith}
 use Rattle.driver.specs.Hearing.{hearFrame}
 
 -- the tests of a move against the unit's own

@@ -6,34 +6,50 @@ use mathlib.Core.Bool.{true, _&&_, false≢true}
 use mathlib.Core.List.{List}
 use Prim.Native.Nat.{ℕ, zero, suc}
 use lib.Dec.{eqb}
-use borrow.Author.Tests.{eqb-true, eqb-false, not-true}
+use borrow.Author.Tests.{eqb-true, eqb-false}
 use Rattle.common.specs.Check.{refusal, unlessRefused}
 use Rattle.common.proofs.Tests.{by-cases, not-passed, and-left, and-right}
 use Rattle.common.proofs.Check.{passed-by}
 use Rattle.line.specs.Refusal.{wrongEnd, atItsEnd, notNow, notAwaited}
 use Rattle.frame.specs.Frame.{moveOf, readFrame}
 use Rattle.driver.specs.Types.{Move, Message, Fa, Fe, Afe, Am, La, Le, Lb, Refused, Button, Unit, Pressed}
-use Rattle.driver.specs.Types.{Heard, Asked, Declined, Granted}
-use Rattle.driver.specs.State.{samePhase, ownMove, inPhase}
-use Rattle.driver.specs.Pressing.{phaseFor, pressChecks, silent, carriedOut, pressButton}
-use Rattle.driver.specs.Hearing.{forTrain, forMove, awaiting, forUnit, awaited, hearChecks, phaseAfter, heardWith}
+use Rattle.driver.specs.Types.{Heard, Again, Phase, Standing, Asked, Declined, Granted, UnderWay, Arrived}
+use Rattle.driver.specs.State.{samePhase, awaiting, ownMove, pastStart, inPhase}
+use Rattle.driver.specs.Pressing.{mayPress, endPermits, pressChecks, silent, carriedOut, pressButton}
+use Rattle.driver.specs.Hearing.{forTrain, forMove, forUnit, awaited, hearChecks, phaseAfter, heardWith}
 use Rattle.driver.specs.Hearing.{hearFrame}
 use Rattle.driver.specs.History.{other, acceptedEvent}
 use Rattle.driver.proofs.Phases.{same-phase}
 
 pub data PressOutcome (u : Unit) (b : Button) : Pressed → Type 0 where
   refused : (n : ℕ) → PressOutcome u b (silent u (suc n))
-  accepted : u .phase ≡ phaseFor b → u .at .0 ≢ u .route .end .0 → PressOutcome u b (carriedOut u b)
+  accepted : mayPress u b ≡ true → endPermits u b ≡ true → PressOutcome u b (carriedOut u b)
 
 pub press-outcome : (u : Unit) (b : Button) → PressOutcome u b (pressButton u b)
 unfolding pressButton unlessRefused
 press-outcome u b = at (refusal (pressChecks u b)) refl
   where
     at : (n : ℕ) → refusal (pressChecks u b) ≡ n → PressOutcome u b (unlessRefused n (carriedOut u b) (silent u))
-    at zero e =
-        let passed = passed-by (pressChecks u b) refl e in
-        accepted (same-phase (u .phase) (phaseFor b) (passed notNow)) (eqb-false _ _ (not-true _ (passed atItsEnd)))
+    at zero e = let passed = passed-by (pressChecks u b) refl e in accepted (passed notNow) (passed atItsEnd)
     at (suc n) e = refused n
+
+-- where Again may be pressed: an FA is still unanswered or declined, or a move was made and none is asked for
+pub data MayRepeat (u : Unit) : Type 0 where
+  asked : u .phase ≡ Asked → MayRepeat u
+  declined : u .phase ≡ Declined → MayRepeat u
+  past-start : u .phase ≡ Standing → pastStart u ≡ true → MayRepeat u
+
+pub may-repeat : (u : Unit) → mayPress u Again ≡ true → MayRepeat u
+unfolding samePhase
+may-repeat u h = at (u .phase) refl
+  where
+    at : (p : Phase) → u .phase ≡ p → MayRepeat u
+    at Standing e = past-start e (rw e at h)
+    at Asked e = asked e
+    at Declined e = declined e
+    at Granted e = absurd (false≢true (rw e at h))
+    at UnderWay e = absurd (false≢true (rw e at h))
+    at Arrived e = absurd (false≢true (rw e at h))
 
 -- an FE or another message that is passed over, or the FE or AFE for the unit's own move when it waits for one
 pub data HearOutcome (u : Unit) (f : List ℕ) : Heard → Type 0 where

@@ -4,8 +4,7 @@ use mathlib.Core.Bool.{true, false, false≢true}
 use Prim.Native.Nat.{ℕ, zero, suc}
 use borrow.Author.Tests.{eqb-true}
 use Rattle.driver.specs.Types.{Phase, Standing, Asked, Declined, Granted, UnderWay, Arrived}
-use Rattle.driver.specs.State.{phaseNo, samePhase}
-use Rattle.driver.specs.Hearing.{awaiting}
+use Rattle.driver.specs.State.{phaseNo, samePhase, awaiting}
 
 -- the phase of a number
 phaseOf : ℕ → Phase

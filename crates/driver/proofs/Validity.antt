@@ -2,18 +2,19 @@
 -- proved.
 use mathlib.Core.Path.{_≡_, refl, sym, ap, _∙_}
 use mathlib.Core.Logic.{_≢_}
-use mathlib.Core.Bool.{true, false, false≢true}
+use mathlib.Core.Bool.{true, false, not, false≢true}
 use mathlib.Core.List.{List}
 use Prim.Native.Nat.{ℕ}
 use native.Mathlib.Omega.{arith}
-use borrow.Author.Tests.{eq-eqb, ne-eqb}
+use borrow.Author.Tests.{eq-eqb, ne-eqb, eqb-false, not-true}
 use Rattle.common.proofs.Tests.{by-cases, by-equality, and-left, and-right}
-use Rattle.line.proofs.Travel.{between-of, of-between, start-between, next-between}
+use Rattle.line.proofs.Travel.{between-of, of-between, start-between, next-between, next-past, next-back}
 use Rattle.driver.specs.Types.{Phase, Standing, Asked, Declined, Granted, UnderWay, Arrived, Button, Ask, Depart}
-use Rattle.driver.specs.Types.{Reached, Report, Unit, Made, Pressed, Heard}
-use Rattle.driver.specs.State.{samePhase, numbersFit, inRanges, onRoute, inPhase, validUnit}
+use Rattle.driver.specs.Types.{Reached, Report, Again, Unit, Made, Pressed, Heard}
+use Rattle.driver.specs.State.{samePhase, numbersFit, ended, ownMove, pastStart, lastMove, inRanges, onRoute}
+use Rattle.driver.specs.State.{inPhase, validUnit}
 use Rattle.driver.specs.Making.{standingUnit, emptyUnit, made, makeUnit}
-use Rattle.driver.specs.Pressing.{movedOn, carriedOut}
+use Rattle.driver.specs.Pressing.{endPermits, movedOn, carriedOut}
 use Rattle.driver.specs.Validity.{Validity}
 use Rattle.driver.proofs.Numbers.{makes, makes-none}
 use Rattle.driver.proofs.Phases.{awaiting-not-standing}
@@ -72,6 +73,13 @@ module _ (u : Unit) (good : validUnit u ≡ true) where
         let between = next-between _ _ _ (between-of _ _ _ on-route) short in
         standing-valid (movedOn u) fits (of-between _ _ _ between) refl
 
+    -- it is past its start then, and its last move is the one that was its own
+    pub moved-on-past : pastStart (movedOn u) ≡ true
+    moved-on-past = rw (ne-eqb _ _ (next-past _ _ _ (between-of _ _ _ on-route) short))
+
+    pub moved-on-last : lastMove (movedOn u) ≡ ownMove u
+    moved-on-last = outcomes.same-move refl (next-back _ _ _ (between-of _ _ _ on-route) short) refl
+
 -- ---- a unit that is made
 
 pub fits-made : (t a e : ℕ) → makeUnit t a e .refusal ≡ 0 → numbersFit t a e ≡ true
@@ -87,13 +95,18 @@ standing-unit-valid t a e h = standing-valid (standingUnit t a e) h (of-between 
 
 -- ---- after a press and after a frame
 
+-- where the end permits a button of a move, the unit is short of it
+pub short : (u : Unit) → not (ended u) ≡ true → u .at .0 ≢ u .route .end .0
+short u h = eqb-false _ _ (not-true _ h)
+
 module _ (u : Unit) (good : validUnit u ≡ true) where
-  pub carried-out-valid : (b : Button) → u .at .0 ≢ u .route .end .0 → validUnit (carriedOut u b .unit) ≡ true
+  pub carried-out-valid : (b : Button) → endPermits u b ≡ true → validUnit (carriedOut u b .unit) ≡ true
   unfolding carriedOut
-  carried-out-valid Ask h = valid-in-phase u good h Asked
-  carried-out-valid Depart h = valid-in-phase u good h UnderWay
-  carried-out-valid Reached h = valid-in-phase u good h Arrived
-  carried-out-valid Report h = valid-moved-on u good h
+  carried-out-valid Ask h = valid-in-phase u good (short u h) Asked
+  carried-out-valid Depart h = valid-in-phase u good (short u h) UnderWay
+  carried-out-valid Reached h = valid-in-phase u good (short u h) Arrived
+  carried-out-valid Report h = valid-moved-on u good (short u h)
+  carried-out-valid Again h = good
 
   pressed-valid : {b : Button} {r : Pressed} → outcomes.PressOutcome u b r → validUnit (r .unit) ≡ true
   pressed-valid (outcomes.refused n) = good
@@ -116,6 +129,7 @@ no-refusal u Ask = refl
 no-refusal u Depart = refl
 no-refusal u Reached = refl
 no-refusal u Report = refl
+no-refusal u Again = refl
 
 press-refused : {u : Unit} {b : Button} {r : Pressed} → outcomes.PressOutcome u b r → r .refusal ≢ 0 → r .unit ≡ u
 press-refused (outcomes.refused n) h = refl
@@ -128,6 +142,13 @@ hearing-refused (outcomes.granted m e o k) h = absurd (h refl)
 hearing-refused (outcomes.passed-over x e k) h = refl
 hearing-refused (outcomes.declined m e k) h = absurd (h refl)
 
+-- ---- after Again
+
+again-unchanged : {u : Unit} {r : Pressed} → outcomes.PressOutcome u Again r → r .unit ≡ u
+unfolding carriedOut
+again-unchanged (outcomes.refused n) = refl
+again-unchanged (outcomes.accepted e k) = refl
+
 pub validity : Validity
 unfolding validUnit numbersFit
 validity = record {
@@ -139,4 +160,5 @@ validity = record {
   heard = λ u f good. heard-valid u good (outcomes.hear-outcome u f);
   press-refused = λ u b. press-refused (outcomes.press-outcome u b);
   hearing-refused = λ u f. hearing-refused (outcomes.hear-outcome u f);
+  again = λ u. again-unchanged (outcomes.press-outcome u Again);
 }

@@ -6,9 +6,9 @@ use lib.Dec.{eqb}
 use Rattle.common.specs.Check.{Check, check, refusal, unlessRefused}
 use Rattle.line.specs.Refusal.{strangeState, wrongEnd, notAwaited}
 use Rattle.frame.specs.Frame.{readChecks, readFrame}
-use Rattle.driver.specs.Types.{Move, Message, Fa, Fe, Afe, Am, La, Le, Lb, Refused, Unit, Heard, Phase, Standing}
-use Rattle.driver.specs.Types.{Asked, Declined, Granted, UnderWay, Arrived}
-use Rattle.driver.specs.State.{samePhase, ownMove, inPhase, validUnit}
+use Rattle.driver.specs.Types.{Move, Message, Fa, Fe, Afe, Am, La, Le, Lb, Refused, Unit, Heard, Phase, Asked}
+use Rattle.driver.specs.Types.{Declined, Granted}
+use Rattle.driver.specs.State.{samePhase, awaiting, ownMove, inPhase, validUnit}
 
 -- "for its own train"
 abbrev pub forTrain : Unit → Move → Bool
@@ -18,15 +18,6 @@ forTrain u m = eqb (m .train .0) (u .train .0)
 -- Standing and awaits nothing.
 unfoldable pub forMove : Unit → Move → Bool
 forMove u m = forTrain u m && (eqb (m .from .0) (ownMove u .from .0) && eqb (m .to .0) (ownMove u .to .0))
-
--- it has asked and has no authority yet
-abbrev pub awaiting : Phase → Bool
-awaiting Standing = false
-awaiting Asked = true
-awaiting Declined = true
-awaiting Granted = false
-awaiting UnderWay = false
-awaiting Arrived = false
 
 -- "FA, AM at a unit" are 6. 02, card 4: "Kinds 5, 6 and 7 are known now, and heard by a unit change nothing.": none of
 -- them is refused, in any phase, whatever train and posts it names.

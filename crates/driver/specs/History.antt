@@ -10,7 +10,7 @@ use Rattle.line.specs.Route.{nextPost}
 use Rattle.frame.specs.Frame.{moveOf, readFrame}
 use Rattle.driver.specs.Types.{Move, Message, Fa, Fe, Afe, Am, La, Le, Lb, Refused, Button, Unit, Pressed, Heard}
 use Rattle.driver.specs.Making.{makeUnit}
-use Rattle.driver.specs.Pressing.{pressButton}
+use Rattle.driver.specs.Pressing.{isAgain, pressButton}
 use Rattle.driver.specs.Hearing.{hearFrame}
 
 -- ---- what goes in and what comes out
@@ -46,14 +46,17 @@ cabRun u (i ∷ is) = let rest = cabRun (after u i) is in cabExchange u i ∷ re
 
 -- ---- what an exchange says
 
--- FA sent for a move; FE heard for it, and accepted; AM sent for it; anything else
+-- FA sent for a move; FE heard for it, and accepted; AM sent for it; the FA or AM sent for it again, by a press of
+-- Again; anything else. Below, FA and AM are those of Ask and Report, and what Again sends is called repeated.
 pub data Event : Type 0 where
   fa : Move → Event
   fe : Move → Event
   am : Move → Event
+  fa-again : Move → Event
+  am-again : Move → Event
   other : Event
 
--- a press, by the frame that it sent
+-- a press of a button of a move, by the frame that it sent
 abbrev pub sentEvent : Message → Event
 sentEvent (Fa m) = fa m
 sentEvent (Fe m) = other
@@ -63,6 +66,17 @@ sentEvent (La m) = other
 sentEvent (Le m) = other
 sentEvent (Lb m) = other
 sentEvent (Refused n) = other
+
+-- a press of Again, by the frame that it sent
+abbrev pub repeatedEvent : Message → Event
+repeatedEvent (Fa m) = fa-again m
+repeatedEvent (Fe m) = other
+repeatedEvent (Afe m) = other
+repeatedEvent (Am m) = am-again m
+repeatedEvent (La m) = other
+repeatedEvent (Le m) = other
+repeatedEvent (Lb m) = other
+repeatedEvent (Refused n) = other
 
 -- a frame that was accepted
 abbrev pub acceptedEvent : Message → Event
@@ -77,7 +91,7 @@ acceptedEvent (Refused n) = other
 
 -- by the button and what the bytes sent read as, or by the frame that was heard and the number of its refusal or 0
 abbrev pub eventBy : CabInput → ℕ → Message → Event
-eventBy (press b) n a = sentEvent a
+eventBy (press b) n a = cond (isAgain b) (repeatedEvent a) (sentEvent a)
 eventBy (frame f) zero a = acceptedEvent (readFrame f)
 eventBy (frame f) (suc n) a = other
 
@@ -86,10 +100,20 @@ eventOf x = eventBy (x .input) (x .refusal) (readFrame (x .sent))
 
 -- ---- what the events so far say
 
+abbrev pub isFa : Event → Bool
+isFa (fa m) = true
+isFa (fe m) = false
+isFa (am m) = false
+isFa (fa-again m) = false
+isFa (am-again m) = false
+isFa other = false
+
 abbrev pub isAm : Event → Bool
 isAm (fa m) = false
 isAm (fe m) = false
 isAm (am m) = true
+isAm (fa-again m) = false
+isAm (am-again m) = false
 isAm other = false
 
 -- an FE for this train
@@ -97,6 +121,8 @@ abbrev pub isFe : ℕ → Event → Bool
 isFe t (fa m) = false
 isFe t (fe m) = eqb (m .train .0) t
 isFe t (am m) = false
+isFe t (fa-again m) = false
+isFe t (am-again m) = false
 isFe t other = false
 
 unfoldable pub some : (Event → Bool) → List Event → Bool
@@ -108,6 +134,8 @@ abbrev pub reported : ℕ → Event → ℕ
 reported p (fa m) = p
 reported p (fe m) = p
 reported p (am m) = m .to .0
+reported p (fa-again m) = p
+reported p (am-again m) = p
 reported p other = p
 
 -- the post of the last AM, or p where there was none
@@ -137,6 +165,14 @@ pub record Authorised (train : ℕ) (past : List Event) (m : Move) : Type 0 wher
   pub requested : Outstanding train before m
   pub no-am : some isAm since ≡ false
 
+-- AM was sent for m, and since then no other and no FA: m is the last move reported, and none was asked for after it
+pub record Reported (past : List Event) (m : Move) : Type 0 where
+  pub before : List Event
+  pub since : List Event
+  pub parts : past ≡ before ++ (am m ∷ since)
+  pub no-am : some isAm since ≡ false
+  pub no-fa : some isFa since ≡ false
+
 -- ---- the claim
 
 pub record Orderly (train start end : ℕ) (events : List Event) : Type 0 where
@@ -155,6 +191,12 @@ pub record Orderly (train start end : ℕ) (events : List Event) : Type 0 where
       → events ≡ past ++ (fa m ∷ later) → OnwardMove train end (place start past) m
   pub am-onward : (past later : List Event) (m : Move)
       → events ≡ past ++ (am m ∷ later) → OnwardMove train end (place start past) m
+  -- 02, card 6: FA is repeated only while its authority is outstanding, for the move that was asked for
+  pub fa-repeated : (past later : List Event) (m : Move)
+      → events ≡ past ++ (fa-again m ∷ later) → Outstanding train past m
+  -- AM is repeated only for the last move that was reported, before the next request
+  pub am-repeated : (past later : List Event) (m : Move)
+      → events ≡ past ++ (am-again m ∷ later) → Reported past m
 
 -- for every unit that is made, and every list
 abbrev pub History : Type 0

@@ -1,5 +1,6 @@
--- The unit's state: its present and next post, its own move, its phases, and when it is valid (01: sound).
-use mathlib.Core.Bool.{Bool, not, _&&_, _||_}
+-- The unit's state: its present and next post, its own move and its last one, its phases, and when it is valid (01:
+-- sound).
+use mathlib.Core.Bool.{Bool, true, false, not, _&&_, _||_}
 use Prim.Native.Nat.{ℕ}
 use lib.Dec.{eqb, leb}
 use Rattle.line.specs.Route.{nextPost, between}
@@ -18,6 +19,15 @@ phaseNo Arrived = 5
 unfoldable pub samePhase : Phase → Phase → Bool
 samePhase p q = eqb (phaseNo p) (phaseNo q)
 
+-- it has asked and has no authority yet
+abbrev pub awaiting : Phase → Bool
+awaiting Standing = false
+awaiting Asked = true
+awaiting Declined = true
+awaiting Granted = false
+awaiting UnderWay = false
+awaiting Arrived = false
+
 -- "train (0 to 5), start and end (0 to 7)"
 unfoldable pub numbersFit : ℕ → ℕ → ℕ → Bool
 numbersFit train start end = leb train 5 && (leb start 7 && leb end 7)
@@ -29,6 +39,15 @@ ended u = eqb (u .at .0) (u .route .end .0)
 -- the move of the unit's own train from its present to its next post
 abbrev pub ownMove : Unit → Move
 ownMove u = moveOf (u .train .0) (u .at .0) (nextPost (u .at .0) (u .route .end .0))
+
+-- "past the start": the present post is not the start
+abbrev pub pastStart : Unit → Bool
+pastStart u = not (eqb (u .at .0) (u .route .start .0))
+
+-- 02, card 6: "the last move": that of the unit's own train to its present post, from the post before that, seen from
+-- the start. At the start there is none.
+abbrev pub lastMove : Unit → Move
+lastMove u = moveOf (u .train .0) (nextPost (u .at .0) (u .route .start .0)) (u .at .0)
 
 -- "train and posts are in range", "the present post lies between start and end"
 abbrev pub inRanges : Unit → Bool

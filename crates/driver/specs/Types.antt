@@ -7,7 +7,7 @@ pub use Rattle.driver.specs.declared.state.Phase.{Phase}
 pub use Rattle.driver.specs.declared.state.Phase.the-variants.{Standing, Asked, Declined}
 pub use Rattle.driver.specs.declared.state.Phase.the-variants.{Granted, UnderWay, Arrived}
 pub use Rattle.driver.specs.declared.state.Button.{Button}
-pub use Rattle.driver.specs.declared.state.Button.the-variants.{Ask, Depart, Reached, Report}
+pub use Rattle.driver.specs.declared.state.Button.the-variants.{Ask, Depart, Reached, Report, Again}
 pub use Rattle.driver.specs.declared.state.Unit.{Unit}
 pub use Rattle.driver.specs.declared.result.Made.{Made}
 pub use Rattle.driver.specs.declared.result.Pressed.{Pressed}

@@ -1,10 +1,10 @@
--- The claims on unit states: which are valid (01: sound), and what a refusal leaves.
+-- The claims on unit states: which are valid (01: sound), and what a refusal and Again leave.
 use mathlib.Core.Path.{_≡_}
 use mathlib.Core.Logic.{_≢_}
 use mathlib.Core.Bool.{true, false}
 use mathlib.Core.List.{List}
 use Prim.Native.Nat.{ℕ}
-use Rattle.driver.specs.Types.{Unit, Button}
+use Rattle.driver.specs.Types.{Unit, Button, Again}
 use Rattle.driver.specs.State.{validUnit}
 use Rattle.driver.specs.Making.{makeUnit}
 use Rattle.driver.specs.Pressing.{pressButton}
@@ -20,3 +20,5 @@ pub record Validity : Type 0 where
   -- "A refusal returns its number and the state unchanged"
   pub press-refused : (u : Unit) (b : Button) → pressButton u b .refusal ≢ 0 → pressButton u b .unit ≡ u
   pub hearing-refused : (u : Unit) (f : List ℕ) → hearFrame u f .refusal ≢ 0 → hearFrame u f .unit ≡ u
+  -- 02, card 6: "A new press, Again, changes no state"
+  pub again : (u : Unit) → pressButton u Again .unit ≡ u

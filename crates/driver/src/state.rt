@@ -25,6 +25,8 @@ pub enum Button {
     Depart,
     Reached,
     Report,
+    // The FA or the AM once more.
+    Again,
 }
 
 // `at` is the present post: it moves with the report of an arrival, not with the arrival.

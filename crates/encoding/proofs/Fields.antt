@@ -157,7 +157,9 @@ module _ (s : State) (shaped : Shaped s) where
 
   pub at-standing : (t : ℕ) → t < 6 → At (stateBytes s) (trainAt t + routeLength) (standingBytes (trainOf s t))
   at-standing t h =
-      within (at-train t h) (bytes-at {n = routeLength} (refl, (refl, (refl, (refl, tt))))) (omega arith) (omega arith)
+      within (at-train t h)
+      (bytes-at {n = routeLength} (refl, (refl, (refl, (refl, (refl, (refl, (refl, tt))))))))
+      (omega arith) (omega arith)
 
   pub at-ending : At (stateBytes s) possessionsAt (endingBytes s)
   at-ending = state-laid .ends .0

@@ -10,7 +10,7 @@ use lib.Dec.{eqb, leb}
 use lib.ListN.{List·getD-map}
 use borrow.Author.Tests.{eqb-true, leb-true}
 use Rattle.common.specs.Below.{ofBool}
-use Rattle.common.proofs.Tests.{and-left}
+use Rattle.common.proofs.Tests.{and-left, and-right}
 use Rattle.common.proofs.Below.{all-below}
 use Rattle.common.proofs.Tabulate.{length-tabulate, at-tabulate}
 use Rattle.line.specs.Line.{routeOf}
@@ -19,9 +19,10 @@ use Rattle.rules.specs.State.{noTrain, trainOf, lineOf}
 use Rattle.encoding.specs.Types.{Route, Line, Train, State}
 use Rattle.encoding.specs.Parts.{each, headParts, headBytes, tracksByte, headLength}
 use Rattle.encoding.specs.LineBytes.{routeEnds}
-use Rattle.encoding.specs.StateBytes.{statusNo, detail, trainLength, trainBytes, possessionBytes, trainAt}
-use Rattle.encoding.specs.StateBytes.{endingParts, endingBytes, possessionsAt}
-use Rattle.encoding.specs.StateBytes.{encodesStatus, encodesTrain, encodesState, statusOf, trainIn, stateIn}
+use Rattle.encoding.specs.StateBytes.{statusNo, detail, lastNo, lastFrom, lastTo, trainLength, trainBytes}
+use Rattle.encoding.specs.StateBytes.{possessionBytes, trainAt, endingParts, endingBytes, possessionsAt}
+use Rattle.encoding.specs.StateBytes.{encodesStatus, encodesLast, encodesTrain, encodesState, statusOf, lastIn}
+use Rattle.encoding.specs.StateBytes.{trainIn, stateIn}
 use Rattle.encoding.specs.RoundTrip.{Shaped}
 use Rattle.encoding.proofs.Parts.{At, same-place, bytes-at, at-joined, at-each}
 use Rattle.encoding.proofs.Statuses.{encoded-trains, encoded-possessions}
@@ -35,6 +36,13 @@ status-only (suc (suc zero)) n h = (refl, refl)
 status-only (suc (suc (suc k))) n h =
     let few = leb-true (suc (suc (suc k))) _ (and-left _ _ h) in absurd (omega arith)
 
+last-only : (k p q : ℕ) → encodesLast k p q ≡ true
+    → (lastNo (lastIn k p q) ≡ k) × (lastFrom (lastIn k p q) ≡ p) × (lastTo (lastIn k p q) ≡ q)
+unfolding lastIn
+last-only zero p q h = (refl, sym (eqb-true p 0 (and-left (eqb p 0) _ h)), sym (eqb-true q 0 (and-right (eqb p 0) _ h)))
+last-only (suc zero) p q h = (refl, refl, refl)
+last-only (suc (suc k)) p q h = let few = leb-true (suc (suc k)) _ (and-left _ _ h) in absurd (omega arith)
+
 possession-only : (n : ℕ) → leb n 1 ≡ true → ofBool (eqb n 1) ≡ n
 possession-only zero h = refl
 possession-only (suc zero) h = refl
@@ -43,8 +51,11 @@ possession-only (suc (suc n)) h = let few = leb-true (suc (suc n)) 1 h in absurd
 -- a train that is read at i stands there
 train-stands : (b : List ℕ) (i : ℕ) → encodesTrain b i ≡ true → At b i (trainBytes (trainIn b i))
 train-stands b i h =
-    let status = status-only (byteAt b (i + 4)) (byteAt b (i + 5)) h in
-    bytes-at (rw add-zero, (refl, (refl, (refl, (status .0, (status .1, tt))))))
+    let k = encodesStatus (byteAt b (i + 4)) (byteAt b (i + 5)) in
+    let status = status-only (byteAt b (i + 4)) (byteAt b (i + 5)) (and-left k _ h) in
+    let last = last-only (byteAt b (i + 6)) (byteAt b (i + 7)) (byteAt b (i + 8)) (and-right k _ h) in
+    bytes-at
+    (rw add-zero, (refl, (refl, (refl, (status .0, (status .1, (last .0, (last .1, (last .2, tt)))))))))
 
 module _ (b : List ℕ) where
   abbrev read : State

@@ -12,6 +12,7 @@ use lib.Seq.{ext-getD}
 use borrow.Author.Tests.{leb-true}
 use Rattle.common.specs.Below.{ofBool}
 use Rattle.common.specs.Tabulate.{tabulate}
+use Rattle.common.proofs.Tests.{and-both}
 use Rattle.common.proofs.Below.{below-all}
 use Rattle.common.proofs.Tabulate.{length-tabulate, at-tabulate, tabulate-cong}
 use Rattle.common.proofs.Word.{long-word-back}
@@ -20,13 +21,14 @@ use Rattle.journal.specs.Journal.{blank}
 use Rattle.driver.specs.State.{phaseNo}
 use Rattle.rules.specs.State.{noTrain, trainOf}
 use Rattle.encoding.specs.Types.{Phase, Standing, Asked, Declined, Granted, UnderWay, Arrived, Unit}
-use Rattle.encoding.specs.Types.{Status, Free, AskedAs, Running, Train, State, Record, Time}
+use Rattle.encoding.specs.Types.{Status, Free, AskedAs, Running, Last, Nothing, Done, Train, State, Record, Time}
 use Rattle.encoding.specs.Parts.{headBytes}
 use Rattle.encoding.specs.UnitBytes.{unitBytes, encodesUnit, phaseOf, unitIn}
-use Rattle.encoding.specs.StateBytes.{statusNo, detail, trainBytes, stateParts, stateBytes}
+use Rattle.encoding.specs.StateBytes.{statusNo, detail, lastNo, lastFrom, lastTo, trainBytes, stateParts}
+use Rattle.encoding.specs.StateBytes.{stateBytes}
 use Rattle.encoding.specs.StateBytes.{trainAt, possessionsAt}
-use Rattle.encoding.specs.StateBytes.{encodesStatus, encodesTrains, encodesPossessions, encodesState}
-use Rattle.encoding.specs.StateBytes.{statusOf, trainIn, tracksIn, fleetIn, possessionsIn, stateIn}
+use Rattle.encoding.specs.StateBytes.{encodesStatus, encodesLast, encodesTrains, encodesPossessions, encodesState}
+use Rattle.encoding.specs.StateBytes.{statusOf, lastIn, trainIn, tracksIn, fleetIn, possessionsIn, stateIn}
 use Rattle.encoding.specs.JournalBytes.{recordLength, recordBytes, recordIn, recordCount, recordsIn}
 use Rattle.encoding.specs.JournalBytes.{journalParts, withRecords}
 use Rattle.encoding.specs.TimeBytes.{timeLength, timeBytes, secondsIn, restIn}
@@ -98,6 +100,15 @@ status-encodes Free = refl
 status-encodes (AskedAs n) = refl
 status-encodes (Running k) = refl
 
+last-back : (x : Last) → lastIn (lastNo x) (lastFrom x) (lastTo x) ≡ x
+unfolding lastIn
+last-back Nothing = refl
+last-back (Done p q) = refl
+
+last-encodes : (x : Last) → encodesLast (lastNo x) (lastFrom x) (lastTo x) ≡ true
+last-encodes Nothing = refl
+last-encodes (Done p q) = refl
+
 -- a train that stands at i is read
 train-read : (b : List ℕ) (i : ℕ) (x : Train) → At b i (trainBytes x) → trainIn b i ≡ x
 train-read b i x h =
@@ -109,7 +120,11 @@ train-read b i x h =
       ← h .byte 3 (omega arith),
       ← h .byte 4 (omega arith),
       ← h .byte 5 (omega arith),
+      ← h .byte 6 (omega arith),
+      ← h .byte 7 (omega arith),
+      ← h .byte 8 (omega arith),
       status-back (x .status),
+      last-back (x .last),
     )
 
 -- ---- states
@@ -176,7 +191,13 @@ module _ (s : State) (shaped : Shaped s) where
   trains-encoded =
       let at = at-train s shaped in
       below-all 6 _ (λ t h.
-      rw (← at t h .byte 4 (omega arith), ← at t h .byte 5 (omega arith)) (status-encodes (trainOf s t .status)))
+      rw (
+        ← at t h .byte 4 (omega arith),
+        ← at t h .byte 5 (omega arith),
+        ← at t h .byte 6 (omega arith),
+        ← at t h .byte 7 (omega arith),
+        ← at t h .byte 8 (omega arith),
+      ) (and-both _ _ (status-encodes (trainOf s t .status)) (last-encodes (trainOf s t .last))))
 
   possessions-encoded : encodesPossessions bytes ≡ true
   possessions-encoded =

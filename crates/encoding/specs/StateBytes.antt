@@ -1,6 +1,7 @@
--- A state as 56 bytes: posts; tracks of posts 0 to 7; sidings; trains; then for trains 0 to 5 six bytes: start, end,
--- present post, track there, status, and the number of its FA or the track ahead; then for sections 0 to 6 one byte, 1
--- where a gang has the section and 0 where none has; then the number of local runs given; last the journal count.
+-- A state as 74 bytes: posts; tracks of posts 0 to 7; sidings; trains; then for trains 0 to 5 nine bytes: start, end,
+-- present post, track there, status, the number of its FA or the track ahead, and whether there is a last finished
+-- move, with its from and its to post; then for sections 0 to 6 one byte, 1 where a gang has the section and 0 where
+-- none has; then the number of local runs given; last the journal count.
 use mathlib.Core.Bool.{Bool, not, cond, _&&_, _||_}
 use mathlib.Core.List.{List, [], _∷_, _++_, map}
 use Prim.Native.Nat.{ℕ, _+_, _*_}
@@ -9,7 +10,7 @@ use lib.ListN.{length}
 use Rattle.common.specs.Below.{ofBool, allBelow}
 use Rattle.common.specs.Tabulate.{tabulate}
 use Rattle.line.specs.Book.{byteAt, route}
-use Rattle.encoding.specs.Types.{Status, Free, AskedAs, Running, Train, State}
+use Rattle.encoding.specs.Types.{Status, Free, AskedAs, Running, Last, Nothing, Done, Train, State}
 use Rattle.encoding.specs.Parts.{joined, each, headBytes, postsByte, tracksByte, sidingsByte, trainsByte}
 use Rattle.encoding.specs.Parts.{headLength}
 use Rattle.encoding.specs.LineBytes.{routeLength, routeEnds}
@@ -28,9 +29,30 @@ detail Free = 0
 detail (AskedAs n) = n
 detail (Running k) = k .0
 
+-- last finished move (0 none, 1 one), and its two posts, 0 where there is none
+abbrev pub lastNo : Last → ℕ
+lastNo Nothing = 0
+lastNo (Done p q) = 1
+
+abbrev pub lastFrom : Last → ℕ
+lastFrom Nothing = 0
+lastFrom (Done p q) = p .0
+
+abbrev pub lastTo : Last → ℕ
+lastTo Nothing = 0
+lastTo (Done p q) = q .0
+
 -- what a frame can change of a train
 abbrev pub standingBytes : Train → List ℕ
-standingBytes x = x .at .0 ∷ x .track .0 ∷ statusNo (x .status) ∷ detail (x .status) ∷ []
+standingBytes x =
+    x .at .0
+    ∷ x .track .0
+    ∷ statusNo (x .status)
+    ∷ detail (x .status)
+    ∷ lastNo (x .last)
+    ∷ lastFrom (x .last)
+    ∷ lastTo (x .last)
+    ∷ []
 
 abbrev pub trainBytes : Train → List ℕ
 trainBytes x = routeEnds (x .route) ++ standingBytes x
@@ -56,7 +78,7 @@ stateBytes s = joined (stateParts s)
 -- ---- which bytes encode a state, and which state
 
 abbrev pub trainLength : ℕ
-trainLength = routeLength + 4
+trainLength = routeLength + 7
 
 -- where the bytes of train t begin, where those of the sections do, and where the number of local runs given and the
 -- journal count are
@@ -75,12 +97,19 @@ loggedAt = givenAt + 1
 abbrev pub stateLength : ℕ
 stateLength = loggedAt + 1
 
--- a status, and 0 for what it carries where it is Free; of the train whose bytes begin at i
+-- a status, and 0 for what it carries where it is Free
 abbrev pub encodesStatus : ℕ → ℕ → Bool
 encodesStatus k n = leb k 2 && (not (eqb k 0) || eqb n 0)
 
+-- none or one finished move, and 0 for both posts where there is none
+abbrev pub encodesLast : ℕ → ℕ → ℕ → Bool
+encodesLast k p q = leb k 1 && (not (eqb k 0) || (eqb p 0 && eqb q 0))
+
+-- both, of the train whose bytes begin at i
 abbrev pub encodesTrain : List ℕ → ℕ → Bool
-encodesTrain b i = encodesStatus (byteAt b (i + 4)) (byteAt b (i + 5))
+encodesTrain b i =
+    encodesStatus (byteAt b (i + 4)) (byteAt b (i + 5))
+    && encodesLast (byteAt b (i + 6)) (byteAt b (i + 7)) (byteAt b (i + 8))
 
 abbrev pub encodesTrains : List ℕ → Bool
 encodesTrains b = allBelow 6 (λ t. encodesTrain b (trainAt t))
@@ -89,14 +118,19 @@ encodesTrains b = allBelow 6 (λ t. encodesTrain b (trainAt t))
 abbrev pub encodesPossessions : List ℕ → Bool
 encodesPossessions b = allBelow 7 (λ i. leb (byteAt b (possessionsAt + i)) 1)
 
--- 56 bytes with a status above 2, with another number than 0 after the status 0, or with a number above 1 for a section
--- encode no state; so does any other length.
+-- 74 bytes with a status above 2, with another number than 0 after the status 0, with a number above 1 for the last
+-- move, with another post than 0 after 0 there, or with a number above 1 for a section encode no state; so does any
+-- other length.
 unfoldable pub encodesState : List ℕ → Bool
 encodesState b = eqb (length b) stateLength && encodesTrains b && encodesPossessions b
 
 -- the status of a number; what is above 2 is not read
 unfoldable pub statusOf : ℕ → ℕ → Status
 statusOf k n = cond (eqb k 0) Free (cond (eqb k 1) (AskedAs n) (Running (record { 0 = n })))
+
+-- the last finished move of a number; what is above 1 is not read
+unfoldable pub lastIn : ℕ → ℕ → ℕ → Last
+lastIn k p q = cond (eqb k 0) Nothing (Done (record { 0 = p }) (record { 0 = q }))
 
 -- the train whose bytes begin at i
 abbrev pub trainIn : List ℕ → ℕ → Train
@@ -105,6 +139,7 @@ trainIn b i = record {
   at = record { 0 = byteAt b (i + 2) };
   track = record { 0 = byteAt b (i + 3) };
   status = statusOf (byteAt b (i + 4)) (byteAt b (i + 5));
+  last = lastIn (byteAt b (i + 6)) (byteAt b (i + 7)) (byteAt b (i + 8));
 }
 
 abbrev pub tracksIn : List ℕ → List ℕ

@@ -3,7 +3,7 @@ pub use Rattle.driver.specs.declared.state.Phase.{Phase}
 pub use Rattle.driver.specs.declared.state.Phase.the-variants.{Standing, Asked, Declined}
 pub use Rattle.driver.specs.declared.state.Phase.the-variants.{Granted, UnderWay, Arrived}
 pub use Rattle.driver.specs.declared.state.Button.{Button}
-pub use Rattle.driver.specs.declared.state.Button.the-variants.{Ask, Depart, Reached, Report}
+pub use Rattle.driver.specs.declared.state.Button.the-variants.{Ask, Depart, Reached, Report, Again}
 pub use Rattle.driver.specs.declared.state.Unit.{Unit}
 pub use Rattle.line.specs.declared.route.Route.{Route}
 pub use Rattle.line.specs.declared.line.Line.{Line}
@@ -12,5 +12,7 @@ pub use Rattle.journal.specs.declared.record.Record.{Record}
 pub use Rattle.journal.specs.declared.batch.Batch.{Batch}
 pub use Rattle.rules.specs.declared.state.Status.{Status}
 pub use Rattle.rules.specs.declared.state.Status.the-variants.{Free, Asked as AskedAs, Running}
+pub use Rattle.rules.specs.declared.state.Last.{Last}
+pub use Rattle.rules.specs.declared.state.Last.the-variants.{Nothing, Done}
 pub use Rattle.rules.specs.declared.state.Train.{Train}
 pub use Rattle.rules.specs.declared.state.State.{State}

@@ -6,7 +6,7 @@ use lib.Dec.{eqb, leb}
 use lib.ListN.{length}
 use Rattle.line.specs.Book.{byteAt, route}
 use Rattle.encoding.specs.Types.{Phase, Standing, Asked, Declined, Granted, UnderWay, Arrived}
-use Rattle.encoding.specs.Types.{Button, Ask, Depart, Reached, Report, Unit}
+use Rattle.encoding.specs.Types.{Button, Ask, Depart, Reached, Report, Again, Unit}
 use Rattle.driver.specs.State.{phaseNo}
 
 abbrev pub unitLength : ℕ
@@ -37,6 +37,6 @@ unitIn b = record {
   phase = phaseOf (byteAt b 4);
 }
 
--- the button of a number; what is above 3 is not read
+-- the button of a number; what is above 4 is not read
 unfoldable pub buttonOf : ℕ → Button
-buttonOf n = cond (eqb n 0) Ask (cond (eqb n 1) Depart (cond (eqb n 2) Reached Report))
+buttonOf n = cond (eqb n 0) Ask (cond (eqb n 1) Depart (cond (eqb n 2) Reached (cond (eqb n 3) Report Again)))

@@ -15,9 +15,9 @@ pub const ROUTE_LENGTH: usize = 2;
 
 pub const LINE_LENGTH: usize = HEAD_LENGTH + ROUTE_LENGTH * 6;
 
-// What a frame can change of a train: present post, track there, status, and what the status
-// carries.
-pub const STANDING_LENGTH: usize = 4;
+// What a frame can change of a train: present post, track there, status, what the status carries,
+// and its last finished move: whether there is one, its from post and its to post.
+pub const STANDING_LENGTH: usize = 7;
 
 pub const TRAIN_LENGTH: usize = ROUTE_LENGTH + STANDING_LENGTH;
 

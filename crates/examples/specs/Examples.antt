@@ -46,9 +46,9 @@ pub record Examples : Type 0 where
   pub i : repliesIn (ran bookY (bytesOf (fa 0 0 1) ∷ [])) ≡ (fe 0 0 1 ∷ []) ∷ []
   -- "J. 00 05 01 02 00 00 01 at the dispatcher: 6."
   pub j : verdictsOf (ran bookX ((0 ∷ 5 ∷ 1 ∷ 2 ∷ 0 ∷ 0 ∷ 1 ∷ []) ∷ [])) ≡ RefusedBy 6 ∷ []
-  -- "K. X, two FA of train 0: FE, then 11."
-  pub k : (verdictsOf (ran bookX (map bytesOf (fa 0 0 1 ∷ fa 0 0 1 ∷ []))) ≡ Sent 1 ∷ RefusedBy 11 ∷ [])
-      × (repliesIn (ran bookX (bytesOf (fa 0 0 1) ∷ [])) ≡ (fe 0 0 1 ∷ []) ∷ [])
+  -- "K. X, two FA of train 0: FE, then 11."; 02, card 6: "Refusals 10 and 11 go, and K now shows FE twice."
+  pub k : let r = ran bookX (map bytesOf (fa 0 0 1 ∷ fa 0 0 1 ∷ [])) in
+      (verdictsOf r ≡ Sent 1 ∷ Sent 1 ∷ []) × (repliesIn r ≡ (fe 0 0 1 ∷ []) ∷ (fe 0 0 1 ∷ []) ∷ [])
   -- "L. X, AM of train 0 first: 12."
   pub l : verdictsOf (ran bookX (bytesOf (am 0 0 1) ∷ [])) ≡ RefusedBy 12 ∷ []
 

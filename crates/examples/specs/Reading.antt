@@ -25,7 +25,7 @@ use Rattle.completion.specs.Configuration.{codeBelow, within, fits, arrived, fe
 use Rattle.completion.specs.Table.{tableLength, movesOn, completableBy, completableIn, tableOf}
 use Rattle.rules.specs.Valid.{consistent, valid}
 use Rattle.rules.specs.Granting.{grantable, oldest, grants}
-use Rattle.rules.specs.Answer.{outLength, accepted, framesOf, answer}
+use Rattle.rules.specs.Answer.{outLength, anew, accepted, framesOf, answer}
 use Rattle.rules.specs.Opening.{Opening, startTracks, openingWith, opening}
 use Rattle.assurance.specs.Types.{Message, Fa, Fe, Afe, Am, La, Le, Lb, Record, State, Verdict}
 use Rattle.assurance.specs.Run.{Input, Ran, run}
@@ -82,7 +82,7 @@ refusalOf book = openedBlank book .number
 
 -- inputs put to a box in the state s, with a table and a journal
 unfoldable pub ranWith : State → List ℕ → List Record → List Input → Ran
-unfolding run answer refusal unlessRefused replaced accepted framesOf recordOf readFrame messageOf bytesOf valid
+unfolding run answer refusal unlessRefused replaced anew accepted framesOf recordOf readFrame messageOf bytesOf valid
     consistent wellFormed between nextPost standing countBelow allBelow anyBelow grantable oldest grants update
     codeBelow trackFor smallest largest
 ranWith s table journal inputs = run table s journal inputs

@@ -1,6 +1,6 @@
 // Hearing a frame: refusals 1, 3, 4, 5, 6 and 22, in that order.
 ghost use mathlib.Core.Path.{_≡_};
-ghost use Rattle.driver.specs.Hearing.{forMove, awaiting, heardWith, hearFrame};
+ghost use Rattle.driver.specs.Hearing.{forMove, heardWith, hearFrame};
 use driver::Heard;
 use driver::Phase;
 use driver::Unit;
@@ -9,6 +9,7 @@ use frame::Move;
 use line::refusal::NOT_AWAITED;
 use line::refusal::STRANGE_STATE;
 use line::refusal::WRONG_END;
+use unit::awaiting;
 use unit::in_phase;
 use unit::own_move;
 use unit::same;
@@ -63,20 +64,6 @@ fn for_move(unit: Unit, m: Move) -> bool
         return false;
     }
     m.from.0 == own.from.0 && m.to.0 == own.to.0
-}
-
-// Whether the unit has asked and has no authority yet.
-fn awaiting(phase: Phase) -> bool
-    ensures { λ r. ⌜ r ≡ awaiting phase ⌝ }
-{
-    match phase {
-        Phase::Standing => false,
-        Phase::Asked => true,
-        Phase::Declined => true,
-        Phase::Granted => false,
-        Phase::UnderWay => false,
-        Phase::Arrived => false,
-    }
 }
 
 fn answered(unit: Unit, refusal: u8) -> Heard

@@ -1,6 +1,6 @@
 -- A train on its way: the next post, the posts travelled, and the post that they lead to. All of it is arithmetic of a
 -- start a, a post p and an end e.
-use mathlib.Core.Path.{_≡_, sym}
+use mathlib.Core.Path.{_≡_, sym, _∙_}
 use mathlib.Core.Logic.{_⊎_, inl, inr, ⊎-elim, _≢_}
 use mathlib.Core.Bool.{true, false, _&&_}
 use Prim.Native.Nat.{ℕ, _+_, _-_, _≤_, _<_}
@@ -94,6 +94,15 @@ module _ (a p e : ℕ) (b : Between a p e) (short : p ≢ e) where
 
   pub next-below : (n : ℕ) → a < n → e < n → nextPost p e < n
   next-below n h k = ⊎-elim (λ r. omega arith) (λ r. omega arith) stepped
+
+  -- it is past the start, and from there the post before it, on the way back to the start, is p
+  pub next-past : nextPost p e ≢ a
+  next-past z = ⊎-elim (λ r. omega arith) (λ r. omega arith) stepped
+
+  pub next-back : nextPost (nextPost p e) a ≡ p
+  next-back = ⊎-elim
+      (λ r. rw (r .0) (sym (next-down (p + 1) a (omega arith)) ∙ omega arith))
+      (λ r. rw (r .0) (sym (next-up (p - 1) a (omega arith)) ∙ omega arith)) stepped
 
 -- ---- posts travelled
 

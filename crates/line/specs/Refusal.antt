@@ -1,4 +1,5 @@
--- 01, "Declining by number", and 02. `src/refusal.rt` has the same numbers for the code.
+-- 01, "Declining by number", and 02. `src/refusal.rt` has the same numbers for the code. Card 6: "Refusals 10 and 11
+-- go", and no other has their numbers.
 use Prim.Native.Nat.{ℕ}
 
 abbrev pub strangeState : ℕ
@@ -27,12 +28,6 @@ atItsEnd = 8
 
 abbrev pub wrongPost : ℕ
 wrongPost = 9
-
-abbrev pub alreadyAsked : ℕ
-alreadyAsked = 10
-
-abbrev pub underAuthority : ℕ
-underAuthority = 11
 
 abbrev pub noAuthority : ℕ
 noAuthority = 12

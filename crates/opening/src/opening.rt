@@ -16,6 +16,7 @@ use line::refusal::NO_WAY_THROUGH;
 use line::refusal::OVERFULL;
 use line::refusal::SHORT_STORE;
 use logging::log_length;
+use rules::Last;
 use rules::Opened;
 use rules::State;
 use rules::Status;
@@ -130,7 +131,7 @@ fn opened_state(line: Line) -> State
     }
 }
 
-// A train at its start, on that track.
+// A train at its start, on that track, with no move finished.
 fn fresh(route: Route, track: TrackNo) -> Train
     ensures { λ r. ⌜ r ≡ fresh route (track .0) ⌝ }
 {
@@ -140,6 +141,7 @@ fn fresh(route: Route, track: TrackNo) -> Train
         at,
         track,
         status: Status::Free,
+        last: Last::Nothing,
     }
 }
 

@@ -1,6 +1,6 @@
 -- A lent buffer that is filled from its beginning on, part by part.
 use mathlib.Core.Path.{_≡_, refl, sym, subst, _∙_}
-use mathlib.Core.List.{List, [], _∷_, _++_}
+use mathlib.Core.List.{List, _++_}
 use Prim.Native.Nat.{ℕ, _+_, _-_, _≤_, _<_}
 use native.Mathlib.Nat.{not-suc-le-zero}
 use native.Mathlib.Omega.{arith}
@@ -121,16 +121,6 @@ last-part {to = to} {p = p} f m e y is size =
     let room : m + length p ≤ length to = omega (arith, f .size) in
     filled (part-more (same-filled f e) y refl (is ∙ replaced-if to m p room) (omega arith) (m + length p) refl)
     (omega arith)
-
--- the next four bytes are put one by one
-pub four-more : {s b to : List ℕ} {n : ℕ} → Filled s b to n → (v₀ v₁ v₂ v₃ : ℕ) → At b n (v₀ ∷ v₁ ∷ v₂ ∷ v₃ ∷ [])
-    → n + 4 ≤ length b → (m : ℕ) → m ≡ n + 4
-    → Filled s b (set (set (set (set to n v₀) (n + 1) v₁) (n + 2) v₂) (n + 3) v₃) m
-four-more {b} {n} f v₀ v₁ v₂ v₃ y fits m q =
-    let one = byte-more f v₀ (y .byte 0 (omega arith) ∙ same-place b (omega arith)) (omega arith) in
-    let two = same-filled {m = n + 2} (byte-more one v₁ (y .byte 1 (omega arith)) (omega arith)) (omega arith) in
-    let three = same-filled {m = n + 3} (byte-more two v₂ (y .byte 2 (omega arith)) (omega arith)) (omega arith) in
-    same-filled (byte-more three v₃ (y .byte 3 (omega arith)) (omega arith)) (omega arith)
 
 -- ---- the head
 

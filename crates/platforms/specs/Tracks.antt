@@ -88,7 +88,7 @@ pub record TracksSeen : Type 0 where
 abbrev pub trackedAs : State → ℕ → ℕ → Status → State
 trackedAs s t k w =
     let x = trainOf s t in
-    withTrain s t (record { route = x .route; at = x .at; track = record { 0 = k }; status = w })
+    withTrain s t (record { route = x .route; at = x .at; track = record { 0 = k }; status = w; last = x .last })
 
 -- X after its first two frames: both trains run to post 1, on tracks 1 and 2
 abbrev pub bothToPost1 : State

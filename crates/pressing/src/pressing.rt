@@ -1,6 +1,8 @@
 // Pressing a button: refusals 1, 21 and 8, in that order.
 ghost use mathlib.Core.Path.{_≡_};
-ghost use Rattle.driver.specs.Pressing.{phaseFor, movedOn, silent, sending, pressButton};
+ghost use Rattle.driver.specs.Pressing.{movedOn, lastSent, silent, sending, pressButton};
+use crate::permitting::end_permits;
+use crate::permitting::may_press;
 use driver::Button;
 use driver::Phase;
 use driver::Pressed;
@@ -10,24 +12,23 @@ use frame::Message;
 use line::refusal::AT_ITS_END;
 use line::refusal::NOT_NOW;
 use line::refusal::STRANGE_STATE;
+use unit::awaiting;
 use unit::in_phase;
+use unit::last_move;
 use unit::own_move;
-use unit::same;
 use unit::valid;
 
 // What a press of a button does.
 pub fn press(unit: Unit, button: Button) -> Pressed
     ensures { λ r. ⌜ r ≡ pressButton unit button ⌝ }
 {
-    let phase = unit.phase;
-    let route = unit.route;
     if !valid(unit) {
         return silent(unit, STRANGE_STATE);
     }
-    if !same(phase, phase_for(button)) {
+    if !may_press(unit, button) {
         return silent(unit, NOT_NOW);
     }
-    if unit.at.0 == route.end.0 {
+    if !end_permits(unit, button) {
         return silent(unit, AT_ITS_END);
     }
     match button {
@@ -35,19 +36,19 @@ pub fn press(unit: Unit, button: Button) -> Pressed
         Button::Depart => silent(in_phase(unit, Phase::UnderWay), 0),
         Button::Reached => silent(in_phase(unit, Phase::Arrived), 0),
         Button::Report => sending(moved_on(unit), Message::Am(own_move(unit))),
+        Button::Again => sending(unit, last_sent(unit)),
     }
 }
 
-// The phase in which a button may be pressed.
-fn phase_for(button: Button) -> Phase
-    ensures { λ r. ⌜ r ≡ phaseFor button ⌝ }
+// What Again gives: the FA for the unit's own move, or the AM of its last one.
+fn last_sent(unit: Unit) -> Message
+    ensures { λ r. ⌜ r ≡ lastSent unit ⌝ }
 {
-    match button {
-        Button::Ask => Phase::Standing,
-        Button::Depart => Phase::Granted,
-        Button::Reached => Phase::UnderWay,
-        Button::Report => Phase::Arrived,
+    let phase = unit.phase;
+    if awaiting(phase) {
+        return Message::Fa(own_move(unit));
     }
+    Message::Am(last_move(unit))
 }
 
 // Standing at the next post.

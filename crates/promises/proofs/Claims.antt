@@ -16,11 +16,13 @@ use Rattle.driver.proofs.Refusals.{refusals as unit-refusals}
 use Rattle.driver.proofs.History.{history}
 use Rattle.rules.proofs.Acceptance.{numbers-told}
 use Rattle.rules.proofs.Refusals.{refusals}
+use Rattle.rules.proofs.Repeats.{repeats-answered}
 use Rattle.rules.proofs.OpeningCases.{opened-alike}
 use Rattle.assurance.proofs.WholeList.{whole-list}
 use Rattle.conduct.proofs.OneFrame.{valid-kept, refusals-change-nothing, at-most-six, bit-in-table}
 use Rattle.conduct.proofs.OneFrame.{track-found, exact-grant, oldest-first, right-grant}
 use Rattle.conduct.proofs.LocalRuns.{local-runs}
+use Rattle.conduct.proofs.Repeats.{repeats-told}
 use Rattle.conduct.proofs.TrackKept.{track-kept}
 use Rattle.conduct.proofs.Unread.{unread, left-alone}
 use Rattle.conduct.proofs.Replies.{all-replies}
@@ -45,6 +47,8 @@ use Rattle.possessions.proofs.Gangs.{gang-on-x, named, beside-trains, other-sec
 use Rattle.possessions.proofs.Gangs.{gang-states, gangs-seen}
 use Rattle.distances.proofs.Evaluated.{position-bytes, opened-with-positions, times, time-refusals}
 use Rattle.distances.proofs.Evaluated.{answered-all-the-same}
+use Rattle.repeating.proofs.Evaluated.{repeats-on-x, declined-again, last-move-only, full-journal, grants-nobody}
+use Rattle.repeating.proofs.Evaluated.{last-moves, again-upward, again-elsewhere, lost-authority, lost-report}
 use Rattle.promises.specs.Claims.{Parts, Cab, OneFrame, WholeLists, InUse, Evaluated}
 
 pub parts : Parts
@@ -85,6 +89,7 @@ one-frame = record {
   local-runs = local-runs;
   at-most-six = at-most-six;
   replies = all-replies;
+  repeats = repeats-answered;
 }
 
 pub whole-lists : WholeLists
@@ -93,6 +98,7 @@ whole-lists = record {
   never-refused = never-refused-in-runs;
   homecoming = homecoming;
   arrival = arrival-of-all;
+  repeats = repeats-told;
   no-needless-wait = no-needless-wait;
   turns = turn-by-turn;
   right-track = right-track;
@@ -141,4 +147,14 @@ evaluated = record {
   times = times;
   time-refusals = time-refusals;
   answered-all-the-same = answered-all-the-same;
+  repeats-on-x = repeats-on-x;
+  declined-again = declined-again;
+  last-move-only = last-move-only;
+  full-journal = full-journal;
+  grants-nobody = grants-nobody;
+  last-moves = last-moves;
+  again-upward = again-upward;
+  again-elsewhere = again-elsewhere;
+  lost-authority = lost-authority;
+  lost-report = lost-report;
 }

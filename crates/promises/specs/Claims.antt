@@ -11,6 +11,7 @@ use Rattle.driver.specs.Refusals.{UnitRefusals}
 use Rattle.driver.specs.History.{History}
 use Rattle.rules.specs.Answer.{NumbersTold}
 use Rattle.rules.specs.Refusals.{Refusals}
+use Rattle.rules.specs.Repeats.{RepeatsAnswered}
 use Rattle.rules.specs.Opening.{OpenedAlike}
 use Rattle.assurance.specs.WholeList.{WholeList}
 use Rattle.conduct.specs.OneFrame.{ValidKept, RefusalsChangeNothing, AtMostSix, BitInTable}
@@ -19,6 +20,7 @@ use Rattle.conduct.specs.LocalRuns.{LocalRuns}
 use Rattle.conduct.specs.Unread.{Unread, LeftAlone}
 use Rattle.conduct.specs.Replies.{Replies}
 use Rattle.conduct.specs.Homecoming.{NeverRefused, Homecoming}
+use Rattle.conduct.specs.Repeats.{RepeatsTold}
 use Rattle.conduct.specs.Waiting.{NoNeedlessWait}
 use Rattle.conduct.specs.Arrival.{Arrival}
 use Rattle.conduct.specs.Turns.{TurnByTurn}
@@ -38,6 +40,9 @@ use Rattle.possessions.specs.Gangs.{GangOnX, Named, BesideTrains, OtherSection,
 use Rattle.possessions.specs.Gangs.{GangStates, GangsSeen}
 use Rattle.distances.specs.Positions.{PositionBytes, OpenedWithPositions}
 use Rattle.distances.specs.Times.{Times, TimeRefusals, AnsweredAllTheSame}
+use Rattle.repeating.specs.AtTheBox.{RepeatsOnX, DeclinedAgain, LastMoveOnly, FullJournal, GrantsNobody, LastMoves}
+use Rattle.repeating.specs.InTheCab.{AgainUpward, AgainElsewhere}
+use Rattle.repeating.specs.OverTheRadio.{LostAuthority, LostReport}
 
 -- any book, question, frame, record, table
 pub record Parts : Type 0 where
@@ -72,7 +77,7 @@ pub record Cab : Type 0 where
   -- a unit that is made is valid and stays so; which number refuses a press or a frame; LA, LE and LB change nothing
   pub validity : Validity
   pub numbers : UnitRefusals
-  -- it asks once for each move, goes by its authority, and moves one post at a time
+  -- it asks once for each move, goes by its authority, moves one post at a time, and repeats what may be lost
   pub history : History
 
 -- the box: any frame, in any valid state, with any table
@@ -99,6 +104,8 @@ pub record OneFrame : Type 0 where
   -- what is sent
   pub at-most-six : AtMostSix
   pub replies : Replies
+  -- what a repeated frame is answered by, and that nothing else comes of it
+  pub repeats : RepeatsAnswered
 
 -- the box: every book that it opens and every list of frames
 pub record WholeLists : Type 0 where
@@ -109,12 +116,14 @@ pub record WholeLists : Type 0 where
   -- the trains can all get home, and any train that runs can arrive
   pub homecoming : Homecoming
   pub arrival : Arrival
+  -- a repeat leaves state, journal and tally as they were
+  pub repeats : RepeatsTold
   -- nobody waits who could go, and each gets its turn
   pub no-needless-wait : NoNeedlessWait
   pub turns : TurnByTurn
   -- each authority's record has the track that the rule gives
   pub right-track : RightTrack
-  -- the journal is what was heard and sent, with the tracks
+  -- the journal is what was heard and sent, but for repeats, with the tracks
   pub journal : JournalTold
 
 -- the ends in use: calls from C, and the desk's program
@@ -158,3 +167,13 @@ pub record Evaluated : Type 0 where
   pub times : Times
   pub time-refusals : TimeRefusals
   pub answered-all-the-same : AnsweredAllTheSame
+  pub repeats-on-x : RepeatsOnX
+  pub declined-again : DeclinedAgain
+  pub last-move-only : LastMoveOnly
+  pub full-journal : FullJournal
+  pub grants-nobody : GrantsNobody
+  pub last-moves : LastMoves
+  pub again-upward : AgainUpward
+  pub again-elsewhere : AgainElsewhere
+  pub lost-authority : LostAuthority
+  pub lost-report : LostReport

@@ -21,8 +21,8 @@ use line::refusal::NOT_NOW;
 use line::refusal::SHORT_STORE;
 use line::refusal::STRANGE_STATE;
 
-// The number of the last button, Report.
-const LAST_BUTTON: u8 = 3;
+// The number of the last button, Again.
+const LAST_BUTTON: u8 = 4;
 
 // Makes a unit for a train and its route.
 #[no_mangle]

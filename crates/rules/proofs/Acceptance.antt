@@ -1,38 +1,43 @@
--- What the checks say of an accepted frame, and what an accepted frame leaves: a valid state of the same line, with at
--- most seven records logged and counted; and nobody who can be granted.
+-- What the checks say of an accepted frame: it is new, or it repeats an earlier one. What a new one leaves: a valid
+-- state of the same line, with at most seven records logged and counted; and nobody who can be granted.
 use mathlib.Core.Path.{_≡_, refl, sym, ap, subst, _∙_}
 use mathlib.Core.Logic.{_≢_, ⊎-elim}
-use mathlib.Core.Bool.{true, false, not, _&&_, false≢true}
-use mathlib.Core.List.{List, [], _∷_, map, map-append, List·Memᴰ, List·Memᴰ·append-cases}
+use mathlib.Core.Bool.{Bool, true, false, not, cond, _&&_, false≢true}
+use mathlib.Core.Option.{Option, none, some}
+use mathlib.Core.List.{List, [], _∷_, _++_, map, map-append, List·Memᴰ, List·Memᴰ·append-cases}
 use mathlib.Core.List.{List·Memᴰ·eq-of-singleton}
 use Prim.Native.Nat.{ℕ, _+_, _≤_, _<_}
 use native.Mathlib.Omega.{arith}
 use lib.Dec.{leb, ltb, eqb}
 use lib.ListN.{length, length-append, length-set, length-map}
 use borrow.Author.Tests.{ltb-true, leb-true, eqb-true, eqb-false, not-true}
-use Rattle.common.specs.Check.{Check, refusal}
-use Rattle.common.proofs.Tests.{by-cases, by-equality, and-left, and-right}
+use Rattle.common.specs.Check.{Check, check, refusal}
+use Rattle.common.proofs.Part.{replaced-none}
+use Rattle.common.proofs.Tests.{by-cases, by-equality, not-passed, and-left, and-right}
 use Rattle.common.proofs.Below.{count-le, count-some}
 use Rattle.common.proofs.Check.{passed-by, both-pass, accepts, refuses}
 use Rattle.line.specs.Refusal.{strangeState, shortStore, wrongEnd, unknownTrain, atItsEnd, wrongPost}
-use Rattle.line.specs.Refusal.{alreadyAsked, underAuthority, noAuthority, journalFull}
-use Rattle.line.specs.Refusal.{sectionTaken, noLocalRun, twentyGiven}
+use Rattle.line.specs.Refusal.{noAuthority, journalFull, sectionTaken, noLocalRun, twentyGiven}
+use Rattle.line.proofs.Travel.{next-other}
 use Rattle.frame.specs.Frame.{FE, readFrame}
 use Rattle.frame.specs.RoundTrip.{IsMessage}
 use Rattle.journal.specs.Journal.{journalLength, recordOf, withoutTrack, Tracked}
 use Rattle.journal.proofs.Records.{recorded-untracked, no-track}
 use Rattle.completion.specs.Table.{tableLength}
-use Rattle.rules.specs.Types.{Line, Move, Message, Fa, Fe, Afe, Am, La, Le, Lb, Refused, Record, Asked, State}
-use Rattle.rules.specs.Types.{Train, RefusedBy}
-use Rattle.rules.specs.State.{isAsked, isRunning, atEnd, nextOf, trainOf, lineOf, possessed, holdersOf}
+use Rattle.rules.specs.Types.{Line, Move, Message, Fa, Fe, Afe, Am, La, Le, Lb, Refused, Record, Status, Free}
+use Rattle.rules.specs.Types.{Asked, Running, Train, State, RefusedBy}
+use Rattle.rules.specs.State.{isFree, isAsked, isRunning, isLast, atEnd, nextOf, trainOf, lineOf, possessed}
+use Rattle.rules.specs.State.{holdersOf}
 use Rattle.rules.specs.State.{withStatus, arrivedNext, withTrain, withPossession, oneLogged}
 use Rattle.rules.specs.Valid.{mostGiven, valid}
 use Rattle.rules.specs.Granting.{grantable, Work, begun, sends, settled}
-use Rattle.rules.specs.Answer.{outLength, mostLogged, forBox, outerChecks, knows, hasRoom, gangByte}
-use Rattle.rules.specs.Answer.{contentChecks, frameChecks, taken, declined, accepted, runsGranting}
+use Rattle.rules.specs.Answer.{outLength, mostLogged, forBox, outerChecks, knows, moveChecks, gangByte}
+use Rattle.rules.specs.Answer.{requestChecks, arrivalChecks, askedAgain, again, ofNew, contentChecks, frameChecks}
+use Rattle.rules.specs.Answer.{taken, declined, repeated, anew, accepted, runsGranting}
 use Rattle.rules.specs.Answer.{verdictNumber, verdictFrames, Answer, answered, refused, answer, NumbersTold}
-use Rattle.rules.proofs.Trains.{changed-line}
-use Rattle.rules.proofs.Validity.{Consistent, valid-facts, is-valid}
+use Rattle.rules.specs.Repeats.{toldAgain}
+use Rattle.rules.proofs.Trains.{free-idle, changed-line}
+use Rattle.rules.proofs.Validity.{Consistent, finished-move, valid-facts, is-valid}
 use Rattle.rules.proofs.Changes.{valid-logged, valid-request, valid-arrival}
 use Rattle.rules.proofs.Oldest.{Nobody}
 use Rattle.rules.proofs.Possessions.{valid-possession, lent-nobody}
@@ -41,55 +46,62 @@ use Rattle.rules.proofs.Settling.{Settles, settled-settles, settled-val
 
 -- ---- the checks
 
--- the move is the next one of a train that is short of its end, and the journal has room
+-- the journal has room for a frame and its answers
+abbrev pub RoomLeft : State → Type 0
+RoomLeft s = s .logged + mostLogged ≤ journalLength
+
+-- the move is the next one of a train that is short of its end
 pub record NextMove (s : State) (m : Move) : Type 0 where
   pub known : m .train .0 < s .trains
   pub short : trainOf s (m .train .0) .at .0 ≢ trainOf s (m .train .0) .route .end .0
   pub from : m .from .0 ≡ trainOf s (m .train .0) .at .0
   pub to : m .to .0 ≡ nextOf (trainOf s (m .train .0))
-  pub space : s .logged + mostLogged ≤ journalLength
 
--- it names a section, by its two posts with the lower one first, and the journal has room
+-- it names a section, by its two posts with the lower one first
 pub record Section (s : State) (m : Move) : Type 0 where
   pub gang : m .train .0 ≡ gangByte
   pub upper : m .to .0 ≡ m .from .0 + 1
   pub on : m .from .0 + 1 < s .posts
-  pub space : s .logged + mostLogged ≤ journalLength
 
--- a message that passes all checks of its content
+-- a message that repeats none and passes all checks of its content but 13
 pub data Taken (s : State) : Message → Type 0 where
-  request : (m : Move) → NextMove s m → isAsked (trainOf s (m .train .0) .status) ≡ false
-      → isRunning (trainOf s (m .train .0) .status) ≡ false → Taken s (Fa m)
+  request : (m : Move) → NextMove s m → isFree (trainOf s (m .train .0) .status) ≡ true → Taken s (Fa m)
   arrival : (m : Move) → NextMove s m → isRunning (trainOf s (m .train .0) .status) ≡ true → Taken s (Am m)
   -- 02, card 4: a section that nobody holds, and one that a gang has
   lending : (m : Move) → Section s m → holdersOf s (m .from .0) ≡ 0 → s .given < mostGiven → Taken s (La m)
   return : (m : Move) → Section s m → possessed s (m .from .0) ≡ true → Taken s (Lb m)
 
--- a frame is taken only where the journal has room
-pub taken-space : (s : State) (a : Message) → Taken s a → s .logged + mostLogged ≤ journalLength
-taken-space s a (request m n free idle) = n .space
-taken-space s a (arrival m n runs) = n .space
-taken-space s a (lending m n free few) = n .space
-taken-space s a (return m n held) = n .space
+-- a message that repeats an earlier one, and its answers
+pub data Repeats (s : State) : Message → List Message → Type 0 where
+  declined-before : (m : Move) → NextMove s m → isAsked (trainOf s (m .train .0) .status) ≡ true
+      → Repeats s (Fa m) (Afe m ∷ [])
+  granted-before : (m : Move) → NextMove s m → isRunning (trainOf s (m .train .0) .status) ≡ true
+      → Repeats s (Fa m) (Fe m ∷ [])
+  arrived-before : (m : Move) → m .train .0 < s .trains
+      → isLast (trainOf s (m .train .0) .last) (m .from .0) (m .to .0) ≡ true → Repeats s (Am m) []
+
+-- what passes the checks of its content: a new message, for which the journal has room, or a repeat
+pub data Content (s : State) (a : Message) : Type 0 where
+  new : Taken s a → RoomLeft s → Content s a
+  old : (answers : List Message) → Repeats s a answers → Content s a
 
 pub record Passed (s : State) (table : List ℕ) (journal : List Record) (frame out : List ℕ) : Type 0 where
   pub valid-state : Consistent s
   pub long-table : tableLength ≤ length table
   pub long-journal : journalLength ≤ length journal
   pub long-out : outLength ≤ length out
-  pub message : Taken s (readFrame frame)
+  pub message : Content s (readFrame frame)
 
 module _ (s : State) where
-  -- 7, 8, 9 and 13 have passed
+  -- 7, 8 and 9 have passed
   next-move : (m : Move) → let x = trainOf s (m .train .0) in
       knows s m ≡ true → not (atEnd x) ≡ true → eqb (m .from .0) (x .at .0) && eqb (m .to .0) (nextOf x) ≡ true
-      → hasRoom s ≡ true → NextMove s m
-  next-move m known onward posts room = record {
+      → NextMove s m
+  next-move m known onward posts = record {
     known = ltb-true _ _ known;
     short = eqb-false _ _ (not-true _ onward);
     from = eqb-true _ _ (and-left (eqb (m .from .0) _) _ posts);
     to = eqb-true _ _ (and-right (eqb (m .from .0) (trainOf s (m .train .0) .at .0)) _ posts);
-    space = leb-true _ _ room;
   }
 
   -- the posts that 9 asks of a gang are neighbours on the line, the lower one first
@@ -100,46 +112,90 @@ module _ (s : State) where
       let below : m .to .0 < s .posts = ltb-true _ _ (and-right (eqb (m .to .0) (m .from .0 + 1)) _ posts) in
       (upper, rw upper at below)
 
-  -- the same of 7, 9 and 13 for a gang
+  -- the same of 7 and 9 for a gang
   of-section : (m : Move) → eqb (m .train .0) gangByte ≡ true
-      → eqb (m .to .0) (m .from .0 + 1) && ltb (m .to .0) (s .posts) ≡ true → hasRoom s ≡ true → Section s m
-  of-section m gang posts room = record {
+      → eqb (m .to .0) (m .from .0 + 1) && ltb (m .to .0) (s .posts) ≡ true → Section s m
+  of-section m gang posts = record {
     gang = eqb-true _ _ gang;
     upper = neighbours m posts .0;
     on = neighbours m posts .1;
-    space = leb-true _ _ room;
   }
 
-  -- what holds of the checks of each message for the box, and of none, holds of every message's
-  pub by-content : (P : List Check → Type 0)
-      → ((m : Move) → P (contentChecks s (Fa m))) → ((m : Move) → P (contentChecks s (Am m)))
-      → ((m : Move) → P (contentChecks s (La m))) → ((m : Move) → P (contentChecks s (Lb m)))
-      → P [] → (a : Message) → P (contentChecks s a)
-  by-content P fa am la lb none (Fa m) = fa m
-  by-content P fa am la lb none (Am m) = am m
-  by-content P fa am la lb none (La m) = la m
-  by-content P fa am la lb none (Lb m) = lb m
-  by-content P fa am la lb none (Fe m) = none
-  by-content P fa am la lb none (Afe m) = none
-  by-content P fa am la lb none (Le m) = none
-  by-content P fa am la lb none (Refused n) = none
+  -- the checks of an FA and of an AM, by what it is answered by as a repeat
+  abbrev requestContent : Move → Option (List Message) → List Check
+  requestContent m answers =
+      check unknownTrain (knows s m) ∷ moveChecks (trainOf s (m .train .0)) m ++ ofNew answers (requestChecks s)
 
-  content-passed : (a : Message) → forBox a ≡ true → refusal (contentChecks s a) ≡ 0 → Taken s a
-  content-passed (Fa m) kind e =
-      let passed = passed-by (contentChecks s (Fa m)) refl e in
-      request m (next-move m (passed unknownTrain) (passed atItsEnd) (passed wrongPost) (passed journalFull))
-      (not-true _ (passed alreadyAsked)) (not-true _ (passed underAuthority))
-  content-passed (Am m) kind e =
-      let passed = passed-by (contentChecks s (Am m)) refl e in
-      arrival m (next-move m (passed unknownTrain) (passed atItsEnd) (passed wrongPost) (passed journalFull))
-      (passed noAuthority)
+  abbrev arrivalContent : Move → Option (List Message) → List Check
+  arrivalContent m answers =
+      let x = trainOf s (m .train .0) in
+      check unknownTrain (knows s m) ∷ ofNew answers (moveChecks x m ++ arrivalChecks s x)
+
+  -- what holds of the checks of each message for the box, new or a repeat, and of no check, holds of every message's
+  module _ (P : List Check → Type 0)
+      (fa : (m : Move) → P (requestContent m none)) (fa-again : (m : Move) → P (requestContent m (some [])))
+      (am : (m : Move) → P (arrivalContent m none)) (am-again : (m : Move) → P (arrivalContent m (some [])))
+      (la : (m : Move) → P (contentChecks s (La m))) (lb : (m : Move) → P (contentChecks s (Lb m)))
+      (others : P []) where
+    by-request : (m : Move) (w : Status) → P (requestContent m (askedAgain w m))
+    by-request m Free = fa m
+    by-request m (Asked n) = fa-again m
+    by-request m (Running k) = fa-again m
+
+    by-arrival : (m : Move) (last : Bool) → P (arrivalContent m (cond last (some []) none))
+    by-arrival m true = am-again m
+    by-arrival m false = am m
+
+    pub by-content : (a : Message) → P (contentChecks s a)
+    by-content (Fa m) = by-request m (trainOf s (m .train .0) .status)
+    by-content (Am m) = by-arrival m (isLast (trainOf s (m .train .0) .last) (m .from .0) (m .to .0))
+    by-content (La m) = la m
+    by-content (Lb m) = lb m
+    by-content (Fe m) = others
+    by-content (Afe m) = others
+    by-content (Le m) = others
+    by-content (Refused n) = others
+
+  request-passed : (m : Move) (w : Status) → trainOf s (m .train .0) .status ≡ w
+      → refusal (requestContent m (askedAgain w m)) ≡ 0 → Content s (Fa m)
+  request-passed m Free free e =
+      let passed = passed-by (requestContent m none) refl e in
+      new (request m (next-move m (passed unknownTrain) (passed atItsEnd) (passed wrongPost)) (ap isFree free))
+      (leb-true _ _ (passed journalFull))
+  request-passed m (Asked n) asks e =
+      let passed = passed-by (requestContent m (some [])) refl e in
+      old (Afe m ∷ [])
+      (declined-before m (next-move m (passed unknownTrain) (passed atItsEnd) (passed wrongPost)) (ap isAsked asks))
+  request-passed m (Running k) runs e =
+      let passed = passed-by (requestContent m (some [])) refl e in
+      old (Fe m ∷ [])
+      (granted-before m (next-move m (passed unknownTrain) (passed atItsEnd) (passed wrongPost)) (ap isRunning runs))
+
+  arrival-passed : (m : Move) (last : Bool)
+      → isLast (trainOf s (m .train .0) .last) (m .from .0) (m .to .0) ≡ last
+      → refusal (arrivalContent m (cond last (some []) none)) ≡ 0 → Content s (Am m)
+  arrival-passed m true finished e =
+      let passed = passed-by (arrivalContent m (some [])) refl e in
+      old [] (arrived-before m (ltb-true _ _ (passed unknownTrain)) finished)
+  arrival-passed m false other e =
+      let passed = passed-by (arrivalContent m none) refl e in
+      new
+      (arrival m (next-move m (passed unknownTrain) (passed atItsEnd) (passed wrongPost)) (passed noAuthority))
+      (leb-true _ _ (passed journalFull))
+
+  content-passed : (a : Message) → forBox a ≡ true → refusal (contentChecks s a) ≡ 0 → Content s a
+  content-passed (Fa m) kind e = request-passed m _ refl e
+  content-passed (Am m) kind e = arrival-passed m _ refl e
   content-passed (La m) kind e =
       let passed = passed-by (contentChecks s (La m)) refl e in
-      lending m (of-section m (passed unknownTrain) (passed wrongPost) (passed journalFull))
-      (eqb-true _ _ (passed sectionTaken)) (ltb-true _ _ (passed twentyGiven))
+      new
+      (lending m (of-section m (passed unknownTrain) (passed wrongPost))
+      (eqb-true _ _ (passed sectionTaken)) (ltb-true _ _ (passed twentyGiven)))
+      (leb-true _ _ (passed journalFull))
   content-passed (Lb m) kind e =
       let passed = passed-by (contentChecks s (Lb m)) refl e in
-      return m (of-section m (passed unknownTrain) (passed wrongPost) (passed journalFull)) (passed noLocalRun)
+      new (return m (of-section m (passed unknownTrain) (passed wrongPost)) (passed noLocalRun))
+      (leb-true _ _ (passed journalFull))
   content-passed (Fe m) kind e = absurd (false≢true kind)
   content-passed (Afe m) kind e = absurd (false≢true kind)
   content-passed (Le m) kind e = absurd (false≢true kind)
@@ -162,21 +218,100 @@ module _ (s : State) (table : List ℕ) (journal : List Record) (frame out : Lis
         message = content-passed s (readFrame frame) (passed wrongEnd) (parts .1);
       }
 
+-- ---- new messages are no repeats
+
+-- a Free train's FA is no repeat
+pub free-new : (w : Status) (m : Move) → isFree w ≡ true → askedAgain w m ≡ none
+free-new Free m e = refl
+free-new (Asked n) m e = absurd (false≢true e)
+free-new (Running k) m e = absurd (false≢true e)
+
+-- the last finished move led to where the train is, and its next one leads on
+pub arrival-new : (s : State) → Consistent s → (m : Move) → NextMove s m → again s (Am m) ≡ none
+arrival-new s d m n =
+    let x = trainOf s (m .train .0) in
+    let v = d .each (m .train .0) (n .known) in
+    rw (not-passed (isLast (x .last) (m .from .0) (m .to .0)) (λ e.
+    next-other _ _ _ (v .inside) (n .short) (sym (n .to) ∙ finished-move x (v .finished) _ _ e .2)))
+
+pub taken-new : (s : State) → Consistent s → (a : Message) → Taken s a → again s a ≡ none
+taken-new s d a (request m n free) = free-new (trainOf s (m .train .0) .status) m free
+taken-new s d a (arrival m n runs) = arrival-new s d m n
+taken-new s d a (lending m n free few) = refl
+taken-new s d a (return m n held) = refl
+
+-- and repeats are
+
+asked-again : (w : Status) (m : Move) → isAsked w ≡ true → askedAgain w m ≡ some (Afe m ∷ [])
+asked-again Free m e = absurd (false≢true e)
+asked-again (Asked n) m e = refl
+asked-again (Running k) m e = absurd (false≢true e)
+
+granted-again : (w : Status) (m : Move) → isRunning w ≡ true → askedAgain w m ≡ some (Fe m ∷ [])
+granted-again Free m e = absurd (false≢true e)
+granted-again (Asked n) m e = absurd (false≢true e)
+granted-again (Running k) m e = refl
+
+pub repeats-again : {s : State} {a : Message} {answers : List Message} → Repeats s a answers
+    → again s a ≡ some answers
+repeats-again {s} (declined-before m n asks) = asked-again (trainOf s (m .train .0) .status) m asks
+repeats-again {s} (granted-before m n runs) = granted-again (trainOf s (m .train .0) .status) m runs
+repeats-again (arrived-before m known finished) = rw finished
+
+-- a message is not both
+pub new-or-again : {x : Option (List Message)} {answers : List Message} → x ≡ none → x ≡ some answers → ⊥
+new-or-again {x} {answers} e f = different (sym e ∙ f)
+  where
+    isSome : Option (List Message) → Bool
+    isSome none = false
+    isSome (some l) = true
+
+    different : none ≡ some answers → ⊥
+    different z = false≢true (ap isSome z)
+
 -- ---- the answer, by cases
 
--- what holds of the answer to a refused frame and of that to an accepted one holds of the answer
+-- a repeat, and a new frame
+pub accepted-again : (table : List ℕ) (s : State) (a : Message) {answers : List Message} → again s a ≡ some answers
+    → accepted table s a ≡ repeated s answers
+unfolding accepted
+accepted-again table s a e = rw e
+
+pub accepted-anew : (table : List ℕ) (s : State) (a : Message) → again s a ≡ none
+    → accepted table s a ≡ anew table s a
+unfolding accepted
+accepted-anew table s a e = rw e
+
+pub told-again : (s : State) (journal : List Record) (out : List ℕ) (answers : List Message)
+    → answered (s .logged) journal out (repeated s answers) ≡ toldAgain s journal out answers
+told-again s journal out answers = rw (replaced-none journal (s .logged))
+
+-- what holds of the answer to a refused frame, to a repeat and to a new frame holds of the answer
 pub by-verdict : (s : State) (table : List ℕ) (journal : List Record) (frame out : List ℕ) (P : Answer → Type 0)
     → ((n : ℕ) → refusal (frameChecks s (length table) (length journal) frame (length out)) ≡ n
     → P (refused s journal out n))
-    → (Passed s table journal frame out → P (answered (s .logged) journal out (accepted table s (readFrame frame))))
+    → (Passed s table journal frame out → (answers : List Message) → Repeats s (readFrame frame) answers
+    → P (toldAgain s journal out answers))
+    → (Passed s table journal frame out → Taken s (readFrame frame) → RoomLeft s
+    → P (answered (s .logged) journal out (anew table s (readFrame frame))))
     → P (answer s table journal frame out)
 unfolding answer
-by-verdict s table journal frame out P declines takes =
+by-verdict s table journal frame out P declines repeats takes =
     let n = refusal (frameChecks s (length table) (length journal) frame (length out)) in
     let a = answered (s .logged) journal out (accepted table s (readFrame frame)) in
     by-equality n 0
-    (λ e. rw (accepts a (refused s journal out) e) (takes (frame-passed s table journal frame out e)))
+    (λ e.
+    let p = frame-passed s table journal frame out e in
+    rw (accepts a (refused s journal out) e) (by-content-of p (p .message)))
     (λ h. rw (refuses {n = n} a (refused s journal out) (omega arith)) (declines n refl))
+  where
+    by-content-of : Passed s table journal frame out → Content s (readFrame frame)
+        → P (answered (s .logged) journal out (accepted table s (readFrame frame)))
+    by-content-of p (new t room) =
+        rw (accepted-anew table s (readFrame frame) (taken-new s (p .valid-state) (readFrame frame) t)) (takes p t room)
+    by-content-of p (old answers r) =
+        rw (accepted-again table s (readFrame frame) (repeats-again r), told-again s journal out answers)
+        (repeats p answers r)
 
 -- "A refusal returns its number and the state unchanged, and changes no buffer."
 pub refusal-leaves : (s : State) (table : List ℕ) (journal : List Record) (frame out : List ℕ) (n : ℕ)
@@ -187,14 +322,16 @@ refusal-leaves s table journal frame out n =
     by-verdict s table journal frame out
     (λ a. a .verdict ≡ RefusedBy n → a ≡ refused s journal out n)
     (λ k q e. let same : k ≡ n = cc in rw same)
-    (λ p e. absurd (let z : _≡_ {A = ℕ} 0 1 = cc in omega arith))
+    (λ p answers r e. absurd (let z : _≡_ {A = ℕ} 0 1 = cc in omega arith))
+    (λ p t room e. absurd (let z : _≡_ {A = ℕ} 0 1 = cc in omega arith))
 
 pub numbers-told : NumbersTold
 numbers-told s table journal frame out =
     by-verdict s table journal frame out
     (λ a. (a .number ≡ verdictNumber (a .verdict)) × (a .frames ≡ verdictFrames (a .verdict)))
     (λ n e. (refl, refl))
-    (λ p. (refl, refl))
+    (λ p answers r. (refl, refl))
+    (λ p t room. (refl, refl))
 
 -- ---- what is left
 
@@ -322,7 +459,7 @@ lent-accepted s m n v = record {
         → Tracked (lineOf s) r
     untracked a h r q = subst (Tracked (lineOf s)) (sym (List·Memᴰ·eq-of-singleton q)) (no-track (lineOf s) a h)
 
--- ---- every frame that is taken
+-- ---- every new frame that is taken
 
 pub taken-begins : (s : State) (t : ℕ) (x : Train) → x .route ≡ trainOf s t .route
     → Consistent (oneLogged (withTrain s t x)) → Begins s (withTrain s t x)
@@ -345,12 +482,12 @@ return-begins s d i = record {
 }
 
 pub accepted-facts : (table : List ℕ) (s : State) → Consistent s → (a : Message) → Taken s a
-    → Accepted s a (accepted table s a)
-unfolding accepted recordOf
-accepted-facts table s d a (request m n free idle) =
+    → Accepted s a (anew table s a)
+unfolding anew recordOf
+accepted-facts table s d a (request m n free) =
     let t = m .train .0 in
     let k = taken-begins s t (withStatus (trainOf s t) (Asked (s .logged))) refl
-    (valid-request s d t (n .known) (n .short) idle) in
+    (valid-request s d t (n .known) (n .short) (free-idle (trainOf s t .status) free)) in
     let own : recordOf (Fa m) .kind ≢ FE = λ e. omega (arith, e) in
     declined-accepted s (Fa m) m _ (n .known) (paid table s (Fa m) own _ k) (settled-accepted table s (Fa m) own _ k)
 accepted-facts table s d a (arrival m n runs) =
@@ -365,11 +502,11 @@ accepted-facts table s d a (return m n held) =
     (return-begins s d (m .from .0))
 
 -- the state is valid, its count included
-pub accepted-valid : (table : List ℕ) (s : State) → Consistent s → (a : Message) → Taken s a
-    → valid (accepted table s a .state) ≡ true
-accepted-valid table s d a t =
+pub accepted-valid : (table : List ℕ) (s : State) → Consistent s → (a : Message) → Taken s a → RoomLeft s
+    → valid (anew table s a .state) ≡ true
+accepted-valid table s d a t room =
     let k = accepted-facts table s d a t in
-    is-valid _ (k .valid-state) (omega (arith, k .counted, k .few, taken-space s a t))
+    is-valid _ (k .valid-state) (omega (arith, k .counted, k .few))
 
 -- ---- nobody is left
 
@@ -386,9 +523,9 @@ declined-nobody table m w k = by-cases (isAsked (trainOf (w .state) (m .train .0
 
 -- every frame that is taken but an LA runs the granting
 pub runs-nobody : (table : List ℕ) (s : State) (a : Message) → Taken s a → runsGranting a ≡ true
-    → let w = accepted table s a in Nobody table (w .state) (w .state .trains)
-unfolding accepted
-runs-nobody table s a (request m n free idle) e =
+    → let w = anew table s a in Nobody table (w .state) (w .state .trains)
+unfolding anew
+runs-nobody table s a (request m n free) e =
     let w = taken s (Fa m) (withStatus (trainOf s (m .train .0)) (Asked (s .logged))) in
     declined-nobody table m (settled table w) (settled-end table w)
 runs-nobody table s a (arrival m n runs) e =
@@ -399,9 +536,9 @@ runs-nobody table s a (return m n held) e =
 
 -- and after an LA nobody is left where nobody was before
 pub accepted-nobody : (table : List ℕ) (s : State) (a : Message) → Taken s a → Nobody table s (s .trains)
-    → let w = accepted table s a in Nobody table (w .state) (w .state .trains)
-unfolding accepted
-accepted-nobody table s a (request m n free idle) k = runs-nobody table s (Fa m) (request m n free idle) refl
+    → let w = anew table s a in Nobody table (w .state) (w .state .trains)
+unfolding anew
+accepted-nobody table s a (request m n free) k = runs-nobody table s (Fa m) (request m n free) refl
 accepted-nobody table s a (arrival m n runs) k = runs-nobody table s (Am m) (arrival m n runs) refl
 accepted-nobody table s a (lending m n free few) k =
     let b = withPossession s (m .from .0) true (s .given + 1) in

@@ -17,7 +17,7 @@ use Rattle.line.specs.Route.{sectionOf}
 use Rattle.line.specs.Line.{tracksAt}
 use Rattle.line.specs.Holding.{at, isStabled, holdsPost, holdsSection, postHolders}
 use Rattle.line.proofs.Holding.{standing-holds, standing-section, standing-short}
-use Rattle.line.proofs.Travel.{next-between, next-other}
+use Rattle.line.proofs.Travel.{next-between, next-other, next-past, next-back}
 use Rattle.line.proofs.WellFormed.{WellFormed}
 use Rattle.tracks.proofs.Choice.{Chosen}
 use Rattle.completion.specs.Configuration.{moved, codeBelow}
@@ -69,7 +69,12 @@ distinct-change s t x n place number d u v ku kv = by-equality u t
 
 module _ (s : State) (d : Consistent s) (t : ℕ) (known : t < s .trains) (x : Train) (n : ℕ) (c : Change s t x n) where
   later : (y : Train) → TrainValid y (s .logged) → TrainValid y n
-  later y v = record { inside = v .inside; busy = v .busy; numbered = λ q. omega (arith, v .numbered q, c .more) }
+  later y v = record {
+    inside = v .inside;
+    busy = v .busy;
+    numbered = λ q. omega (arith, v .numbered q, c .more);
+    finished = v .finished;
+  }
 
   pub valid-change : Consistent (changed s t x n)
   valid-change = record {
@@ -137,6 +142,7 @@ valid-logged s d = record {
         inside = v .inside;
         busy = v .busy;
         numbered = λ q. omega (arith, v .numbered q);
+        finished = v .finished;
       };
   sections = d .sections;
   posts = d .posts;
@@ -172,7 +178,12 @@ module _ (s : State) (d : Consistent s) (t : ℕ) (known : t < s .trains) where
         place = short-place s t short;
         route = refl;
         more = omega arith;
-        train = record { inside = d .each t known .inside; busy = λ q. short; numbered = λ q. omega arith };
+        train = record {
+          inside = d .each t known .inside;
+          busy = λ q. short;
+          numbered = λ q. omega arith;
+          finished = d .each t known .finished;
+        };
         section = λ i k. rw (standing-section (s .sidings) _ _ i) (omega (arith, d .sections i k));
         post = λ p k. rw idle (omega (arith, d .posts p k));
         track = λ p k h. rw (same p) (d .tracks p t k known (held p h));
@@ -222,6 +233,12 @@ module _ (s : State) (d : Consistent s) (t : ℕ) (known : t < s .trains) where
         inside = next-between _ _ _ (d .each t known .inside) short;
         busy = λ q. absurd (true≢false q);
         numbered = λ q. absurd (false≢true q);
+        finished = rw (
+          ne-eqb _ _ (next-past _ _ _ (d .each t known .inside) short),
+          next-back _ _ _ (d .each t known .inside) short,
+          eq-eqb (ran .at .0) _ refl,
+          eq-eqb (nextOf ran) _ refl,
+        );
       };
       section = λ i k. rw (standing-section (s .sidings) _ _ i) (omega (arith, d .sections i k));
       post = λ p k.
@@ -292,6 +309,7 @@ module _ (s : State) (d : Consistent s) (t : ℕ) (known : t < s .trains) where
         inside = d .each t known .inside;
         busy = λ q. short;
         numbered = λ q. absurd (false≢true q);
+        finished = d .each t known .finished;
       };
       section = λ i k. by-equality (sectionOf (asks .at .0) next) i
           (λ q.

@@ -11,6 +11,7 @@ pub mod Settling
 pub mod Acceptance
 pub mod Frames
 pub mod Refusals
+pub mod Repeats
 pub mod Taking
 pub mod Starting
 pub mod OpeningCases

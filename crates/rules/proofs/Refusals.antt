@@ -2,6 +2,7 @@
 use mathlib.Core.Path.{_≡_, refl, sym, ap, subst}
 use mathlib.Core.Logic.{_≢_, _⊎_, ⊎-elim}
 use mathlib.Core.Bool.{Bool, true, false, not, _&&_, and-false, false≢true}
+use mathlib.Core.Option.{none}
 use mathlib.Core.List.{List, _∷_, _++_}
 use Prim.Native.Nat.{ℕ, _+_, _≤_, _<_}
 use native.Mathlib.Omega.{arith}
@@ -10,35 +11,22 @@ use lib.ListN.{length}
 use borrow.Author.Tests.{eq-eqb, ne-eqb, lt-ltb, le-ltb, le-leb, lt-leb}
 use Rattle.common.specs.Check.{Check, check}
 use Rattle.common.proofs.Tests.{and-both, not-of-false}
-use Rattle.common.proofs.Check.{Refuses, stop, pass, refusal-is, refuses, stop-within, pass-all}
-use Rattle.line.specs.Refusal.{wrongEnd}
+use Rattle.common.proofs.Check.{Refuses, none as no-check, stop, pass, refusal-is, refuses, stop-within, pass-all}
+use Rattle.line.specs.Refusal.{wrongEnd, unknownTrain}
 use Rattle.frame.specs.Frame.{moveIn, readChecks, readFrame}
 use Rattle.frame.specs.RoundTrip.{IsMessage}
 use Rattle.frame.proofs.Outcome.{read-passed, read-refused}
 use Rattle.journal.specs.Journal.{journalLength}
 use Rattle.completion.specs.Table.{tableLength}
-use Rattle.rules.specs.Types.{Move, Message, Fa, Fe, Afe, Am, La, Le, Lb, Refused, Status, Free, Asked, Running}
-use Rattle.rules.specs.State.{isFree, isAsked, isRunning, nextOf}
-use Rattle.rules.specs.Answer.{outLength, forBox, moveChecks, requestChecks, arrivalChecks, contentChecks}
-use Rattle.rules.specs.Answer.{sectionChecks, lendingChecks, returnChecks, frameChecks}
-use Rattle.rules.specs.Answer.{accepted, Answer, answered, refused, answer}
+use Rattle.rules.specs.Types.{Move, Message, Fa, Fe, Afe, Am, La, Le, Lb, Refused}
+use Rattle.rules.specs.State.{isLast, nextOf}
+use Rattle.rules.specs.Answer.{outLength, forBox, knows, moveChecks, requestChecks, arrivalChecks}
+use Rattle.rules.specs.Answer.{again, ofNew, contentChecks, sectionChecks, lendingChecks, returnChecks}
+use Rattle.rules.specs.Answer.{frameChecks, accepted, Answer, answered, refused, answer}
 use Rattle.rules.specs.Refusals.{Handed, RefusedAs, Prepared, ofTrain, ofGang, Reads, named, NamesNext}
-use Rattle.rules.specs.Refusals.{NamesSection, Refusals}
-
-free-unasked : (w : Status) → isFree w ≡ true → isAsked w ≡ false
-free-unasked Free e = refl
-free-unasked (Asked n) e = sym e
-free-unasked (Running k) e = refl
-
-free-idle : (w : Status) → isFree w ≡ true → isRunning w ≡ false
-free-idle Free e = refl
-free-idle (Asked n) e = refl
-free-idle (Running k) e = sym e
-
-running-unasked : (w : Status) → isRunning w ≡ true → isAsked w ≡ false
-running-unasked Free e = refl
-running-unasked (Asked n) e = sym e
-running-unasked (Running k) e = refl
+use Rattle.rules.specs.Refusals.{NotFinished, NamesSection, Refusals}
+use Rattle.rules.proofs.Validity.{valid-facts}
+use Rattle.rules.proofs.Acceptance.{free-new, arrival-new}
 
 pub is-message : (a : Message) → forBox a ≡ true → IsMessage a
 unfolding IsMessage
@@ -119,13 +107,14 @@ module _ (h : Handed) where
         → Refuses (contentChecks (h .state) a) n → Refuses checks n
     after-kind v k r = after-reading a (v .prepared) (v .message) (is-message a k) (pass k r)
 
-    -- what of an FA and an AM is checked first, whatever is checked after it
-    by-move : {n : ℕ} → Reads ofTrain h a
-        → ((cs : List Check) → Refuses (moveChecks (h .state) (moveIn a) ++ cs) n) → Refuses checks n
-    by-move {n = n} v r = after-kind v (train-for-box a (v .kind)) (at a (v .kind) r)
+    -- what of an FA and an AM is checked first, and what comes next of one that is no AM of the last finished move,
+    -- whatever is checked after it
+    by-train : {n : ℕ} → Reads ofTrain h a
+        → ((cs : List Check) → Refuses (check unknownTrain (knows (h .state) (moveIn a)) ∷ cs) n) → Refuses checks n
+    by-train {n = n} v r = after-kind v (train-for-box a (v .kind)) (at a (v .kind) r)
       where
         at : (b : Message) → ofTrain b ≡ true
-            → ((cs : List Check) → Refuses (moveChecks (h .state) (moveIn b) ++ cs) n)
+            → ((cs : List Check) → Refuses (check unknownTrain (knows (h .state) (moveIn b)) ∷ cs) n)
             → Refuses (contentChecks (h .state) b) n
         at (Fa m) e f = f _
         at (Am m) e f = f _
@@ -135,6 +124,26 @@ module _ (h : Handed) where
         at (Le m) e f = absurd (false≢true e)
         at (Lb m) e f = absurd (false≢true e)
         at (Refused k) e f = absurd (false≢true e)
+
+    by-move : {n : ℕ} → Reads ofTrain h a → moveIn a .train .0 < h .state .trains → NotFinished h a
+        → ((cs : List Check) → Refuses (moveChecks (named h a) (moveIn a) ++ cs) n) → Refuses checks n
+    by-move {n = n} v known other r =
+        after-kind v (train-for-box a (v .kind)) (at a (v .kind) (lt-ltb _ _ known) other r)
+      where
+        at : (b : Message) → ofTrain b ≡ true → knows (h .state) (moveIn b) ≡ true → NotFinished h b
+            → ((cs : List Check) → Refuses (moveChecks (named h b) (moveIn b) ++ cs) n)
+            → Refuses (contentChecks (h .state) b) n
+        at (Fa m) e k o f = pass k (f _)
+        at (Am m) e k o f =
+            let onward = moveChecks (named h (Am m)) m ++ arrivalChecks (h .state) (named h (Am m)) in
+            let rest : Refuses (ofNew (again (h .state) (Am m)) onward) n = rw (o m refl) (f _) in
+            pass k rest
+        at (Fe m) e k o f = absurd (false≢true e)
+        at (Afe m) e k o f = absurd (false≢true e)
+        at (La m) e k o f = absurd (false≢true e)
+        at (Le m) e k o f = absurd (false≢true e)
+        at (Lb m) e k o f = absurd (false≢true e)
+        at (Refused k) e l o f = absurd (false≢true e)
 
     -- the same of an LA and an LB
     by-section : {n : ℕ} → Reads ofGang h a
@@ -153,12 +162,12 @@ module _ (h : Handed) where
         at (Le m) e f = absurd (false≢true e)
         at (Refused k) e f = absurd (false≢true e)
 
-    -- 7 to 9 pass too
+    -- 8 and 9 pass too
     after-posts : {n : ℕ} (cs : List Check) → NamesNext h a → Refuses cs n
-        → Refuses (moveChecks (h .state) (moveIn a) ++ cs) n
+        → Refuses (moveChecks (named h a) (moveIn a) ++ cs) n
     after-posts cs v r =
-        pass (lt-ltb _ _ (v .known)) (pass (not-of-false _ (ne-eqb _ _ (v .short)))
-        (pass (and-both _ _ (eq-eqb _ _ (v .from)) (eq-eqb _ _ (v .to))) r))
+        pass (not-of-false _ (ne-eqb _ _ (v .short)))
+        (pass (and-both _ _ (eq-eqb _ _ (v .from)) (eq-eqb _ _ (v .to))) r)
 
     other-posts : (moveIn a .from .0 ≢ named h a .at .0) ⊎ (moveIn a .to .0 ≢ nextOf (named h a))
         → eqb (moveIn a .from .0) (named h a .at .0) && eqb (moveIn a .to .0) (nextOf (named h a)) ≡ false
@@ -180,12 +189,26 @@ module _ (h : Handed) where
         (λ e. rw (ne-eqb (moveIn a .to .0) (moveIn a .from .0 + 1) e))
         (λ e. rw (le-ltb (moveIn a .to .0) (h .state .posts) e) (and-false (eqb (moveIn a .to .0) _)))
 
-  pub after-asking : {n : ℕ} (m : Move) → NamesNext h (Fa m) → Refuses (requestChecks (h .state) m) n → Refuses checks n
-  after-asking m v r = after-kind (Fa m) (v .reads) refl (after-posts (Fa m) _ v r)
+  -- an FA that names its train's next move, by what it is answered by as a repeat
+  pub after-asking : {n : ℕ} (m : Move) → NamesNext h (Fa m)
+      → Refuses (ofNew (again (h .state) (Fa m)) (requestChecks (h .state))) n → Refuses checks n
+  after-asking m v r = after-kind (Fa m) (v .reads) refl (pass (lt-ltb _ _ (v .known)) (after-posts (Fa m) _ v r))
 
-  pub after-arriving : {n : ℕ} (m : Move) → NamesNext h (Am m) → Refuses (arrivalChecks (h .state) m) n
+  -- an AM that names it is no repeat
+  next-new : (m : Move) → NamesNext h (Am m) → again (h .state) (Am m) ≡ none
+  next-new m v = arrival-new (h .state) (valid-facts (h .state) (v .reads .prepared .valid-state)) m
+      (record { known = v .known; short = v .short; from = v .from; to = v .to })
+
+  pub after-arriving : {n : ℕ} (m : Move) → NamesNext h (Am m) → Refuses (arrivalChecks (h .state) (named h (Am m))) n
       → Refuses checks n
-  after-arriving m v r = after-kind (Am m) (v .reads) refl (after-posts (Am m) _ v r)
+  after-arriving m v r =
+      after-kind (Am m) (v .reads) refl
+      (pass (lt-ltb _ _ (v .known)) (rw (next-new m v) (after-posts (Am m) _ v r)))
+
+  -- an AM of the last finished move passes
+  pub after-finish : (m : Move) → Reads ofTrain h (Am m) → m .train .0 < h .state .trains
+      → isLast (named h (Am m) .last) (m .from .0) (m .to .0) ≡ true → Refuses checks 0
+  after-finish m v known e = after-kind (Am m) v refl (pass (lt-ltb _ _ known) (rw e no-check))
 
   pub after-lending : {n : ℕ} (m : Move) → NamesSection h (La m) → Refuses (lendingChecks (h .state) m) n
       → Refuses checks n
@@ -209,14 +232,10 @@ refusals = record {
       (⊎-elim
       (λ e. by-number h (omega arith) (after-reading h (Afe m) v e tt (stop refl)))
       (λ e. by-number h (omega arith) (after-reading h (Le m) v e tt (stop refl))));
-  unknown = λ h a v e. by-number h (omega arith) (by-move h a v (λ cs. stop (le-ltb _ _ e)));
-  ended = λ h a v k e.
-      by-number h (omega arith) (by-move h a v (λ cs. pass (lt-ltb _ _ k) (stop (ap not (eq-eqb _ _ e)))));
-  other-post = λ h a v k s e. by-number h (omega arith) (by-move h a v (λ cs.
-      pass (lt-ltb _ _ k) (pass (not-of-false _ (ne-eqb _ _ s)) (stop (other-posts h a e)))));
-  asked = λ h m v e. by-number h (omega arith) (after-asking h m v (stop (ap not e)));
-  running = λ h m v e. by-number h (omega arith)
-      (after-asking h m v (pass (not-of-false _ (running-unasked (named h (Fa m) .status) e)) (stop (ap not e))));
+  unknown = λ h a v e. by-number h (omega arith) (by-train h a v (λ cs. stop (le-ltb _ _ e)));
+  ended = λ h a v k o e. by-number h (omega arith) (by-move h a v k o (λ cs. stop (ap not (eq-eqb _ _ e))));
+  other-post = λ h a v k o s e. by-number h (omega arith)
+      (by-move h a v k o (λ cs. pass (not-of-false _ (ne-eqb _ _ s)) (stop (other-posts h a e))));
   idle = λ h m v e. by-number h (omega arith) (after-arriving h m v (stop e));
   unknown-gang = λ h a v e. by-number h (omega arith) (by-section h a v (λ cs. stop (ne-eqb _ _ e)));
   other-section = λ h a v k e.
@@ -224,9 +243,8 @@ refusals = record {
   section-taken = λ h m v e. by-number h (omega arith) (after-lending h m v (stop (ne-eqb _ _ e)));
   twenty = λ h m v e l. by-number h (omega arith) (after-lending h m v (pass (eq-eqb _ _ e) (stop (le-ltb _ _ l))));
   not-lent = λ h m v e. by-number h (omega arith) (after-return h m v (stop e));
-  full-request = λ h m v e l. by-number h (omega arith) (after-asking h m v
-      (pass (not-of-false _ (free-unasked (named h (Fa m) .status) e))
-      (pass (not-of-false _ (free-idle (named h (Fa m) .status) e)) (stop (lt-leb _ _ l)))));
+  full-request = λ h m v e l. by-number h (omega arith)
+      (after-asking h m v (rw (free-new (named h (Fa m) .status) m e) (stop (lt-leb _ _ l))));
   full-arrival = λ h m v e l. by-number h (omega arith) (after-arriving h m v (pass e (stop (lt-leb _ _ l))));
   full-lending = λ h m v e k l. by-number h (omega arith)
       (after-lending h m v (pass (eq-eqb _ _ e) (pass (lt-ltb _ _ k) (stop (lt-leb _ _ l)))));

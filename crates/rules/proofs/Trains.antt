@@ -37,6 +37,21 @@ running-is Free e = absurd (false≢true e)
 running-is (Asked n) e = absurd (false≢true e)
 running-is (Running k) e = (k, refl)
 
+pub free-idle : (w : Status) → isFree w ≡ true → isRunning w ≡ false
+free-idle Free e = refl
+free-idle (Asked n) e = refl
+free-idle (Running k) e = sym e
+
+pub free-unasked : (w : Status) → isFree w ≡ true → isAsked w ≡ false
+free-unasked Free e = refl
+free-unasked (Asked n) e = sym e
+free-unasked (Running k) e = refl
+
+pub idle-free : (w : Status) → isAsked w ≡ false → isRunning w ≡ false → isFree w ≡ true
+idle-free Free e f = refl
+idle-free (Asked n) e f = sym e
+idle-free (Running k) e f = sym f
+
 -- an idle train has no track ahead
 pub idle-ahead : (w : Status) → isRunning w ≡ false → trackAhead w ≡ 0
 idle-ahead Free e = refl

@@ -1,8 +1,8 @@
 -- Valid states as facts, both ways: `Consistent s` holds exactly where the test `consistent s` passes. It says all that
 -- `valid s` asks but the range of the count, which no change of a record can break.
-use mathlib.Core.Path.{_≡_, refl, sym, _∙_}
+use mathlib.Core.Path.{_≡_, refl, sym, subst, _∙_}
 use mathlib.Core.Logic.{_≢_, ⊎-elim}
-use mathlib.Core.Bool.{Bool, true, false, not, _||_, false≢true, true≢false}
+use mathlib.Core.Bool.{Bool, true, false, not, _&&_, _||_, false≢true, true≢false}
 use Prim.Native.Nat.{ℕ, _≤_, _<_}
 use native.Mathlib.Omega.{arith}
 use lib.Dec.{leb, eqb, ltb}
@@ -12,17 +12,17 @@ use Rattle.common.specs.Below.{allBelow}
 use Rattle.common.proofs.Tests.{clash, by-cases, by-equality, by-order, not-passed, and-left, and-right, and-both}
 use Rattle.common.proofs.Tests.{or-left, or-right, not-of-false}
 use Rattle.common.proofs.Below.{ofBool-le, all-below, below-all, count-none, one-counted}
-use Rattle.line.specs.Route.{between, sectionOf}
+use Rattle.line.specs.Route.{nextPost, between, sectionOf}
 use Rattle.line.specs.Line.{inRange, tracksAt}
 use Rattle.line.specs.Holding.{isStabled, holdsPost, holdsSection, postHolders}
 use Rattle.line.proofs.Holding.{standing-section}
 use Rattle.line.proofs.Travel.{Between, between-of, of-between, next-below}
 use Rattle.line.proofs.WellFormed.{WellFormed, ranged, well-formed, is-well-formed}
-use Rattle.rules.specs.Types.{Status, Free, Asked, Running, Train, State}
-use Rattle.rules.specs.State.{isFree, isAsked, isRunning, askedAs, atEnd, nextOf, locatedAt, trackAt, trainOf}
-use Rattle.rules.specs.State.{lineOf, located, possessed, holdersOf}
-use Rattle.rules.specs.Valid.{trainValid, sectionsValid, postsValid, trackValid, tracksValid, awayValid}
-use Rattle.rules.specs.Valid.{numberBelow, sameNumber, numberValid, mostGiven, consistent, mostCounted}
+use Rattle.rules.specs.Types.{Status, Free, Asked, Running, Last, Nothing, Done, Train, State}
+use Rattle.rules.specs.State.{isFree, isAsked, isRunning, askedAs, isNothing, isLast, atEnd, nextOf, locatedAt}
+use Rattle.rules.specs.State.{trackAt, trainOf, lineOf, located, possessed, holdersOf}
+use Rattle.rules.specs.Valid.{lastValid, trainValid, sectionsValid, postsValid, trackValid, tracksValid}
+use Rattle.rules.specs.Valid.{awayValid, numberBelow, sameNumber, numberValid, mostGiven, consistent, mostCounted}
 use Rattle.rules.specs.Valid.{valid}
 use Rattle.rules.proofs.Trains.{asked-busy, route-of}
 
@@ -31,6 +31,7 @@ pub record TrainValid (x : Train) (n : ℕ) : Type 0 where
   pub inside : Between (x .route .start .0) (x .at .0) (x .route .end .0)
   pub busy : isFree (x .status) ≡ false → x .at .0 ≢ x .route .end .0
   pub numbered : isAsked (x .status) ≡ true → askedAs (x .status) < n
+  pub finished : lastValid x ≡ true
 
 -- "FA numbers are distinct"
 abbrev pub Distinct : State → Type 0
@@ -65,10 +66,13 @@ pub record Consistent (s : State) : Type 0 where
 tested-train : (x : Train) (n : ℕ) → trainValid x ≡ true → numberBelow (x .status) n ≡ true → TrainValid x n
 tested-train x n e b =
     let place = between (x .route .start .0) (x .at .0) (x .route .end .0) in
+    let onward = isFree (x .status) || not (atEnd x) in
+    let rest : onward && lastValid x ≡ true = and-right place _ e in
     record {
       inside = between-of _ _ _ (and-left place _ e);
-      busy = λ q. eqb-false _ _ (not-true _ (busy (isFree (x .status)) (not (atEnd x)) (and-right place _ e) q));
+      busy = λ q. eqb-false _ _ (not-true _ (busy (isFree (x .status)) (not (atEnd x)) (and-left onward _ rest) q));
       numbered = number (x .status) b;
+      finished = and-right onward _ rest;
     }
   where
     busy : (a b : Bool) → a || b ≡ true → a ≡ false → b ≡ true
@@ -83,9 +87,11 @@ tested-train x n e b =
 train-tested : (x : Train) (n : ℕ) → TrainValid x n → (trainValid x ≡ true) × (numberBelow (x .status) n ≡ true)
 train-tested x n d = (
   and-both (between (x .route .start .0) (x .at .0) (x .route .end .0)) _ (of-between _ _ _ (d .inside))
+      (and-both (isFree (x .status) || not (atEnd x)) _
       (by-cases (isFree (x .status))
       (λ e. or-left (isFree (x .status)) _ e)
-      (λ e. or-right (isFree (x .status)) (not (atEnd x)) (rw (ne-eqb (x .at .0) (x .route .end .0) (d .busy e))))),
+      (λ e. or-right (isFree (x .status)) (not (atEnd x)) (rw (ne-eqb (x .at .0) (x .route .end .0) (d .busy e)))))
+      (d .finished)),
   number (x .status) (d .numbered),
 )
   where
@@ -93,6 +99,38 @@ train-tested x n d = (
     number Free h = refl
     number (Asked m) h = lt-ltb m n (h refl)
     number (Running k) h = refl
+
+-- ---- the last finished move
+
+-- where a train has one, no other is its last
+pub is-last : (x : Last) (p q : ℕ) → isLast x p q ≡ true → x ≡ Done (record { 0 = p }) (record { 0 = q })
+is-last Nothing p q e = absurd (false≢true e)
+is-last (Done a b) p q e =
+    let from : a .0 ≡ p = eqb-true _ _ (and-left (eqb (a .0) p) _ e) in
+    let to : b .0 ≡ q = eqb-true _ _ (and-right (eqb (a .0) p) _ e) in
+    rw (← from, ← to)
+
+module _ (x : Train) (v : lastValid x ≡ true) where
+  pub none-finished : x .at .0 ≡ x .route .start .0 → isNothing (x .last) ≡ true
+  none-finished e = rw (eq-eqb _ _ e) at v
+
+  pub one-finished : x .at .0 ≢ x .route .start .0
+      → isLast (x .last) (nextPost (x .at .0) (x .route .start .0)) (x .at .0) ≡ true
+  one-finished h = rw (ne-eqb _ _ h) at v
+
+  -- so the one that it has came to the present post, from the post before it
+  pub finished-move : (p q : ℕ) → isLast (x .last) p q ≡ true
+      → (x .at .0 ≢ x .route .start .0) × (p ≡ nextPost (x .at .0) (x .route .start .0)) × (q ≡ x .at .0)
+  finished-move p q e = by-equality (x .at .0) (x .route .start .0)
+      (λ h. absurd (none (x .last) (none-finished h) e))
+      (λ h.
+      let z = subst (λ (l : Last). isLast l p q ≡ true) (is-last (x .last) _ _ (one-finished h)) e in
+      let back = nextPost (x .at .0) (x .route .start .0) in
+      (h, sym (eqb-true back p (and-left (eqb back p) _ z)), sym (eqb-true (x .at .0) q (and-right (eqb back p) _ z))))
+    where
+      none : (y : Last) → isNothing y ≡ true → isLast y p q ≡ true → ⊥
+      none Nothing a b = false≢true b
+      none (Done c d) a b = false≢true a
 
 -- ---- the tests of two trains' numbers
 

@@ -2,6 +2,7 @@
 -- buffer.
 use mathlib.Core.Path.{_≡_}
 use mathlib.Core.Bool.{Bool, true, false, not, cond, _&&_}
+use mathlib.Core.Option.{Option, none, some}
 use mathlib.Core.List.{List, [], _∷_, _++_}
 use Prim.Native.Nat.{ℕ, _+_, _*_}
 use lib.Dec.{leb, ltb, eqb}
@@ -9,15 +10,14 @@ use lib.ListN.{length}
 use Rattle.common.specs.Check.{Check, check, refusal, unlessRefused}
 use Rattle.common.specs.Part.{replaced}
 use Rattle.line.specs.Refusal.{strangeState, shortStore, wrongEnd, unknownTrain, atItsEnd, wrongPost}
-use Rattle.line.specs.Refusal.{alreadyAsked, underAuthority, noAuthority, journalFull}
-use Rattle.line.specs.Refusal.{sectionTaken, noLocalRun, twentyGiven}
+use Rattle.line.specs.Refusal.{noAuthority, journalFull, sectionTaken, noLocalRun, twentyGiven}
 use Rattle.frame.specs.Frame.{frameLength, moveIn, readChecks, readFrame, bytesOf}
 use Rattle.journal.specs.Journal.{journalLength, mostSent, batchLength, recordOf}
 use Rattle.completion.specs.Table.{tableLength}
-use Rattle.rules.specs.Types.{Move, Message, Fa, Fe, Afe, Am, La, Le, Lb, Refused, Record, Asked}
-use Rattle.rules.specs.Types.{Train, State, Verdict, Sent, RefusedBy, Reply}
-use Rattle.rules.specs.State.{isAsked, isRunning, atEnd, nextOf, trainOf, possessed, sectionFree, withStatus}
-use Rattle.rules.specs.State.{arrivedNext, withTrain, withPossession}
+use Rattle.rules.specs.Types.{Move, Message, Fa, Fe, Afe, Am, La, Le, Lb, Refused, Record, Status, Free, Asked}
+use Rattle.rules.specs.Types.{Running, Last, Train, State, Verdict, Sent, RefusedBy, Reply}
+use Rattle.rules.specs.State.{isAsked, isRunning, isLast, atEnd, nextOf, trainOf, possessed, sectionFree}
+use Rattle.rules.specs.State.{withStatus, arrivedNext, withTrain, withPossession}
 use Rattle.rules.specs.Valid.{mostGiven, valid}
 use Rattle.rules.specs.Granting.{Work, begun, sends, settled}
 
@@ -53,12 +53,10 @@ outerChecks s table records frame room =
 abbrev pub knows : State → Move → Bool
 knows s m = ltb (m .train .0) (s .trains)
 
--- "7, 8 (at its end), 9"
-abbrev pub moveChecks : State → Move → List Check
-moveChecks s m =
-    let x = trainOf s (m .train .0) in
-    check unknownTrain (knows s m)
-    ∷ check atItsEnd (not (atEnd x))
+-- "8 (at its end), 9" of a train
+abbrev pub moveChecks : Train → Move → List Check
+moveChecks x m =
+    check atItsEnd (not (atEnd x))
     ∷ check wrongPost (eqb (m .from .0) (x .at .0) && eqb (m .to .0) (nextOf x))
     ∷ []
 
@@ -66,22 +64,13 @@ moveChecks s m =
 abbrev pub hasRoom : State → Bool
 hasRoom s = leb (s .logged + mostLogged) journalLength
 
--- "then 10 or 11 for FA, .. then 13"
-abbrev pub requestChecks : State → Move → List Check
-requestChecks s m =
-    let w = trainOf s (m .train .0) .status in
-    check alreadyAsked (not (isAsked w))
-    ∷ check underAuthority (not (isRunning w))
-    ∷ check journalFull (hasRoom s)
-    ∷ []
+-- "then 13" for FA
+abbrev pub requestChecks : State → List Check
+requestChecks s = check journalFull (hasRoom s) ∷ []
 
 -- "then .. 12 for AM, then 13"
-abbrev pub arrivalChecks : State → Move → List Check
-arrivalChecks s m =
-    let w = trainOf s (m .train .0) .status in
-    check noAuthority (isRunning w)
-    ∷ check journalFull (hasRoom s)
-    ∷ []
+abbrev pub arrivalChecks : State → Train → List Check
+arrivalChecks s x = check noAuthority (isRunning (x .status)) ∷ check journalFull (hasRoom s) ∷ []
 
 -- 02, card 4: LA and LB "have train byte 255 and name the two neighbouring posts, lower first": "a train byte not 255
 -- is 7 and posts not so named are 9"
@@ -106,10 +95,44 @@ lendingChecks s m =
 abbrev pub returnChecks : State → Move → List Check
 returnChecks s m = check noLocalRun (possessed s (m .from .0)) ∷ check journalFull (hasRoom s) ∷ []
 
--- of what the message says; any other message was refused by 6 or by its reading
+-- ---- repeats: 02, card 6
+
+-- "At the dispatcher a repeated FA gets its AFE or FE again": that of a train which has asked, and of one which has its
+-- authority
+abbrev pub askedAgain : Status → Move → Option (List Message)
+askedAgain Free m = none
+askedAgain (Asked n) m = some (Afe m ∷ [])
+askedAgain (Running k) m = some (Fe m ∷ [])
+
+-- "an AM naming the train's last finished move is taken with no output"
+abbrev pub arrivedAgain : Last → Move → Option (List Message)
+arrivedAgain x m = cond (isLast x (m .from .0) (m .to .0)) (some []) none
+
+-- what a message that repeats an earlier one is answered by; none where it repeats none
+abbrev pub again : State → Message → Option (List Message)
+again s (Fa m) = askedAgain (trainOf s (m .train .0) .status) m
+again s (Am m) = arrivedAgain (trainOf s (m .train .0) .last) m
+again s (La m) = none
+again s (Lb m) = none
+again s (Fe m) = none
+again s (Afe m) = none
+again s (Le m) = none
+again s (Refused n) = none
+
+-- the checks that only a new message must meet
+abbrev pub ofNew : Option (List Message) → List Check → List Check
+ofNew none checks = checks
+ofNew (some answers) checks = []
+
+-- of what the message says; any other message was refused by 6 or by its reading. An FA is known for a repeat after 9,
+-- and an AM before 8: "The test for a finished move comes before 8." So "both are answered before 13".
 abbrev pub contentChecks : State → Message → List Check
-contentChecks s (Fa m) = moveChecks s m ++ requestChecks s m
-contentChecks s (Am m) = moveChecks s m ++ arrivalChecks s m
+contentChecks s (Fa m) =
+    let x = trainOf s (m .train .0) in
+    check unknownTrain (knows s m) ∷ moveChecks x m ++ ofNew (again s (Fa m)) (requestChecks s)
+contentChecks s (Am m) =
+    let x = trainOf s (m .train .0) in
+    check unknownTrain (knows s m) ∷ ofNew (again s (Am m)) (moveChecks x m ++ arrivalChecks s x)
 contentChecks s (La m) = sectionChecks s m ++ lendingChecks s m
 contentChecks s (Lb m) = sectionChecks s m ++ returnChecks s m
 contentChecks s (Fe m) = []
@@ -117,8 +140,8 @@ contentChecks s (Afe m) = []
 contentChecks s (Le m) = []
 contentChecks s (Refused n) = []
 
--- "Checks in order: 1, 2, 3, 4, 5, 6, 7, 8 (at its end), 9, then 10 or 11 for FA, 12 for AM, then 13."; for LA and LB
--- as card 4 says
+-- "Checks in order: 1, 2, 3, 4, 5, 6, 7, 8 (at its end), 9, then .. 12 for AM, then 13."; for LA and LB as card 4 says,
+-- and a repeat ends them as card 6 says
 abbrev pub frameChecks : State → ℕ → ℕ → List ℕ → ℕ → List Check
 frameChecks s table records frame room =
     outerChecks s table records frame room ++ contentChecks s (readFrame frame)
@@ -134,30 +157,42 @@ abbrev pub declined : Move → Work → Work
 declined m w =
     cond (isAsked (trainOf (w .state) (m .train .0) .status)) (sends (w .state) w (recordOf (Afe m)) (Afe m)) w
 
--- nothing is logged or sent
-abbrev pub untouched : State → Work
-untouched s = record { state = s; logged = []; sent = [] }
+-- 02, card 6: "neither is logged or changes the state": these answers are sent, and nothing else is done
+abbrev pub repeated : State → List Message → Work
+repeated s answers = record { state = s; logged = []; sent = answers }
 
-unfoldable pub accepted : List ℕ → State → Message → Work
+abbrev pub untouched : State → Work
+untouched s = repeated s []
+
+-- what a message does that repeats none
+unfoldable pub anew : List ℕ → State → Message → Work
 -- "FA: the train becomes Asked. Then the oldest Asked train .. that can be granted"
-accepted table s (Fa m) =
+anew table s (Fa m) =
     let asked = withStatus (trainOf s (m .train .0)) (Asked (s .logged)) in
     declined m (settled table (taken s (Fa m) asked))
 -- "AM: the train becomes Free at the post it ran to. Then the same granting."
-accepted table s (Am m) = settled table (taken s (Am m) (arrivedNext (s .sidings) (trainOf s (m .train .0))))
+anew table s (Am m) = settled table (taken s (Am m) (arrivedNext (s .sidings) (trainOf s (m .train .0))))
 -- 02, card 4: "LA is answered by LE", and a gang is a holder "from its LE written". Nobody can be granted then who
 -- could not be before.
-accepted table s (La m) =
+anew table s (La m) =
     let w = begun s (recordOf (La m)) in
     sends (withPossession (w .state) (m .from .0) true (s .given + 1)) w (recordOf (Le m)) (Le m)
 -- "LB frees it and starts the same granting as AM."
-accepted table s (Lb m) = settled table (begun (withPossession s (m .from .0) false (s .given)) (recordOf (Lb m)))
-accepted table s (Fe m) = untouched s
-accepted table s (Afe m) = untouched s
-accepted table s (Le m) = untouched s
-accepted table s (Refused n) = untouched s
+anew table s (Lb m) = settled table (begun (withPossession s (m .from .0) false (s .given)) (recordOf (Lb m)))
+anew table s (Fe m) = untouched s
+anew table s (Afe m) = untouched s
+anew table s (Le m) = untouched s
+anew table s (Refused n) = untouched s
 
--- whether a message, accepted, runs the granting
+-- a repeat is answered again, and nobody is granted after it
+abbrev pub unlessAgain : Option (List Message) → State → Work → Work
+unlessAgain none s w = w
+unlessAgain (some answers) s w = repeated s answers
+
+unfoldable pub accepted : List ℕ → State → Message → Work
+accepted table s a = unlessAgain (again s a) s (anew table s a)
+
+-- whether a message that repeats none runs the granting
 abbrev pub runsGranting : Message → Bool
 runsGranting (Fa m) = true
 runsGranting (Am m) = true

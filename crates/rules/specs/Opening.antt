@@ -16,7 +16,7 @@ use Rattle.tracks.specs.Tracks.{hasTrack, unlessAway, trackFor}
 use Rattle.journal.specs.Journal.{journalLength}
 use Rattle.completion.specs.Configuration.{start, whereabouts, code, feasible}
 use Rattle.completion.specs.Table.{tableLength, bitOf, filled}
-use Rattle.rules.specs.Types.{Route, Line, Record, Free, Train, State, Opened}
+use Rattle.rules.specs.Types.{Route, Line, Record, Free, Nothing, Train, State, Opened}
 
 -- 2: of the journal only the number of records is looked at
 abbrev pub storesCheck : List ℕ → ℕ → Check
@@ -58,9 +58,9 @@ openedTrack l t = getD (startTracks l (l .trains)) t 0
 
 -- ---- the state
 
--- a train at its start, on track k; of no route, at post 0
+-- a train at its start, on track k, with no move finished; of no route, at post 0
 abbrev pub fresh : Route → ℕ → Train
-fresh r k = record { route = r; at = r .start; track = record { 0 = k }; status = Free }
+fresh r k = record { route = r; at = r .start; track = record { 0 = k }; status = Free; last = Nothing }
 
 -- "every train Free at its start, count 0"; where a line has 0, the state has. No gang has a section.
 abbrev pub openedState : Line → State

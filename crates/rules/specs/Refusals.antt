@@ -1,7 +1,8 @@
 -- Which number refuses a frame, number by number: 01, "Declining by number", in the order of "Checks in order: 1, 2, 3,
--- 4, 5, 6, 7, 8 (at its end), 9, then 10 or 11 for FA, 12 for AM, then 13." 02, card 4: "for kinds 5 and 7, after 6, a
--- train byte not 255 is 7 and posts not so named are 9; then for LA 24 .. and 26 ..; for LB 25 ..; then 13." Each is
--- given whatever is wrong with what is checked after it.
+-- 4, 5, 6, 7, 8 (at its end), 9, then .. 12 for AM, then 13." 02, card 4: "for kinds 5 and 7, after 6, a train byte not
+-- 255 is 7 and posts not so named are 9; then for LA 24 .. and 26 ..; for LB 25 ..; then 13." Card 6: an AM of the last
+-- finished move gets neither 8 nor 9, and "Refusals 10 and 11 go". Each is given whatever is wrong with what is checked
+-- after it.
 use mathlib.Core.Path.{_≡_}
 use mathlib.Core.Logic.{_≢_, _⊎_}
 use mathlib.Core.Bool.{Bool, true, false}
@@ -9,14 +10,13 @@ use mathlib.Core.List.{List}
 use Prim.Native.Nat.{ℕ, _+_, _≤_, _<_}
 use lib.ListN.{length}
 use Rattle.line.specs.Refusal.{strangeState, shortStore, wrongEnd, unknownTrain, atItsEnd, wrongPost}
-use Rattle.line.specs.Refusal.{alreadyAsked, underAuthority, noAuthority, journalFull}
-use Rattle.line.specs.Refusal.{sectionTaken, noLocalRun, twentyGiven}
+use Rattle.line.specs.Refusal.{noAuthority, journalFull, sectionTaken, noLocalRun, twentyGiven}
 use Rattle.frame.specs.Frame.{moveIn, readFrame}
 use Rattle.journal.specs.Journal.{journalLength}
 use Rattle.completion.specs.Table.{tableLength}
 use Rattle.rules.specs.Types.{Move, Message, Fa, Fe, Afe, Am, La, Le, Lb, Refused, Record, Train, State}
 use Rattle.rules.specs.Types.{RefusedBy}
-use Rattle.rules.specs.State.{isFree, isAsked, isRunning, nextOf, trainOf, possessed, holdersOf}
+use Rattle.rules.specs.State.{isFree, isRunning, isLast, nextOf, trainOf, possessed, holdersOf}
 use Rattle.rules.specs.Valid.{mostGiven, valid}
 use Rattle.rules.specs.Answer.{outLength, mostLogged, gangByte, answer}
 
@@ -69,6 +69,10 @@ pub record Reads (whose : Message → Bool) (h : Handed) (a : Message) : Type 0 
 abbrev pub named : Handed → Message → Train
 named h a = trainOf (h .state) (moveIn a .train .0)
 
+-- a is no AM of its train's last finished move
+abbrev pub NotFinished : Handed → Message → Type 0
+NotFinished h a = (m : Move) → a ≡ Am m → isLast (named h a .last) (m .from .0) (m .to .0) ≡ false
+
 -- 7 to 9 pass too: a names a train that is short of its end, and its next move
 pub record NamesNext (h : Handed) (a : Message) : Type 0 where
   pub reads : Reads ofTrain h a
@@ -103,17 +107,11 @@ pub record Refusals : Type 0 where
       → RefusedAs unknownTrain h
   -- 8, at its end: "no next post", whatever posts the frame names
   pub ended : (h : Handed) (a : Message) → Reads ofTrain h a → moveIn a .train .0 < h .state .trains
-      → named h a .at .0 ≡ named h a .route .end .0 → RefusedAs atItsEnd h
+      → NotFinished h a → named h a .at .0 ≡ named h a .route .end .0 → RefusedAs atItsEnd h
   -- 9, wrong post: "from or to not present and next post"
   pub other-post : (h : Handed) (a : Message) → Reads ofTrain h a → moveIn a .train .0 < h .state .trains
-      → named h a .at .0 ≢ named h a .route .end .0
+      → NotFinished h a → named h a .at .0 ≢ named h a .route .end .0
       → (moveIn a .from .0 ≢ named h a .at .0) ⊎ (moveIn a .to .0 ≢ nextOf (named h a)) → RefusedAs wrongPost h
-  -- 10, already asked: "FA of an Asked train"
-  pub asked : (h : Handed) (m : Move) → NamesNext h (Fa m) → isAsked (named h (Fa m) .status) ≡ true
-      → RefusedAs alreadyAsked h
-  -- 11, under authority: "FA of a Running train"
-  pub running : (h : Handed) (m : Move) → NamesNext h (Fa m) → isRunning (named h (Fa m) .status) ≡ true
-      → RefusedAs underAuthority h
   -- 12, no authority: "AM of a train not Running"
   pub idle : (h : Handed) (m : Move) → NamesNext h (Am m) → isRunning (named h (Am m) .status) ≡ false
       → RefusedAs noAuthority h

@@ -12,7 +12,7 @@ use Rattle.line.specs.Holding.{Whereabouts, moving, standing, sectionHolders}
 use Rattle.tracks.specs.Tracks.{hasTrack, unlessAway, trackFor}
 use Rattle.frame.specs.Frame.{moveOf}
 use Rattle.completion.specs.Configuration.{Configuration}
-use Rattle.rules.specs.Types.{Line, Move, Status, Free, Asked, Running, Train, State}
+use Rattle.rules.specs.Types.{Line, Move, Status, Free, Asked, Running, Last, Nothing, Done, Train, State}
 
 -- ---- one train
 
@@ -43,6 +43,15 @@ trackAhead Free = 0
 trackAhead (Asked n) = 0
 trackAhead (Running k) = k .0
 
+-- 02, card 6: no move is finished yet; the last finished one is that from post p to q
+abbrev pub isNothing : Last → Bool
+isNothing Nothing = true
+isNothing (Done a b) = false
+
+abbrev pub isLast : Last → ℕ → ℕ → Bool
+isLast Nothing p q = false
+isLast (Done a b) p q = eqb (a .0) p && eqb (b .0) q
+
 abbrev pub atEnd : Train → Bool
 atEnd x = eqb (x .at .0) (x .route .end .0)
 
@@ -67,7 +76,13 @@ reachedBy x = distance (x .route .start .0) (x .at .0) + ofBool (isRunning (x .s
 -- ---- the state
 
 abbrev pub noTrain : Train
-noTrain = record { route = noRoute; at = record { 0 = 0 }; track = record { 0 = 0 }; status = Free }
+noTrain = record {
+  route = noRoute;
+  at = record { 0 = 0 };
+  track = record { 0 = 0 };
+  status = Free;
+  last = Nothing;
+}
 
 abbrev pub trainOf : State → ℕ → Train
 trainOf s t = getD (s .fleet) t noTrain
@@ -123,16 +138,17 @@ nextMove s t = moveOf t (trainOf s t .at .0) (nextOf (trainOf s t))
 -- ---- the state, changed
 
 abbrev pub withStatus : Train → Status → Train
-withStatus x w = record { route = x .route; at = x .at; track = x .track; status = w }
+withStatus x w = record { route = x .route; at = x .at; track = x .track; status = w; last = x .last }
 
 -- "the train becomes Free at the post it ran to". 02, card 2: "A train keeps its track while it holds the post; one put
--- away in a siding has none."
+-- away in a siding has none." 02, card 6: the move is its last finished one.
 abbrev pub arrivedNext : ℕ → Train → Train
 arrivedNext sidings x = record {
   route = x .route;
   at = record { 0 = nextOf x };
   track = record { 0 = unlessAway sidings (x .route .end .0) (nextOf x) (trackAhead (x .status)) };
   status = Free;
+  last = Done (x .at) (record { 0 = nextOf x });
 }
 
 -- the state with these records of its trains, these possessions, so many local runs given and so many records logged

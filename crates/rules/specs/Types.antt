@@ -11,6 +11,8 @@ pub use Rattle.journal.specs.declared.record.Record.{Record}
 pub use Rattle.journal.specs.declared.batch.Batch.{Batch}
 pub use Rattle.rules.specs.declared.state.Status.{Status}
 pub use Rattle.rules.specs.declared.state.Status.the-variants.{Free, Asked, Running}
+pub use Rattle.rules.specs.declared.state.Last.{Last}
+pub use Rattle.rules.specs.declared.state.Last.the-variants.{Nothing, Done}
 pub use Rattle.rules.specs.declared.state.Train.{Train}
 pub use Rattle.rules.specs.declared.state.State.{State}
 pub use Rattle.rules.specs.declared.result.Verdict.{Verdict}

@@ -1,19 +1,31 @@
 -- When a state that is handed in is valid (01: sound).
-use mathlib.Core.Bool.{Bool, true, false, not, _&&_, _||_}
+use mathlib.Core.Bool.{Bool, true, false, not, cond, _&&_, _||_}
 use Prim.Native.Nat.{ℕ}
 use lib.Dec.{leb, ltb, eqb}
 use lib.ListN.{getD}
 use Rattle.common.specs.Below.{allBelow}
-use Rattle.line.specs.Route.{between}
+use Rattle.line.specs.Route.{nextPost, between}
 use Rattle.line.specs.Line.{inRange, wellFormed}
 use Rattle.line.specs.Holding.{isStabled, holdsPost, postHolders}
 use Rattle.journal.specs.Journal.{journalLength}
 use Rattle.rules.specs.Types.{Status, Free, Asked, Running, Train, State}
-use Rattle.rules.specs.State.{isFree, atEnd, trackAt, trainOf, lineOf, located, holdersOf, holdsTrack}
+use Rattle.rules.specs.State.{isFree, isNothing, isLast, atEnd, trackAt, trainOf, lineOf, located, holdersOf}
+use Rattle.rules.specs.State.{holdsTrack}
 
--- "present posts lie between start and end (both counted), only trains short of their end are Asked or Running"
+-- 02, card 6: "in a sound state none at its start, else the one-post move towards its end that reached the present
+-- post": that came from the post before it, which is the next one on the way back to the start
+abbrev pub lastValid : Train → Bool
+lastValid x =
+    cond (eqb (x .at .0) (x .route .start .0))
+    (isNothing (x .last))
+    (isLast (x .last) (nextPost (x .at .0) (x .route .start .0)) (x .at .0))
+
+-- "present posts lie between start and end (both counted), only trains short of their end are Asked or Running";
+-- then the last finished move
 abbrev pub trainValid : Train → Bool
-trainValid x = between (x .route .start .0) (x .at .0) (x .route .end .0) && (isFree (x .status) || not (atEnd x))
+trainValid x =
+    between (x .route .start .0) (x .at .0) (x .route .end .0)
+    && ((isFree (x .status) || not (atEnd x)) && lastValid x)
 
 -- "sections and tracks are held as above": "No section has two holders. .. The number of trains that hold a post is
 -- never above its tracks." 02, card 4: "a gang is a holder".

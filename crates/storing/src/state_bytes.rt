@@ -1,10 +1,11 @@
-// A state written to 56 bytes.
+// A state written to 74 bytes.
 ghost use mathlib.Core.Path.{_≡_};
+ghost use mathlib.Core.List.{[], _∷_};
 ghost use lib.ListN.{length};
 ghost use Rattle.common.specs.Part.{replaced};
 ghost use Rattle.rules.specs.State.{lineOf};
-ghost use Rattle.encoding.specs.StateBytes.{standingBytes, trainBytes, endingBytes, possessionsAt};
-ghost use Rattle.encoding.specs.StateBytes.{stateLength, stateBytes, stateIn};
+ghost use Rattle.encoding.specs.StateBytes.{statusNo, detail, lastNo, lastFrom, lastTo, standingBytes, trainBytes};
+ghost use Rattle.encoding.specs.StateBytes.{endingBytes, possessionsAt, stateLength, stateBytes, stateIn};
 use encoding::GIVEN_AT;
 use encoding::HEAD_LENGTH;
 use encoding::LOGGED_AT;
@@ -14,11 +15,12 @@ use encoding::STANDING_LENGTH;
 use encoding::TRAIN_LENGTH;
 use placing::put;
 use placing::put_head;
+use rules::Last;
 use rules::State;
 use rules::Status;
 use rules::Train;
 
-// Writes the 56 bytes of a state.
+// Writes the 74 bytes of a state.
 pub fn put_state(state: State, to: &mut [u8])
     requires { ⌜ length (now to) ≡ stateLength ⌝ }
     ensures { λ _. ⌜ now (to .exit) ≡ stateBytes state ⌝ }
@@ -43,11 +45,7 @@ pub fn put_changes(state: State, to: &mut [u8])
     let mut t: usize = 0;
     while t < 6 {
         let bytes = standing_bytes(fleet[t]);
-        let i = HEAD_LENGTH + TRAIN_LENGTH * t + ROUTE_LENGTH;
-        to[i] = bytes[0];
-        to[i + 1] = bytes[1];
-        to[i + 2] = bytes[2];
-        to[i + 3] = bytes[3];
+        put(&bytes, to, HEAD_LENGTH + TRAIN_LENGTH * t + ROUTE_LENGTH);
         t += 1;
     }
     put_ending(state, to);
@@ -80,6 +78,9 @@ fn train_bytes(train: Train) -> [u8; TRAIN_LENGTH]
         standing[1],
         standing[2],
         standing[3],
+        standing[4],
+        standing[5],
+        standing[6],
     ]
 }
 
@@ -87,9 +88,35 @@ fn standing_bytes(train: Train) -> [u8; STANDING_LENGTH]
     ensures { λ r. ⌜ r ≡ standingBytes train ⌝ }
 {
     let status = train.status;
+    let last = train.last;
+    let standing = status_bytes(status);
+    let finished = last_bytes(last);
+    [
+        train.at.0,
+        train.track.0,
+        standing[0],
+        standing[1],
+        finished[0],
+        finished[1],
+        finished[2],
+    ]
+}
+
+fn status_bytes(status: Status) -> [u8; 2]
+    ensures { λ r. ⌜ r ≡ statusNo status ∷ detail status ∷ [] ⌝ }
+{
     match status {
-        Status::Free => [train.at.0, train.track.0, 0, 0],
-        Status::Asked(number) => [train.at.0, train.track.0, 1, number],
-        Status::Running(ahead) => [train.at.0, train.track.0, 2, ahead.0],
+        Status::Free => [0, 0],
+        Status::Asked(number) => [1, number],
+        Status::Running(ahead) => [2, ahead.0],
+    }
+}
+
+fn last_bytes(last: Last) -> [u8; 3]
+    ensures { λ r. ⌜ r ≡ lastNo last ∷ lastFrom last ∷ lastTo last ∷ [] ⌝ }
+{
+    match last {
+        Last::Nothing => [0, 0, 0],
+        Last::Done(from, to) => [1, from.0, to.0],
     }
 }

@@ -1,6 +1,8 @@
-// Whether a state that is handed in is valid (01: sound), the unit's own move, and its phases.
+// Whether a state that is handed in is valid (01: sound), the unit's own move and its last one, and
+// its phases.
 ghost use mathlib.Core.Path.{_≡_};
-ghost use Rattle.driver.specs.State.{numbersFit, phaseNo, samePhase, ownMove, inPhase, validUnit};
+ghost use Rattle.driver.specs.State.{numbersFit, phaseNo, samePhase, awaiting, ownMove, lastMove};
+ghost use Rattle.driver.specs.State.{inPhase, validUnit};
 use driver::Phase;
 use driver::Unit;
 use frame::Move;
@@ -57,6 +59,20 @@ pub fn phase_number(phase: Phase) -> u8
     }
 }
 
+// Whether the unit has asked and has no authority yet.
+pub fn awaiting(phase: Phase) -> bool
+    ensures { λ r. ⌜ r ≡ awaiting phase ⌝ }
+{
+    match phase {
+        Phase::Standing => false,
+        Phase::Asked => true,
+        Phase::Declined => true,
+        Phase::Granted => false,
+        Phase::UnderWay => false,
+        Phase::Arrived => false,
+    }
+}
+
 // The move of the unit's train from its present to its next post.
 pub fn own_move(unit: Unit) -> Move
     ensures { λ r. ⌜ r ≡ ownMove unit ⌝ }
@@ -68,6 +84,21 @@ pub fn own_move(unit: Unit) -> Move
         train: train,
         from: from,
         to: line::next_post(from, route.end),
+    }
+}
+
+// The move of the unit's train that led to its present post, where that is past the start: from
+// the post before it, the next one on the way back to the start.
+pub fn last_move(unit: Unit) -> Move
+    ensures { λ r. ⌜ r ≡ lastMove unit ⌝ }
+{
+    let train = unit.train;
+    let route = unit.route;
+    let to = unit.at;
+    Move {
+        train: train,
+        from: line::next_post(to, route.start),
+        to: to,
     }
 }
 

@@ -8,7 +8,7 @@ use Rattle.common.proofs.Tests.{by-equality, by-order}
 use Rattle.line.specs.Holding.{isStabled}
 use Rattle.tracks.specs.Tracks.{unlessAway}
 use Rattle.line.proofs.Travel.{next-up, next-down, next-end}
-use Rattle.validity.specs.Types.{TrainNo, PostNo, TrackNo, Move, Free, Train, State}
+use Rattle.validity.specs.Types.{TrainNo, PostNo, TrackNo, Move, Free, Done, Train, State}
 use Rattle.validity.specs.Holders.{PlacedAt, Placed}
 use Rattle.rules.specs.State.{isRunning, trackAhead, nextOf, trainOf, nextMove, arrivedNext}
 use Rattle.rules.proofs.Trains.{running-busy}
@@ -29,11 +29,17 @@ module _ (sidings : ℕ) (x : Train) (p : ℕ) where
 -- it has arrived at q, on its track k there
 pub arrived-at : (sidings : ℕ) (x : Train) (q : PostNo) (k : TrackNo)
     → q .0 ≡ nextOf x → k .0 ≡ there sidings x (q .0)
-    → record { route = x .route; at = q; track = k; status = Free } ≡ arrivedNext sidings x
+    → record { route = x .route; at = q; track = k; status = Free; last = Done (x .at) q } ≡ arrivedNext sidings x
 arrived-at sidings x q k e f = ap (arrivedOn (q .0)) f ∙ ap (λ (n : ℕ). arrivedOn n (there sidings x n)) e
   where
     arrivedOn : ℕ → ℕ → Train
-    arrivedOn n j = record { route = x .route; at = record { 0 = n }; track = record { 0 = j }; status = Free }
+    arrivedOn n j = record {
+      route = x .route;
+      at = record { 0 = n };
+      track = record { 0 = j };
+      status = Free;
+      last = Done (x .at) (record { 0 = n });
+    }
 
 -- a train on a line of at most eight posts, Running only where it is short of its end
 pub placed-at : (x : Train) (n : ℕ) → n ≤ 8 → x .at .0 < n → x .route .end .0 < n

@@ -2,7 +2,7 @@
 -- Together they are those of `rules`.
 use mathlib.Core.Path.{_≡_, refl, sym, ap, _∙_}
 use mathlib.Core.Logic.{_≢_, ⊎-elim}
-use mathlib.Core.Bool.{Bool, true, false, not, _&&_, and-false, and-true}
+use mathlib.Core.Bool.{Bool, true, false, not, _&&_, _||_, and-false, and-true}
 use Prim.Native.Nat.{ℕ, _+_, _/_, _%_, _^_, _≤_, _<_}
 use native.Mathlib.Omega.{arith}
 use lib.Count.{ones}
@@ -28,7 +28,7 @@ use Rattle.rules.proofs.Trains.{running-busy, route-of}
 use Rattle.validity.proofs.Located.{placed-at}
 use Rattle.validity.proofs.HolderSets.{posts-counted, section-counted}
 use Rattle.validity.proofs.OwnTracks.{own-tracks}
-use Rattle.rules.specs.Valid.{trainValid, sectionsValid, postsValid, trackValid, tracksValid, awayValid}
+use Rattle.rules.specs.Valid.{lastValid, trainValid, sectionsValid, postsValid, trackValid, tracksValid, awayValid}
 use Rattle.rules.specs.Valid.{numberBelow, sameNumber, numberValid, mostGiven, consistent, valid}
 
 -- ---- one train's record
@@ -40,17 +40,20 @@ module _ (x : Train) where
   pub off-route : onRoute ≡ false → false ≡ trainValid x
   off-route e = rw e
 
-  module _ (e : onRoute ≡ true) where
-    pub free-valid : isFree (x .status) ≡ true → true ≡ trainValid x
-    free-valid f = rw (e, f)
+  abbrev fits : Bool
+  fits = isFree (x .status) || not (atEnd x)
 
-    pub busy-valid : isFree (x .status) ≡ false → (b : Bool) → b ≡ atEnd x → not b ≡ trainValid x
-    busy-valid f b g = rw (e, f, g)
+  module _ (e : onRoute ≡ true) where
+    pub status-amiss : fits ≡ false → false ≡ trainValid x
+    status-amiss f = rw (e, f)
+
+    pub last-decides : fits ≡ true → (b : Bool) → b ≡ lastValid x → b ≡ trainValid x
+    last-decides f b g = g ∙ rw (e, f)
 
   -- one that is not Free is short of its end
   short-of-end : trainValid x ≡ true → isFree (x .status) ≡ false → x .at .0 ≢ x .route .end .0
   short-of-end e f =
-      let r : not (atEnd x) ≡ true = rw f at (and-right onRoute _ e) in
+      let r : not (atEnd x) ≡ true = rw f at (and-left fits _ (and-right onRoute _ e)) in
       eqb-false _ _ (not-true _ r)
 
 -- ---- the number of train t's request: w is its status

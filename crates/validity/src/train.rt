@@ -1,16 +1,17 @@
-// One train's record: its status, its next post and the track there, what it has travelled, and the
-// record changed.
+// One train's record: its status, its last finished move, its next post and the track there, what it
+// has travelled, and the record changed.
 ghost use mathlib.Core.Path.{_≡_};
 ghost use Prim.Native.Nat.{_<_};
 ghost use Rattle.line.specs.Route.{distance};
 ghost use Rattle.tracks.specs.Tracks.{unlessAway};
-ghost use Rattle.rules.specs.State.{isFree, isAsked, isRunning, trackAhead, atEnd, nextOf, reachedBy};
-ghost use Rattle.rules.specs.State.{nextMove, withStatus, arrivedNext};
+ghost use Rattle.rules.specs.State.{isFree, isAsked, isRunning, trackAhead, isNothing, isLast, atEnd, nextOf};
+ghost use Rattle.rules.specs.State.{reachedBy, nextMove, withStatus, arrivedNext};
 use crate::fleet::train_of;
 use frame::Move;
 use line::PostNo;
 use line::TrackNo;
 use line::TrainNo;
+use rules::Last;
 use rules::State;
 use rules::Status;
 use rules::Train;
@@ -53,6 +54,26 @@ pub fn track_ahead(status: Status) -> TrackNo
         Status::Free => TrackNo(0),
         Status::Asked(_) => TrackNo(0),
         Status::Running(track) => track,
+    }
+}
+
+// 02, card 6: whether no move is finished yet.
+pub fn is_nothing(last: Last) -> bool
+    ensures { λ r. ⌜ r ≡ isNothing last ⌝ }
+{
+    match last {
+        Last::Nothing => true,
+        Last::Done(_, _) => false,
+    }
+}
+
+// Whether the last finished move is the one from post `p` to `q`.
+pub fn is_last(last: Last, p: PostNo, q: PostNo) -> bool
+    ensures { λ r. ⌜ r ≡ isLast last (p .0) (q .0) ⌝ }
+{
+    match last {
+        Last::Nothing => false,
+        Last::Done(from, to) => from.0 == p.0 && to.0 == q.0,
     }
 }
 
@@ -101,19 +122,22 @@ pub fn with_status(train: Train, status: Status) -> Train
     let route = train.route;
     let at = train.at;
     let track = train.track;
+    let last = train.last;
     Train {
         route,
         at,
         track,
         status,
+        last,
     }
 }
 
-// 01: "the train becomes Free at the post it ran to".
+// 01: "the train becomes Free at the post it ran to". 02, card 6: the move is its last finished one.
 pub fn arrived(sidings: u8, train: Train) -> Train
     ensures { λ r. ⌜ r ≡ arrivedNext sidings train ⌝ }
 {
     let route = train.route;
+    let from = train.at;
     let at = next_post(train);
     let track = track_there(sidings, train, at);
     Train {
@@ -121,6 +145,7 @@ pub fn arrived(sidings: u8, train: Train) -> Train
         at,
         track,
         status: Status::Free,
+        last: Last::Done(from, at),
     }
 }
 

@@ -1,10 +1,12 @@
 // Whether a state that is handed in is valid (01: sound): its counts, each train's record, each post
 // with its section and the tracks held there, and the numbers of the requests.
 ghost use mathlib.Core.Path.{_≡_};
+ghost use mathlib.Core.Bool.{not, _||_};
 ghost use Prim.Native.Nat.{_+_, _≤_, _<_};
 ghost use lib.Count.{ones};
 ghost use Rattle.common.specs.Below.{ofBool, allBelow};
-ghost use Rattle.rules.specs.Valid.{trainValid, awayValid, numberBelow, sameNumber, numberValid};
+ghost use Rattle.rules.specs.State.{isFree, atEnd};
+ghost use Rattle.rules.specs.Valid.{lastValid, trainValid, awayValid, numberBelow, sameNumber, numberValid};
 ghost use Rattle.rules.specs.Valid.{consistent, valid};
 ghost use Rattle.validity.specs.Holders.{Placed};
 ghost use Rattle.validity.specs.Tests.{countsValid, onLine, recordValid, recordsValid};
@@ -17,6 +19,8 @@ use crate::possession::MOST_GIVEN;
 use crate::possession::possessed_of;
 use crate::train::at_end;
 use crate::train::is_free;
+use crate::train::is_last;
+use crate::train::is_nothing;
 use journal::JOURNAL_LENGTH;
 use line::Route;
 use line::SectionNo;
@@ -103,19 +107,42 @@ fn on_line(posts: u8, route: Route) -> bool
     route.start.0 < posts && route.end.0 < posts
 }
 
-// The present post is on the route, and only a train short of its end is Asked or Running.
+// The present post is on the route, the status fits it, and so does the last finished move.
 fn train_valid(train: Train) -> bool
     ensures { λ r. ⌜ r ≡ trainValid train ⌝ }
 {
     let route = train.route;
-    let status = train.status;
     if !line::between(route.start, train.at, route.end) {
         return false;
     }
+    if !status_valid(train) {
+        return false;
+    }
+    last_valid(train)
+}
+
+// Only a train short of its end is Asked or Running.
+fn status_valid(train: Train) -> bool
+    ensures { λ r. ⌜ r ≡ isFree (train .status) || not (atEnd train) ⌝ }
+{
+    let status = train.status;
     if is_free(status) {
         return true;
     }
     !at_end(train)
+}
+
+// 02, card 6: "none at its start, else the one-post move towards its end that reached the present
+// post".
+fn last_valid(train: Train) -> bool
+    ensures { λ r. ⌜ r ≡ lastValid train ⌝ }
+{
+    let route = train.route;
+    let last = train.last;
+    if train.at.0 == route.start.0 {
+        return is_nothing(last);
+    }
+    is_last(last, line::next_post(train.at, route.start), train.at)
 }
 
 // 02, card 2: "one put away in a siding has none".

@@ -4,7 +4,7 @@ use denote.Ref.{now}
 use borrow.Author.Needs.{needs}
 use Rattle.accepting.specs.Types.{Am, Train}
 use Rattle.rules.specs.State.{trainOf, arrivedNext}
-use Rattle.rules.specs.Answer.{accepted}
+use Rattle.rules.specs.Answer.{anew}
 use Rattle.accepting.proofs.Declining.{ready-train, ready-take, taken-with}
 use Rattle.accepting.proofs.accepting.arrival.Statement.{statement}
 use Rattle.accepting.proofs.accepting.arrival.Tie as tie
@@ -30,7 +30,7 @@ take-requires c κs =
     )
 
 returns : tie.Need-returns
-unfolding accepted
+unfolding anew
 returns c =
     let s = c .before .before .before .before .before in
     c .take .ensures

@@ -7,7 +7,7 @@ use Rattle.journal.specs.Journal.{journalLength}
 use Rattle.accepting.specs.Types.{Fa, Asked, Train, Progress}
 use Rattle.rules.specs.State.{trainOf, withStatus}
 use Rattle.rules.specs.Granting.{Work, settled}
-use Rattle.rules.specs.Answer.{taken, accepted}
+use Rattle.rules.specs.Answer.{taken, anew}
 use Rattle.authority.specs.Progress.{progressOf}
 use Rattle.accepting.proofs.Declining.{ready-train, ready-take, taken-with, ready-logged}
 use Rattle.accepting.proofs.accepting.request.Statement.{statement}
@@ -56,7 +56,7 @@ decline-requires c κs =
     )
 
 returns : tie.Need-returns
-unfolding accepted
+unfolding anew
 returns c = c .decline .ensures (work (c .before)) (settles (c .before))
 
 pub request-spec : {M : Type 1} → statement M

@@ -1,84 +1,58 @@
 -- `move_refusal` meets its contract: the checks pass one by one up to the one that fails, and 9 is two tests.
 use mathlib.Core.Path.{_≡_, sym, _∙_}
 use mathlib.Core.Bool.{false}
-use Prim.Native.Nat.{_<_}
 use borrow.Author.Needs.{needs}
-use Rattle.checks.specs.Types.{Move, Train, State}
-use Rattle.rules.specs.State.{atEnd, trainOf}
-use Rattle.checks.proofs.Refusals.{no-train, train-ended, other-from, other-to, move-passes}
+use Rattle.checks.specs.Types.{Move, Train}
+use Rattle.rules.specs.State.{atEnd}
+use Rattle.checks.proofs.Refusals.{train-ended, other-from, other-to, move-passes}
 use Rattle.checks.proofs.checks.move_refusal.Statement.{statement}
 use Rattle.checks.proofs.checks.move_refusal.Tie as tie
 
-returns : tie.Need-returns
-returns c = let a = c .before .before .before .args in no-train (a .state) (a .m) (c .if1 .taken)
-
--- the train is known, and its record is read
-module _ (c : tie.After-train-of) where
-  abbrev start : tie.Start
-  start = c .before .before .before .before
-
-  abbrev s : State
-  s = start .args .state
+module _ (c : tie.After-at-end) where
+  abbrev x : Train
+  x = c .before .args .train
 
   abbrev m : Move
-  m = start .args .m
+  m = c .before .args .m
 
-  abbrev x : Train
-  x = c .train-of .result
-
-  known : m .train .0 < s .trains
-  known = c .before .if1 .left
-
-  own : x ≡ trainOf s (m .train .0)
-  own = c .train-of .ensures
-
-returns-2 : tie.Need-returns-2
-returns-2 c = let r = c .before .before in train-ended (s r) (m r) (known r) (x r) (own r)
-    (sym (c .before .at-end .ensures) ∙ c .if2 .taken)
+returns : tie.Need-returns
+returns c = train-ended (x (c .before)) (m (c .before)) (sym (c .before .at-end .ensures) ∙ c .if1 .taken)
 
 -- it is short of its end
-module _ (c : tie.Else2) where
-  abbrev read : tie.After-train-of
-  read = c .before .before
+module _ (c : tie.Else1) where
+  short : atEnd (x (c .before)) ≡ false
+  short = sym (c .before .at-end .ensures) ∙ c .if1 .left
 
-  short : atEnd (x read) ≡ false
-  short = sym (c .before .at-end .ensures) ∙ c .if2 .left
+returns-2 : tie.Need-returns-2
+returns-2 c =
+    let e = c .before .before .before in
+    other-from (x (e .before)) (m (e .before)) (short e) (c .if2 .taken)
+
+-- its present post is the one that the move is from
+module _ (c : tie.After-next-post) where
+  abbrev on : tie.Else1
+  on = c .before .before .before .before
+
+  from : m (on .before) .from .0 ≡ x (on .before) .at .0
+  from = c .before .if2 .left
 
 returns-3 : tie.Need-returns-3
 returns-3 c =
     let e = c .before .before .before in
-    let r = read e in
-    other-from (s r) (m r) (known r) (x r) (own r) (short e) (c .if3 .taken)
-
--- its present post is the one that the move is from
-module _ (c : tie.After-next-post) where
-  abbrev on : tie.Else2
-  on = c .before .before .before .before
-
-  from : m (read on) .from .0 ≡ x (read on) .at .0
-  from = c .before .if3 .left
+    other-to (x (on e .before)) (m (on e .before)) (short (on e)) (from e) _ (e .next-post .ensures) (c .if3 .taken)
 
 returns-4 : tie.Need-returns-4
 returns-4 c =
     let e = c .before .before .before in
-    let r = read (on e) in
-    other-to (s r) (m r) (known r) (x r) (own r) (short (on e)) (from e) _ (e .next-post .ensures) (c .if4 .taken)
-
-returns-5 : tie.Need-returns-5
-returns-5 c =
-    let e = c .before .before .before in
-    let r = read (on e) in
-    move-passes (s r) (m r) (known r) (x r) (own r) (short (on e)) (from e) _ (e .next-post .ensures) (c .if4 .left)
+    move-passes (x (on e .before)) (m (on e .before)) (short (on e)) (from e) _ (e .next-post .ensures) (c .if3 .left)
 
 pub move-refusal-spec : {M : Type 1} → statement M
 move-refusal-spec =
     tie.close
     (tie.spec
+    (λ c κs. search needs)
     returns
-    (λ c κs. search needs)
-    (λ c κs. search needs)
     returns-2
-    returns-3
     (λ c κs. search needs)
-    returns-4
-    returns-5)
+    returns-3
+    returns-4)

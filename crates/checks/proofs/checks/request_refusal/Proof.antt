@@ -1,51 +1,56 @@
--- `request_refusal` meets its contract: the checks of the move, then 10, 11 and 13.
+-- `request_refusal` meets its contract: 7, the checks of the move, and 13 where the train is Free.
 use mathlib.Core.Path.{sym, _∙_}
+use Prim.Native.Nat.{_<_}
 use borrow.Author.Needs.{needs}
-use Rattle.checks.proofs.Refusals.{Moved, move-refuses, train-low, already-asked, under-authority, request-room}
+use borrow.Author.Tests.{not-true, not-false}
+use Rattle.checks.specs.Types.{Move, State}
+use Rattle.checks.proofs.Refusals.{no-train-asks, fa-refuses, fa-again, fa-room}
 use Rattle.checks.proofs.checks.request_refusal.Statement.{statement}
 use Rattle.checks.proofs.checks.request_refusal.Tie as tie
 
--- the move was checked
-module _ (c : tie.After-move-refusal) where
-  moved : Moved (c .before .args .state) (c .before .args .m) (c .move-refusal .result)
-  moved = record { number = c .move-refusal .ensures }
-
 returns : tie.Need-returns
-returns c = move-refuses (moved (c .before)) _ (c .if1 .taken)
+returns c = let a = c .before .before .before .args in no-train-asks (a .state) (a .m) (c .if1 .taken)
 
-status-of-requires : tie.Need-status-of-requires
-status-of-requires c κs = train-low (moved (c .before)) (c .if1 .left) (c .before .before .pre)
+-- the train is known, its record is read and its move checked
+module _ (c : tie.After-move-refusal) where
+  abbrev start : tie.Start
+  start = c .before .before .before .before .before
+
+  abbrev s : State
+  s = start .args .state
+
+  abbrev m : Move
+  m = start .args .m
+
+  known : m .train .0 < s .trains
+  known = c .before .before .if1 .left
 
 returns-2 : tie.Need-returns-2
 returns-2 c =
-    let w = c .before .before in
-    already-asked (moved (w .before .before)) (w .before .if1 .left) (w .status-of .ensures)
-    (sym (c .before .is-asked .ensures) ∙ c .if2 .taken)
+    let r = c .before in
+    fa-refuses (s r) (m r) (known r) _ (r .before .train-of .ensures) _ (r .move-refusal .ensures) (c .if2 .taken)
 
 returns-3 : tie.Need-returns-3
 returns-3 c =
-    let r = c .before in
-    let q = r .before .before in
-    let w = q .before in
-    under-authority (moved (w .before .before)) (w .before .if1 .left) (w .status-of .ensures)
-    (sym (q .is-asked .ensures) ∙ r .before .if2 .left) (sym (r .is-running .ensures) ∙ c .if3 .taken)
+    let free = c .before in
+    let r = free .before .before in
+    fa-again (s r) (m r) (known r) _ (r .before .train-of .ensures) _ (r .move-refusal .ensures)
+    (free .before .if2 .left) (sym (free .is-free .ensures) ∙ not-true _ (c .if3 .taken))
 
 returns-4 : tie.Need-returns-4
 returns-4 c =
-    let r = c .before .before in
-    let q = r .before .before in
-    let w = q .before in
-    request-room (moved (w .before .before)) (w .before .if1 .left) (w .status-of .ensures)
-    (sym (q .is-asked .ensures) ∙ r .before .if2 .left) (sym (r .is-running .ensures) ∙ c .before .if3 .left)
+    let free = c .before .before in
+    let r = free .before .before in
+    fa-room (s r) (m r) (known r) _ (r .before .train-of .ensures) _ (r .move-refusal .ensures)
+    (free .before .if2 .left) (sym (free .is-free .ensures) ∙ not-false _ (c .before .if3 .left))
     (c .room-refusal .ensures)
 
 pub request-refusal-spec : {M : Type 1} → statement M
 request-refusal-spec =
     tie.close
     (tie.spec
-    (λ c κs. search needs)
     returns
-    status-of-requires
+    (λ c κs. search needs)
     (λ c κs. search needs)
     returns-2
     (λ c κs. search needs)

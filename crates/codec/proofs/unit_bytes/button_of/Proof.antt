@@ -19,7 +19,11 @@ unfolding buttonOf
 returns-3 c = ap buttonOf (sym (c .match .keys3))
 
 returns-4 : tie.Need-returns-4
-returns-4 c = last-button _ (omega arith)
+unfolding buttonOf
+returns-4 c = ap buttonOf (sym (c .match .keys4))
+
+returns-5 : tie.Need-returns-5
+returns-5 c = last-button _ (omega arith)
 
 pub button-of-spec : {M : Type 1} → statement M
-button-of-spec = tie.close (tie.spec returns returns-2 returns-3 returns-4)
+button-of-spec = tie.close (tie.spec returns returns-2 returns-3 returns-4 returns-5)

@@ -1,10 +1,10 @@
 -- `put_changes` meets its contract. The loop's invariant: the line is there, the trains passed are in their places, and
 -- what comes after them is as it was.
 use mathlib.Core.Path.{_≡_, sym, _∙_}
-use Prim.Native.Nat.{_+_, _-_, _≤_, _<_}
+use Prim.Native.Nat.{_+_, _-_, _≤_}
 use native.Mathlib.Omega.{arith}
 use denote.Ref.{now}
-use lib.ListN.{length, length-map, length-set}
+use lib.ListN.{length, length-map}
 use borrow.Author.Needs.{needs}
 use Rattle.encoding.specs.Parts.{headLength}
 use Rattle.encoding.specs.LineBytes.{routeLength}
@@ -12,7 +12,7 @@ use Rattle.encoding.specs.StateBytes.{stateLength, trainAt, stateBytes}
 use Rattle.encoding.specs.RoundTrip.{Shaped}
 use Rattle.encoding.proofs.Fields.{state-head-length, state-length, state-head, at-ends, at-standing}
 use Rattle.encoding.proofs.Reading.{head-kept, route-kept}
-use Rattle.placing.proofs.Filled.{Filled, none-filled, already, four-more}
+use Rattle.placing.proofs.Filled.{Filled, none-filled, already, part-more}
 use Rattle.storing.proofs.Ending.{ending-last}
 use Rattle.storing.proofs.state_bytes.put_changes.Statement.{statement}
 use Rattle.storing.proofs.state_bytes.put_changes.Tie as tie
@@ -45,28 +45,19 @@ loop-holds c =
           (state-head v (shaped s)) headLength (omega (arith, eleven)),
     )
 
--- the bytes of this turn's train are made
-module _ (c : tie.After-standing-bytes Inv-loop μ-loop) where
-  abbrev turn : tie.At-loop Inv-loop μ-loop
-  turn = c .before .before .before
-
-  abbrev start : tie.Start Inv-loop μ-loop
-  start = turn .before .before .before
-
-  room : trainAt (turn .loop .t + 1) < length (turn .loop .to)
-  room = omega (arith, turn .loop .inv .1 .size, size start)
-
 loop-again : tie.Need-loop-again Inv-loop μ-loop
 loop-again c =
-    let a = turn c in
-    let s = start c in
+    let p = c .before .before in
+    let made = p .before .before .before in
+    let a = made .before .before .before in
+    let s = a .before .before .before in
     let v = s .args .state in
     let t = a .loop .t in
     let route = already (a .loop .inv .1) (route-kept (now (s .args .to)) v (s .pre .1) t (omega arith))
     (at-ends v (shaped s) t (omega arith)) (trainAt t + routeLength) (omega arith) in (
       omega arith,
-      rw (c .standing-bytes .ensures) (four-more route _ _ _ _ (at-standing v (shaped s) t (omega arith))
-          (omega (arith, size s)) (trainAt (t + 1)) (omega arith)),
+      part-more route (at-standing v (shaped s) t (omega arith)) (made .standing-bytes .ensures) (p .put .ensures)
+          (omega (arith, size s)) (trainAt (t + 1)) (omega arith),
     )
 
 -- the loop has put all trains
@@ -81,7 +72,7 @@ put-ending-requires : tie.Need-put-ending-requires Inv-loop μ-loop
 put-ending-requires c κs = long (c .before)
 
 -- and what comes after them is put
-module _ (c : tie.After-slice-known2 Inv-loop μ-loop) where
+module _ (c : tie.After-slice-known3 Inv-loop μ-loop) where
   abbrev all : tie.After-loop Inv-loop μ-loop
   all = c .before .before .before .before
 
@@ -106,20 +97,11 @@ put-changes-spec =
     (λ c. omega arith)
     (λ c. omega arith)
     (λ c κs. search needs)
-    (λ c. omega (arith, room c))
-    (λ c. omega (arith, room c))
-    (λ c. omega (arith, room c))
     (λ c. search needs)
-    (λ c. omega (arith, room c))
-    (λ c. search needs)
-    (λ c. omega (arith, room c))
-    (λ c. simp length-set (omega (arith, room c)))
-    (λ c. search needs)
-    (λ c. omega (arith, room c))
-    (λ c. simp length-set (omega (arith, room c)))
-    (λ c. search needs)
-    (λ c. omega (arith, room c))
-    (λ c. simp length-set (omega (arith, room c)))
+    (λ c. omega arith)
+    (λ c. omega arith)
+    (λ c. omega arith)
+    (λ c κs. search needs)
     (λ c. omega arith)
     (λ c. omega arith)
     loop-again

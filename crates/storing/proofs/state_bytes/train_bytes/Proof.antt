@@ -1,4 +1,4 @@
--- `train_bytes` meets its contract: the last four bytes are those of `standing_bytes`.
+-- `train_bytes` meets its contract: the last seven bytes are those of `standing_bytes`.
 use borrow.Author.Needs.{needs}
 use Rattle.storing.proofs.state_bytes.train_bytes.Statement.{statement}
 use Rattle.storing.proofs.state_bytes.train_bytes.Tie as tie
@@ -11,6 +11,9 @@ train-bytes-spec =
     tie.close
     (tie.spec
     (λ c κs. search needs)
+    (λ c. search needs)
+    (λ c. search needs)
+    (λ c. search needs)
     (λ c. search needs)
     (λ c. search needs)
     (λ c. search needs)

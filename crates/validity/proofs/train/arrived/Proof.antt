@@ -7,7 +7,7 @@ use Rattle.validity.proofs.train.arrived.Tie as tie
 
 returns : tie.Need-returns
 returns c =
-    let a = c .before .before .before .args in
+    let a = c .before .before .before .before .args in
     arrived-at (a .sidings) (a .train) _ _ (c .before .next-post .ensures) (c .track-there .ensures)
 
 pub arrived-spec : {M : Type 1} → statement M

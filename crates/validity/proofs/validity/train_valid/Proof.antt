@@ -2,7 +2,7 @@
 use mathlib.Core.Path.{sym, _∙_}
 use borrow.Author.Needs.{needs}
 use borrow.Author.Tests.{not-true, not-false}
-use Rattle.validity.proofs.Tested.{off-route, free-valid, busy-valid}
+use Rattle.validity.proofs.Tested.{off-route, status-amiss, last-decides}
 use Rattle.validity.proofs.validity.train_valid.Statement.{statement}
 use Rattle.validity.proofs.validity.train_valid.Tie as tie
 
@@ -13,17 +13,17 @@ returns c = off-route (c .before .before .before .args .train) (sym (c .before .
 returns-2 : tie.Need-returns-2
 returns-2 c =
     let on = c .before .before in
-    free-valid (on .before .before .before .args .train) (sym (on .before .between .ensures)
-    ∙ not-false _ (on .if1 .left))
-    (sym (c .before .is-free .ensures) ∙ c .if2 .taken)
+    status-amiss (on .before .before .before .args .train)
+    (sym (on .before .between .ensures) ∙ not-false _ (on .if1 .left))
+    (sym (c .before .status-valid .ensures) ∙ not-true _ (c .if2 .taken))
 
 returns-3 : tie.Need-returns-3
 returns-3 c =
-    let busy = c .before in
-    let on = busy .before .before in
-    busy-valid (on .before .before .before .args .train) (sym (on .before .between .ensures)
-    ∙ not-false _ (on .if1 .left))
-    (sym (busy .before .is-free .ensures) ∙ busy .if2 .left) _ (c .at-end .ensures)
+    let fits = c .before in
+    let on = fits .before .before in
+    last-decides (on .before .before .before .args .train)
+    (sym (on .before .between .ensures) ∙ not-false _ (on .if1 .left))
+    (sym (fits .before .status-valid .ensures) ∙ not-false _ (fits .if2 .left)) _ (c .last-valid .ensures)
 
 pub train-valid-spec : {M : Type 1} → statement M
 train-valid-spec =

@@ -1,0 +1,2 @@
+-- The examples with repeats, evaluated.
+pub mod Evaluated

@@ -1,0 +1,1 @@
+// Examples with repeats. There is no code here: specs/ has the statements and proofs/ evaluates them.
