@@ -1,8 +1,9 @@
 /*
  * The run of 01 from C: opens book X, answers eight frames that two drivers' units give, and prints
- * the journal. Then one unit goes once through its flow, books with sidings and with several tracks
- * are opened, gangs get a section, and running times are added up. Exit status 0 where all went as
- * the paper says, else 1.
+ * the journal. An authority and an arrival are lost on the way, and come when the driver presses
+ * Again. Then one unit goes once through its flow, frames are repeated, books with sidings and with
+ * several tracks are opened, gangs get a section, and running times are added up. Exit status 0
+ * where all went as the paper says, else 1.
  *
  *   rt staticlib quangevit
  *   cc -Wall -Wextra -I crates/quangevit tests/c/example.c target/staticlib/libquangevit.a -o example
@@ -13,6 +14,10 @@
 #include "quangevit.h"
 
 static const uint8_t BOOK_X[] = {0x00, 0x0A, 1, 3, 1, 2, 1, 2, 0, 2, 2, 0};
+
+/* The first frames of train 0. */
+static const uint8_t FIRST_FA[] = {0, 5, 1, QUANGEVIT_FA, 0, 0, 1};
+static const uint8_t FIRST_AM[] = {0, 5, 1, QUANGEVIT_AM, 0, 0, 1};
 
 /* The journal of the run: kind, train, from, to, and of an FE the track at the post run to. */
 #define RECORDS 13
@@ -87,13 +92,42 @@ static void ask(unsigned t) {
     send(frame);
 }
 
-/* The driver of train t goes under authority to the next post and reports it. */
-static void travel(unsigned t) {
+/* The driver of train t presses Again: the same frame is sent once more. */
+static void again(unsigned t, const uint8_t *frame) {
+    uint8_t once_more[QUANGEVIT_FRAME_BYTES];
+    expect(press(t, QUANGEVIT_AGAIN, once_more) == 1, "Again gives no frame");
+    expect(memcmp(once_more, frame, sizeof once_more) == 0, "Again gives another frame");
+    send(once_more);
+}
+
+/* The driver of train t asks, and the answer is lost: the next FA brings it again. */
+static void ask_unheard(unsigned t) {
     uint8_t frame[QUANGEVIT_FRAME_BYTES];
+    expect(press(t, QUANGEVIT_ASK, frame) == 1, "no FA");
+    expect(QUANGEVIT_SENT(answer(frame)) == 1, "not one answer to lose");
+    again(t, frame);
+}
+
+/* The driver of train t goes under authority to the next post, where Report gives the AM. */
+static void reach(unsigned t, uint8_t *frame) {
     expect(press(t, QUANGEVIT_DEPART, frame) == 0, "a frame at departure");
     expect(press(t, QUANGEVIT_REACHED, frame) == 0, "a frame at the post");
     expect(press(t, QUANGEVIT_REPORT, frame) == 1, "no AM");
+}
+
+/* The driver of train t goes to the next post and reports it. */
+static void travel(unsigned t) {
+    uint8_t frame[QUANGEVIT_FRAME_BYTES];
+    reach(t, frame);
     send(frame);
+}
+
+/* The same, but the AM is lost. Again before the next Ask sends it, and once more does no harm. */
+static void travel_unheard(unsigned t) {
+    uint8_t frame[QUANGEVIT_FRAME_BYTES];
+    reach(t, frame);
+    again(t, frame);
+    again(t, frame);
 }
 
 static void print_journal(void) {
@@ -132,6 +166,7 @@ static void flow(void) {
     expect(quangevit_make_unit(5, 0, 1, units[0], QUANGEVIT_UNIT_BYTES) == QUANGEVIT_ACCEPTED,
            "a unit is not made");
     expect_unit(0, 0, QUANGEVIT_PHASE_STANDING);
+    press_refused(0, QUANGEVIT_AGAIN, QUANGEVIT_NOT_NOW);
     expect(hear(0, fe) == QUANGEVIT_NOT_AWAITED, "an FE that nobody asked for is heard");
     expect(press(0, QUANGEVIT_ASK, frame) == 1, "no FA");
     expect(frame[QUANGEVIT_FRAME_KIND_AT] == QUANGEVIT_FA, "Ask gives no FA");
@@ -141,6 +176,7 @@ static void flow(void) {
     press_refused(0, QUANGEVIT_DEPART, QUANGEVIT_NOT_NOW);
     expect(hear(0, fe) == QUANGEVIT_ACCEPTED, "the FE is not heard");
     expect_unit(0, 0, QUANGEVIT_PHASE_GRANTED);
+    press_refused(0, QUANGEVIT_AGAIN, QUANGEVIT_NOT_NOW);
     expect(press(0, QUANGEVIT_DEPART, frame) == 0, "a frame at departure");
     expect_unit(0, 0, QUANGEVIT_PHASE_UNDER_WAY);
     expect(press(0, QUANGEVIT_REACHED, frame) == 0, "a frame at the post");
@@ -149,6 +185,9 @@ static void flow(void) {
     expect(frame[QUANGEVIT_FRAME_KIND_AT] == QUANGEVIT_AM, "Report gives no AM");
     expect_unit(0, 1, QUANGEVIT_PHASE_STANDING);
     press_refused(0, QUANGEVIT_ASK, QUANGEVIT_AT_ITS_END);
+    expect(press(0, QUANGEVIT_AGAIN, frame) == 1, "Again gives no AM at the end");
+    expect(frame[QUANGEVIT_FRAME_KIND_AT] == QUANGEVIT_AM, "Again gives no AM at the end");
+    expect_unit(0, 1, QUANGEVIT_PHASE_STANDING);
 }
 
 /* Book X as one of edition 2: with a siding at each end, then at a post that is not in the line. */
@@ -179,21 +218,35 @@ static void expect_one(const uint8_t *frame, enum quangevit_kind kind) {
     expect(out[QUANGEVIT_FRAME_KIND_AT] == kind, "an answer of another kind");
 }
 
+/* On X a request and an arrival come twice: each is answered again, and logged once. */
+static void repeats(void) {
+    const uint8_t *last = state + QUANGEVIT_STATE_FLEET_AT + QUANGEVIT_TRAIN_LAST_AT;
+    static const uint8_t none[] = {0, 0, 0}, first[] = {1, 0, 1};
+    expect(open_book(BOOK_X, sizeof BOOK_X) == QUANGEVIT_ACCEPTED, "book X does not open");
+    expect(answer(FIRST_AM) == QUANGEVIT_NO_AUTHORITY, "an arrival without authority is taken");
+    expect_one(FIRST_FA, QUANGEVIT_FE);
+    expect_one(FIRST_FA, QUANGEVIT_FE);
+    expect(memcmp(last, none, sizeof none) == 0, "a last move before the first arrival");
+    expect(answer(FIRST_AM) == QUANGEVIT_ACCEPTED, "an arrival is refused");
+    expect(answer(FIRST_AM) == QUANGEVIT_ACCEPTED, "a repeated arrival is refused, or answered");
+    expect(memcmp(last, first, sizeof first) == 0, "another last move");
+    expect(answer(FIRST_FA) == QUANGEVIT_WRONG_POST, "the finished move is asked for again");
+    expect(state[QUANGEVIT_STATE_LOGGED_AT] == 3, "a repeat is logged");
+}
+
 /* A gang gets section 0 of X, and train 0 waits for it. Only twenty times is a section given. */
 static void local_runs(void) {
     static const uint8_t la[] = {0, 5, 1, QUANGEVIT_LA, 255, 0, 1};
     static const uint8_t lb[] = {0, 5, 1, QUANGEVIT_LB, 255, 0, 1};
-    static const uint8_t fa[] = {0, 5, 1, QUANGEVIT_FA, 0, 0, 1};
-    static const uint8_t am[] = {0, 5, 1, QUANGEVIT_AM, 0, 0, 1};
     unsigned given;
     expect(open_book(BOOK_X, sizeof BOOK_X) == QUANGEVIT_ACCEPTED, "book X does not open");
     expect_one(la, QUANGEVIT_LE);
     expect(hear(0, out) == QUANGEVIT_ACCEPTED, "the LE is not heard");
     expect(answer(la) == QUANGEVIT_SECTION_TAKEN, "a section is given twice");
-    expect_one(fa, QUANGEVIT_AFE);
+    expect_one(FIRST_FA, QUANGEVIT_AFE);
     expect_one(lb, QUANGEVIT_FE);
     expect(answer(la) == QUANGEVIT_SECTION_TAKEN, "the section of a train is given");
-    expect(answer(am) == QUANGEVIT_ACCEPTED, "an arrival is refused");
+    expect(answer(FIRST_AM) == QUANGEVIT_ACCEPTED, "an arrival is refused");
     expect(answer(lb) == QUANGEVIT_NO_LOCAL_RUN, "a section comes back that nobody has");
     for (given = 1; given < 20; given++) {
         expect_one(la, QUANGEVIT_LE);
@@ -256,9 +309,9 @@ int main(void) {
                                    route[QUANGEVIT_ROUTE_END_AT], units[t],
                                    QUANGEVIT_UNIT_BYTES) == QUANGEVIT_ACCEPTED,
                "a unit is not made");
-    ask(0);
+    ask_unheard(0);
     ask(1);
-    travel(0);
+    travel_unheard(0);
     ask(0);
     travel(1);
     ask(1);
@@ -269,6 +322,7 @@ int main(void) {
     expect(memcmp(journal, RUN, sizeof RUN) == 0, "other records");
     expect(refused_frames == 0, "a frame is refused");
     flow();
+    repeats();
     sidings();
     tracks();
     local_runs();

@@ -14,16 +14,19 @@ pub enum Class {
     Arrival,
     Given,
     Back,
+    Again,
     Refused,
 }
 
 const RUNS: u64 = 20;
 const MOST_FRAMES: usize = 400;
 
-/// The samples of a class, or all frames of the runs, as they come. Gangs are only in the runs for their own classes.
+/// The samples of a class, or all frames of the runs, as they come. Gangs are only in the runs for their own classes,
+/// and crews send again what may be lost only in those for repeats.
 pub fn samples(opened: &Opened, class: Option<Class>) -> Vec<Turn> {
     let senders = match class {
         Some(Class::Given | Class::Back) => Senders::CrewsAndGangs,
+        Some(Class::Again) => Senders::CrewsOverBadRadio,
         _ => Senders::Crews,
     };
     let mut all = Vec::new();
@@ -38,6 +41,7 @@ pub fn samples(opened: &Opened, class: Option<Class>) -> Vec<Turn> {
 fn class_of(turn: &Turn) -> Class {
     match turn.verdict {
         Verdict::Refused(_) => Class::Refused,
+        Verdict::Sent(_) if turn.is_repeat => Class::Again,
         Verdict::Sent(sent) => match turn.frame[KIND_AT] {
             AM => Class::Arrival,
             LA => Class::Given,

@@ -28,8 +28,9 @@ pub enum Work {
     Time(Vec<u8>, u8),
 }
 
-pub const WORKS: [&str; 10] = [
-    "fill", "granted", "declined", "arrival", "given", "back", "refused", "mix", "read", "time",
+pub const WORKS: [&str; 11] = [
+    "fill", "granted", "declined", "arrival", "given", "back", "again", "refused", "mix", "read",
+    "time",
 ];
 
 /// The speed of the running times, in km/h.
@@ -49,6 +50,7 @@ impl Work {
             "arrival" => Some(Class::Arrival),
             "given" => Some(Class::Given),
             "back" => Some(Class::Back),
+            "again" => Some(Class::Again),
             "refused" => Some(Class::Refused),
             "mix" => None,
             _ => return None,

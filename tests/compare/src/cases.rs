@@ -16,16 +16,28 @@ pub enum Subject {
     LocalRuns,
     Times,
     Orders,
+    Repeats,
+    LastMoves,
+    Again,
+}
+
+/// The cases of which this is true.
+pub fn shown<C: Case, const N: usize>(cases: [(bool, C); N]) -> Vec<C> {
+    let shown = cases.into_iter().filter(|(is_shown, _)| *is_shown);
+    shown.map(|(_, case)| case).collect()
 }
 
 /// The subjects in their order, each with the names of its cases.
-pub const SUBJECTS: [(&str, &[&str]); 6] = [
+pub const SUBJECTS: [(&str, &[&str]); 9] = [
     ("sidings", &SIDINGS),
     ("tracks", &TRACKS),
     ("codes", &CODES),
     ("local runs", &LOCAL_RUNS),
     ("running times", &TIMES),
     ("the order of checks for them", &ORDERS),
+    ("repeats", &REPEATS),
+    ("last moves", &LAST_MOVES),
+    ("Again", &AGAIN),
 ];
 
 /// What comes of sidings alone, in the order of the names.
@@ -317,4 +329,173 @@ const ORDERS: [&str; 12] = [
     "14, the total, before 18",
     "18 before 9",
     "9 before 28",
+];
+
+/// What comes of an FA or AM that repeats an earlier one, and of one that nearly does and is refused, in the order of
+/// the names.
+#[derive(Debug, Clone, Copy, PartialEq, Eq)]
+pub enum RepeatCase {
+    Declined,
+    Granted,
+    ArrivedFree,
+    ArrivedAsked,
+    ArrivedRunning,
+    ArrivedHome,
+    ArrivedPutAway,
+    DeclinedFull,
+    GrantedFull,
+    ArrivedFull,
+    CouldGo,
+    AnotherCouldGo,
+    WouldBeDeclined,
+    WaitsForGang,
+    ShortStore,
+    RequestOfLast,
+    RequestOfLastHome,
+    Earlier,
+    EarlierHome,
+    BeforeTheFirst,
+    NotYet,
+    FromAlone,
+    ToAlone,
+    Backwards,
+    Anothers,
+    UnreadPlace,
+    NotReported,
+    NewRequestFull,
+    NewArrivalFull,
+}
+
+impl Case for RepeatCase {
+    const SUBJECT: Subject = Subject::Repeats;
+
+    fn place(self) -> usize {
+        self as usize
+    }
+}
+
+const REPEATS: [&str; 29] = [
+    "FA of an Asked train, AFE again",
+    "FA of a Running train, FE again",
+    "AM of the last move, Free",
+    "AM of the last move, Asked",
+    "AM of the last move, Running",
+    "AM of the last move, at the end",
+    "AM of the last move, put away",
+    "AFE again, journal full",
+    "FE again, journal full",
+    "AM of the last move, journal full",
+    "AFE again, the train could go",
+    "a repeat, another train could go",
+    "FE again, it would be declined now",
+    "AFE again, a gang alone in the way",
+    "2, a repeat and a short store",
+    "9, FA of the last move",
+    "8, FA of the last move, at the end",
+    "9, AM of an earlier move",
+    "8, AM of an earlier move, at the end",
+    "12, AM before the first move",
+    "12, AM of the next move past the start",
+    "refused, AM with the last from post alone",
+    "refused, AM with the last to post alone",
+    "refused, AM of the last move backwards",
+    "refused, AM of another's last move",
+    "7, AM of a last move in a place not read",
+    "9, FA past an arrival not reported",
+    "13, FA of a Free train",
+    "13, AM of a Running train",
+];
+
+/// What the last moves of a state show, in the order of the names. A strange state is sound but for the one last move.
+#[derive(Debug, Clone, Copy, PartialEq, Eq)]
+pub enum LastMoveCase {
+    NonePast,
+    AtStart,
+    Parked,
+    Backwards,
+    Ahead,
+    AheadRunning,
+    Earlier,
+    OtherFrom,
+    OtherTo,
+    OffTheLine,
+    Other,
+    Unread,
+    OtherByte,
+    OtherByteUnread,
+    PostOfNone,
+    PostOfNoneUnread,
+}
+
+impl Case for LastMoveCase {
+    const SUBJECT: Subject = Subject::LastMoves;
+
+    fn place(self) -> usize {
+        self as usize
+    }
+}
+
+const LAST_MOVES: [&str; 16] = [
+    "a strange state, none past the start",
+    "a strange state, one at the start",
+    "a strange state, one of a parked train",
+    "a strange state, backwards",
+    "a strange state, the move ahead",
+    "a strange state, the move under way",
+    "a strange state, an earlier one",
+    "a strange state, from another post",
+    "a strange state, to another post",
+    "a strange state, from or to off the line",
+    "a strange state, another one",
+    "answered, strange ones in places not read",
+    "no state, a byte above 1 for it",
+    "no state, such a byte in a place not read",
+    "no state, a post where there is none",
+    "no state, such a post in a place not read",
+];
+
+/// What comes of Again, and of a number that is no button's, in the order of the names.
+#[derive(Debug, Clone, Copy, PartialEq, Eq)]
+pub enum AgainCase {
+    AtStart,
+    Parked,
+    PastUp,
+    PastDown,
+    Home,
+    Asked,
+    Declined,
+    Granted,
+    UnderWay,
+    Arrived,
+    Strange,
+    ShortDue,
+    ShortNotNow,
+    Button5,
+    ButtonAbove,
+}
+
+impl Case for AgainCase {
+    const SUBJECT: Subject = Subject::Again;
+
+    fn place(self) -> usize {
+        self as usize
+    }
+}
+
+const AGAIN: [&str; 15] = [
+    "21, Standing at the start",
+    "21, Standing, parked",
+    "AM, Standing past the start, up",
+    "AM, Standing past the start, down",
+    "AM, Standing at the end",
+    "FA, Asked",
+    "FA, Declined",
+    "21, Granted",
+    "21, Under way",
+    "21, Arrived",
+    "1, a strange unit",
+    "2, a short buffer where a frame is due",
+    "2, a short buffer where it is 21",
+    "21, button 5",
+    "21, a button above 5",
 ];

@@ -20,10 +20,7 @@ pub enum Entry {
 const ENTRIES: [(&str, &[u8]); 7] = [
     ("read_book", &[1, 4, 14, 15, 16, 17, 18, 23, 27]),
     ("open", &[1, 2, 4, 14, 15, 16, 17, 18, 19, 20, 23, 27]),
-    (
-        "answer",
-        &[1, 2, 3, 4, 5, 6, 7, 8, 9, 10, 11, 12, 13, 24, 25, 26],
-    ),
+    ("answer", &[1, 2, 3, 4, 5, 6, 7, 8, 9, 12, 13, 24, 25, 26]),
     ("running_time", &[1, 4, 9, 14, 15, 16, 17, 18, 23, 27, 28]),
     ("make_unit", &[1, 18]),
     ("press", &[1, 2, 8, 21]),
@@ -45,13 +42,21 @@ const PHASES: [&str; 6] = [
 const OF_GANGS: [&str; 3] = ["LA", "LE", "LB"];
 
 /// Kinds of inputs that a run must have had, beside what must have come of inputs.
-const DUE_INPUTS: [&str; 15] = [
+const DUE_INPUTS: [&str; 23] = [
     "run: of a book of edition 1",
     "run: of a book of edition 2",
     "run: of a book of edition 3",
+    "run: over bad radio, all home",
+    "radio: a frame to the box lost",
+    "radio: a frame to the box twice",
+    "radio: an answer lost",
+    "radio: an answer twice",
     "state: valid",
     "state: a track altered",
     "state: a gang or the number given altered",
+    "state: a last move altered",
+    "frame: as a crew sends it again",
+    "frame: nearly as a crew sends it again",
     "frame: as a gang sends it",
     "frame: LA or LB named wrongly",
     "table: of the book, bits flipped",
@@ -63,7 +68,7 @@ const DUE_INPUTS: [&str; 15] = [
     "table: short",
 ];
 
-/// Refusal numbers 0 (none) to 28.
+/// Refusal numbers 0 (none) to 28. Those that no entry point can give, 10 and 11, are not told.
 const NUMBERS: usize = 29;
 
 const MOST_SENT: usize = OUT_BYTES / FRAME_BYTES;
@@ -225,7 +230,7 @@ impl Counts {
             print!(" {name:>12}");
         }
         println!();
-        for number in 0..NUMBERS {
+        for number in (0..NUMBERS).filter(|number| self.is_told(*number)) {
             print!("{number:>6}");
             for (entry, (_, reachable)) in ENTRIES.iter().enumerate() {
                 let count = self.refusals[entry][number];
@@ -237,6 +242,14 @@ impl Counts {
             }
             println!();
         }
+    }
+
+    /// Some entry point can give the number, or gave it.
+    fn is_told(&self, number: usize) -> bool {
+        let can = ENTRIES
+            .iter()
+            .any(|(_, list)| list.contains(&(number as u8)));
+        number == 0 || can || self.refusals.iter().any(|counts| counts[number] > 0)
     }
 }
 

@@ -10,6 +10,9 @@ pub fn to_box(state: &[u8], random: &mut Random) -> (&'static str, Vec<u8>) {
     if random.one_in(5) {
         return by_gang(state, random);
     }
+    if random.one_in(4) {
+        return again(state, random);
+    }
     let suitable = of_crew(state, random);
     match random.below(8) {
         0 => damaged(suitable, random),
@@ -92,6 +95,60 @@ pub fn of_crew(state: &[u8], random: &mut Random) -> [u8; FRAME_BYTES] {
     frame(kind, t as u8, at, towards(at, end))
 }
 
+/// What a crew sends again: the FA of its next move, where it waits or has an authority, or the AM of its last move;
+/// and frames near to these, which repeat nothing.
+fn again(state: &[u8], random: &mut Random) -> (&'static str, Vec<u8>) {
+    if state.len() != STATE_BYTES {
+        return damaged(of_crew(state, random), random);
+    }
+    let t = random.below(trains(state)) as u8;
+    let posts = posts_around(train_of(state, t.into()));
+    let [_, from, at, next, _] = posts;
+    let sent = match random.below(3) {
+        0 => frame(FA, t, at, next),
+        1 => frame(AM, t, from, at),
+        _ => {
+            let near = nearly_again(state, t, posts, random);
+            return ("frame: nearly as a crew sends it again", near.to_vec());
+        }
+    };
+    ("frame: as a crew sends it again", sent.to_vec())
+}
+
+/// The posts on a train's way: where its last move but one and its last began, where it is, the next and the one after
+/// that.
+fn posts_around(train: &[u8]) -> [u8; 5] {
+    let [start, end, at] = [train_at::START, train_at::END, train_at::POST].map(|n| train[n]);
+    let (from, next) = (towards(at, start), towards(at, end));
+    [towards(from, start), from, at, next, towards(next, end)]
+}
+
+/// Another kind for a move, another move of the train, one of its last move's posts alone, or another train.
+fn nearly_again(state: &[u8], t: u8, posts: [u8; 5], random: &mut Random) -> [u8; FRAME_BYTES] {
+    let [earlier, from, at, next, later] = posts;
+    let other = random.between(0, 5);
+    let place = train_of(state, other.into());
+    let others = [train_at::LAST_FROM, train_at::LAST_TO].map(|n| place[n]);
+    let any = random.between(0, 8);
+    let (kind, train, [from, to]) = random.pick(&[
+        (FA, t, [from, at]),
+        (FA, t, [next, later]),
+        (AM, t, [earlier, from]),
+        (AM, t, [at, next]),
+        (AM, t, [at, from]),
+        (AM, t, [from, any]),
+        (AM, t, [any, at]),
+        (AM, other, [from, at]),
+        (AM, other, others),
+    ]);
+    frame(kind, train, from, to)
+}
+
+/// The trains that a state's bytes name, in their range.
+fn trains(state: &[u8]) -> usize {
+    usize::from(state[TRAINS_AT].clamp(1, 6))
+}
+
 /// The bytes of a train in those of a state.
 fn train_of(state: &[u8], t: usize) -> &[u8] {
     &state[FLEET_AT + TRAIN_BYTES * t..][..TRAIN_BYTES]
@@ -99,7 +156,7 @@ fn train_of(state: &[u8], t: usize) -> &[u8] {
 
 /// Some train; mostly one that has to go on and does not wait for an answer.
 fn of_whom(state: &[u8], random: &mut Random) -> usize {
-    let trains = usize::from(state[TRAINS_AT].clamp(1, 6));
+    let trains = trains(state);
     let mut t = random.below(trains);
     for _ in 0..3 {
         let train = train_of(state, t);
@@ -111,7 +168,7 @@ fn of_whom(state: &[u8], random: &mut Random) -> usize {
     t
 }
 
-/// One post nearer to the end. At the end, some other post: no frame is right there.
+/// One post nearer to the end, or to the start. There, some other post: no frame is right then.
 fn towards(at: u8, end: u8) -> u8 {
     if at <= end {
         at.wrapping_add(1)

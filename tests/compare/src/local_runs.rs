@@ -5,9 +5,9 @@ use crate::cases::LocalRunCase;
 use crate::codes;
 use crate::pair::Reply;
 use inputs::encoding::state_of;
-use inputs::frames::{AFE, FE, FROM_AT, KIND_AT, LA, LB, LE, TO_AT, TRAIN_AT};
+use inputs::frames::{AFE, FE, FROM_AT, KIND_AT, LA, LB, LE, TO_AT};
 use inputs::sizes::{FRAME_BYTES, GIVEN_AT, LOCAL_RUNS, SECTIONS_AT, STATE_BYTES};
-use model::{Standing, State, Train};
+use model::{Move, Standing, State, Train};
 
 /// Of a frame that was read, as it fared in a state.
 pub fn of_frame(state: &[u8], frame: &[u8], reply: Reply) -> Vec<LocalRunCase> {
@@ -97,7 +97,8 @@ pub fn of_answer(state: &[u8], table: &[u8], sent: &[u8]) -> Vec<LocalRunCase> {
     let last = sent.chunks_exact(FRAME_BYTES).last();
     let kind = last.map_or(0, |last| last[KIND_AT]);
     let trains = 0..usize::from(state.trains);
-    if last.is_some_and(|last| kind == AFE && waits_for_gang(&state, table, last)) {
+    let declined = last.and_then(|last| model::read_frame(last).ok());
+    if declined.is_some_and(|afe| kind == AFE && waits_for_gang(&state, table, afe.movement())) {
         cases.push(LocalRunCase::WaitsForGang);
     }
     if kind == LE && trains.clone().any(|t| could_go(&state, table, t)) {
@@ -113,12 +114,12 @@ pub fn of_answer(state: &[u8], table: &[u8], sent: &[u8]) -> Vec<LocalRunCase> {
     cases
 }
 
-/// The train of this AFE would have gone but for the gang on its section.
-fn waits_for_gang(state: &State, table: &[u8], afe: &[u8]) -> bool {
-    let section = afe[FROM_AT].min(afe[TO_AT]);
+/// The train that asked for this move would have gone but for the gang on its section.
+pub fn waits_for_gang(state: &State, table: &[u8], m: Move) -> bool {
+    let section = m.from.min(m.to);
     let mut without = *state;
     without.possessions[usize::from(section)] = false;
-    state.gang_holds(section) && could_go(&without, table, usize::from(afe[TRAIN_AT]))
+    state.gang_holds(section) && could_go(&without, table, usize::from(m.train))
 }
 
 /// The train has asked, and section, tracks and table let it go.
@@ -174,12 +175,14 @@ fn of_other_byte(bytes: &[u8]) -> Option<LocalRunCase> {
 #[cfg(test)]
 mod tests {
     use super::*;
+    use crate::state_moves::bring;
+    use crate::tests::reply_of;
     use inputs::books::X;
     use inputs::crews;
     use inputs::encoding::state_bytes;
     use inputs::frames::{frame, local_run, FA};
     use inputs::sizes::{JOURNAL_RECORDS, OUT_BYTES, RECORDS_A_FRAME};
-    use model::{Record, Verdict};
+    use model::Record;
     use LocalRunCase::*;
 
     type Change = fn(&mut State);
@@ -197,13 +200,10 @@ mod tests {
         let mut journal = [Record::BLANK; JOURNAL_RECORDS];
         let mut out = [0; OUT_BYTES];
         let (after, verdict) = model::answer(&state, &table, &mut journal, frame, &mut out);
-        let (refusal, sent) = match verdict {
-            Verdict::Refused(number) => (number, 0),
-            Verdict::Sent(frames) => (0, frames),
-        };
-        let mut cases = of_frame(&state_bytes(&state), frame, Reply { refusal, sent });
-        if refusal == 0 {
-            let sent = &out[..FRAME_BYTES * sent];
+        let reply = reply_of(verdict);
+        let mut cases = of_frame(&state_bytes(&state), frame, reply);
+        if reply.refusal == 0 {
+            let sent = &out[..FRAME_BYTES * reply.sent];
             cases.extend(of_answer(&state_bytes(&after), &table, sent));
         }
         cases
@@ -227,7 +227,7 @@ mod tests {
     fn what_comes_of_an_la_is_told() {
         let cases: [(Change, &[LocalRunCase]); 9] = [
             (|_| (), &[Given]),
-            (|s| s.train[1].at = 1, &[Given, BetweenTrains]),
+            (|s| bring(&mut s.train[1], 1), &[Given, BetweenTrains]),
             (|s| s.given = 18, &[Given]),
             (|s| s.given = 19, &[Given, Twentieth]),
             (|s| s.given = 20, &[TwentyGiven]),
@@ -301,7 +301,10 @@ mod tests {
         assert_eq!(told(|s| s.possessions[1] = true, &ASK), [GrantedBeside]);
         assert_eq!(told(|s| s.possessions[2] = true, &ASK), [Unread]);
         // The one track of post 0 is what train 1 lacks as well.
-        let beside = |s: &mut State| (s.train[1].at, s.possessions[0]) = (1, true);
+        let beside = |s: &mut State| {
+            bring(&mut s.train[1], 1);
+            s.possessions[0] = true;
+        };
         assert_eq!(told(beside, &frame(FA, 1, 1, 0)), []);
     }
 

@@ -5,6 +5,7 @@
 //! Ends with `0 differences` and status 0. On the first difference it prints the input and both
 //! outputs, with status 1; so it does if anything that a run is to reach was never reached.
 
+mod again;
 mod book_faults;
 mod books;
 mod cases;
@@ -13,6 +14,7 @@ mod codes;
 mod counts;
 mod desk;
 mod frames;
+mod last_moves;
 mod lent;
 mod local_runs;
 mod model_ends;
@@ -20,9 +22,12 @@ mod openings;
 mod pair;
 mod positions;
 mod questions;
+mod radio;
+mod repeats;
 mod runs;
 mod sidings;
 mod state_gangs;
+mod state_moves;
 mod state_tracks;
 mod states;
 mod stores;
@@ -33,13 +38,19 @@ mod timings;
 mod tracks;
 mod units;
 #[cfg(test)]
+mod wrong_again;
+#[cfg(test)]
 mod wrong_boxes;
 #[cfg(test)]
 mod wrong_codes;
 #[cfg(test)]
+mod wrong_last_moves;
+#[cfg(test)]
 mod wrong_local_runs;
 #[cfg(test)]
 mod wrong_positions;
+#[cfg(test)]
+mod wrong_repeats;
 #[cfg(test)]
 mod wrong_timings;
 #[cfg(test)]
@@ -50,6 +61,7 @@ use inputs::random::Random;
 use model_ends::Model;
 use openings::Opened;
 use pair::{Compared, Pair};
+use radio::Radio;
 use runs::Crews;
 use std::process::ExitCode;
 
@@ -151,9 +163,10 @@ fn one_run(
 ) -> Compared<()> {
     let opened = &opened[random.below(opened.len())];
     let strange = &strange[random.below(strange.len())];
-    match random.below(24) {
-        0 => runs::whole(pair, opened, strange, Crews::ByFrames, random),
-        1 => runs::whole(pair, opened, strange, Crews::WithUnits, random),
+    match random.below(48) {
+        0 | 1 => runs::whole(pair, opened, strange, Crews::ByFrames, random),
+        2 | 3 => runs::whole(pair, opened, strange, Crews::WithUnits(Radio::Good), random),
+        4 => runs::whole(pair, opened, strange, Crews::WithUnits(Radio::Bad), random),
         _ => runs::handed_in(pair, opened, strange, random),
     }
 }

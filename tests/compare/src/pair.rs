@@ -4,7 +4,7 @@ use crate::checks::Asked;
 use crate::counts::{Counts, Entry};
 use crate::lent::{Lent, Side};
 use crate::questions::Question;
-use crate::{codes, local_runs, sidings, timings, tracks};
+use crate::{again, codes, last_moves, local_runs, repeats, sidings, timings, tracks};
 use boundary::Ends;
 use inputs::encoding::{train_at, trains_in, PHASE_AT};
 use inputs::frames::KIND_AT;
@@ -109,12 +109,16 @@ impl Pair {
             ("out", out),
         ];
         let reply = self.settle(Entry::Answer, &[], results, &buffers, &[("table", table)])?;
-        self.count_local_runs(state, frame, reply);
+        self.count_fared(state, table, frame, reply);
         match reply.refusal {
             0 => {
                 let sent = &out.bytes()[..FRAME_BYTES * reply.sent];
-                self.count_sent(state.bytes(), table.bytes(), sent);
+                self.counts.sent(reply.sent);
                 self.count_trains(state, journal);
+                // A repeat gives nobody an authority and declines none anew.
+                if state.kept() != state.bytes() {
+                    self.count_sent(state.bytes(), table.bytes(), sent);
+                }
             }
             1 => self.count_strange(state.bytes()),
             _ => {}
@@ -172,6 +176,8 @@ impl Pair {
         let buffers = [("unit", &*unit), ("frame", frame)];
         let reply = self.settle(Entry::Press, &[button.into()], results, &buffers, &[])?;
         self.count_phase(reply, unit);
+        let case = again::of_press(unit.kept(), button, reply.refusal);
+        self.counts.cases(case);
         Ok(reply)
     }
 
@@ -229,15 +235,17 @@ impl Pair {
         self.counts.cases(timings::of_order(asked));
     }
 
-    /// How a frame of a gang fared.
-    fn count_local_runs(&mut self, state: &Lent, frame: &Lent, reply: Reply) {
-        let cases = local_runs::of_frame(state.kept(), frame.bytes(), reply);
+    /// How a frame of a gang fared, and one that repeats another or nearly does.
+    fn count_fared(&mut self, state: &Lent, table: &Lent, frame: &Lent, reply: Reply) {
+        let (before, frame) = (state.kept(), frame.bytes());
+        self.counts
+            .cases(local_runs::of_frame(before, frame, reply));
+        let cases = repeats::of_frame(before, table.bytes(), frame, reply);
         self.counts.cases(cases);
     }
 
-    /// Of an accepted frame: what the frames sent tell of the state after it.
+    /// Of a new frame: what the frames sent tell of the state after it.
     fn count_sent(&mut self, state: &[u8], table: &[u8], sent: &[u8]) {
-        self.counts.sent(sent.len() / FRAME_BYTES);
         self.counts.cases(sidings::of_answer(state, table, sent));
         self.counts.cases(codes::of_answer(state, sent));
         self.counts.cases(local_runs::of_answer(state, table, sent));
@@ -248,6 +256,7 @@ impl Pair {
         self.counts.cases(sidings::of_strange(state));
         self.counts.cases(tracks::of_strange(state));
         self.counts.cases(local_runs::of_strange(state));
+        self.counts.cases(last_moves::of_strange(state));
     }
 
     /// Of an accepted frame: what the trains are about, and their tracks.
@@ -257,6 +266,7 @@ impl Pair {
         }
         let cases = tracks::of_answer(state.kept(), state.bytes(), journal.bytes());
         self.counts.cases(cases);
+        self.counts.cases(last_moves::of_answer(state.bytes()));
     }
 
     fn count_phase(&mut self, reply: Reply, unit: &Lent) {

@@ -5,8 +5,9 @@ use crate::desk::Desk;
 use crate::lent::Lent;
 use crate::openings::Opened;
 use crate::pair::{Compared, Pair};
+use crate::radio::{Radio, TO_THE_BOX, TO_THE_UNITS};
 use crate::{frames, states, stores};
-use inputs::encoding::{is_home, state_of, train_at, trains_in, ASKED, NO_BUTTON, PHASE_AT};
+use inputs::encoding::{is_home, state_of, train_at, trains_in, AGAIN, ASKED, NO_BUTTON, PHASE_AT};
 use inputs::random::Random;
 use inputs::sizes::{FRAME_BYTES, UNIT_BYTES};
 
@@ -21,8 +22,8 @@ const LONGEST_RUN: usize = 400;
 pub enum Crews {
     ByFrames,
     /// Every frame of a crew comes from its unit, gangs send among them, and every unit hears all frames of gangs and
-    /// every answer.
-    WithUnits,
+    /// every answer, unless the radio loses it.
+    WithUnits(Radio),
 }
 
 /// A run from the opening, until all trains are home or all that are not wait.
@@ -35,24 +36,19 @@ pub fn whole(
 ) -> Compared<()> {
     let table = choose_table(pair, opened, strange, 8, random);
     let mut desk = Desk::new(&opened.state, stores::journal(random), random);
-    let (mut units, begun, ended) = match crews {
-        Crews::ByFrames => (
-            vec![],
-            "run: from an opened book",
-            "run: from an opened book, all home",
-        ),
-        Crews::WithUnits => (
-            make_units(pair, &opened.state, random)?,
-            "run: with units",
-            "run: with units, all home",
-        ),
+    let mut units = match crews {
+        Crews::ByFrames => vec![],
+        Crews::WithUnits(_) => make_units(pair, &opened.state, random)?,
     };
+    let (begun, ended) = names(crews);
     pair.counts.input(begun);
     pair.counts.input(of_edition(opened.edition));
     for _ in 0..LONGEST_RUN {
         match crews {
             Crews::ByFrames => put_any(pair, &mut desk, table, random)?,
-            Crews::WithUnits => step_with_units(pair, &mut desk, &mut units, table, random)?,
+            Crews::WithUnits(radio) => {
+                step_with_units(pair, &mut desk, &mut units, table, radio, random)?;
+            }
         }
         if is_over(&desk, random) {
             break;
@@ -62,6 +58,18 @@ pub fn whole(
         pair.counts.input(ended);
     }
     pair.unchanged(table)
+}
+
+/// A run by its beginning and by its end.
+fn names(crews: Crews) -> (&'static str, &'static str) {
+    match crews {
+        Crews::ByFrames => (
+            "run: from an opened book",
+            "run: from an opened book, all home",
+        ),
+        Crews::WithUnits(Radio::Good) => ("run: with units", "run: with units, all home"),
+        Crews::WithUnits(Radio::Bad) => ("run: over bad radio", "run: over bad radio, all home"),
+    }
 }
 
 fn of_edition(edition: u8) -> &'static str {
@@ -147,41 +155,62 @@ fn make_units(pair: &mut Pair, state: &[u8], random: &mut Random) -> Compared<Ve
     Ok(units)
 }
 
-/// One crew presses a button or a gang sends; the box answers what comes of it, and all units hear the answers.
+/// One crew presses a button or a gang sends; the box answers what comes of it, and all units hear the answers, unless
+/// the radio loses either. The frame of a gang, which is at the desk, is not lost.
 fn step_with_units(
     pair: &mut Pair,
     desk: &mut Desk,
     units: &mut [Lent],
     table: &Lent,
+    radio: Radio,
     random: &mut Random,
 ) -> Compared<()> {
-    let by_gang = random.one_in(6);
-    let frame = if by_gang {
-        Some(frames::of_gang(desk.state(), random).to_vec())
-    } else {
-        pressed(pair, units, random)?
-    };
-    let Some(frame) = frame else {
+    if random.one_in(6) {
+        let frame = frames::of_gang(desk.state(), random);
+        hear_all(pair, units, &frame, random)?;
+        return exchange(pair, desk, units, table, &frame, radio, random);
+    }
+    let Some(frame) = pressed(pair, units, radio, random)? else {
         return Ok(());
     };
-    if by_gang {
-        hear_all(pair, units, &frame, random)?;
+    for _ in 0..radio.times(TO_THE_BOX, pair, random) {
+        exchange(pair, desk, units, table, &frame, radio, random)?;
     }
-    let sent = desk.put(pair, table, &frame, random)?.sent;
+    Ok(())
+}
+
+/// The box answers a frame, and all units hear the answers that come through.
+fn exchange(
+    pair: &mut Pair,
+    desk: &mut Desk,
+    units: &mut [Lent],
+    table: &Lent,
+    frame: &[u8],
+    radio: Radio,
+    random: &mut Random,
+) -> Compared<()> {
+    let sent = desk.put(pair, table, frame, random)?.sent;
     for answer in desk.answers(sent) {
-        hear_all(pair, units, &answer, random)?;
+        for _ in 0..radio.times(TO_THE_UNITS, pair, random) {
+            hear_all(pair, units, &answer, random)?;
+        }
     }
     Ok(())
 }
 
 /// Some crew presses a button, mostly the one that is due: the frame that comes of it.
-fn pressed(pair: &mut Pair, units: &mut [Lent], random: &mut Random) -> Compared<Option<Vec<u8>>> {
+fn pressed(
+    pair: &mut Pair,
+    units: &mut [Lent],
+    radio: Radio,
+    random: &mut Random,
+) -> Compared<Option<Vec<u8>>> {
     let crew = random.below(units.len());
     let unit = &mut units[crew];
-    let button = if random.one_in(8) {
-        random.between(0, NO_BUTTON)
-    } else {
-        button_due(unit.bytes()[PHASE_AT])
+    let button = match random.below(8) {
+        0 => random.between(0, NO_BUTTON),
+        1..=4 if radio == Radio::Bad => button_again(unit.bytes()[PHASE_AT]),
+        _ => button_due(unit.bytes()[PHASE_AT]),
     };
     let mut given = Lent::random(FRAME_BYTES + random.below(4), random);
     let sent = pair.press(unit, button, &mut given)?.sent;
@@ -199,6 +228,14 @@ fn hear_all(
         pair.hear(unit, &heard)?;
     }
     Ok(())
+}
+
+/// The button for each phase over bad radio: Again where a frame may have been lost.
+fn button_again(phase: u8) -> u8 {
+    match phase {
+        0..=2 => AGAIN,
+        _ => button_due(phase),
+    }
 }
 
 /// The button for each phase; a crew that waits presses Ask in vain.

@@ -1,6 +1,6 @@
 //! States handed in: valid by construction, nearly valid, and such that no box ever had.
 
-use crate::{state_gangs, state_tracks};
+use crate::{state_gangs, state_moves, state_tracks};
 use inputs::encoding::{state_bytes, state_of, train_at, FREE, RUNNING};
 use inputs::random::Random;
 use inputs::sizes::{
@@ -11,9 +11,9 @@ use model::{Standing, State, Train};
 /// A state of some kind. `opened` is the first state of a book, for states of its line.
 pub fn any(opened: &[u8], random: &mut Random) -> (&'static str, Vec<u8>) {
     let state = valid(opened, random);
-    match random.below(18) {
-        0..=3 => altered_bytes(state_bytes(&state).to_vec(), random),
-        4..=8 => {
+    match random.below(20) {
+        0..=4 => altered_bytes(state_bytes(&state).to_vec(), random),
+        5..=10 => {
             let (kind, state) = altered(state, random);
             (kind, state_bytes(&state).to_vec())
         }
@@ -38,10 +38,14 @@ fn altered_bytes(mut bytes: Vec<u8>, random: &mut Random) -> (&'static str, Vec<
 
 /// A state with one thing changed. It may still be valid.
 fn altered(state: State, random: &mut Random) -> (&'static str, State) {
-    match random.below(6) {
+    match random.below(8) {
         0 | 1 => (
             "state: a track altered",
             state_tracks::altered(state, random),
+        ),
+        6 | 7 => (
+            "state: a last move altered",
+            state_moves::altered(state, random),
         ),
         2 => (
             "state: a gang or the number given altered",
@@ -80,6 +84,7 @@ pub fn valid(opened: &[u8], random: &mut Random) -> State {
     });
     let numbers = give_standings(&mut state, random);
     state_gangs::give(&mut state, random);
+    state_moves::give(&mut state);
     give_count(&mut state, numbers, random);
     state_tracks::give(&mut state, |unheld| random.pick(unheld));
     if random.one_in(2) {
@@ -257,6 +262,7 @@ fn fill_unread(state: &mut State, random: &mut Random) {
                 1 => Standing::Asked(random.byte()),
                 _ => Standing::Running(random.byte()),
             },
+            last: state_moves::any(random),
         };
     }
 }
@@ -289,7 +295,10 @@ fn with_a_rule_broken(mut state: State, random: &mut Random) -> State {
     let train = &mut state.train[t];
     match random.below(5) {
         0 => train.standing = Standing::Running(random.between(0, 5)),
-        1 => train.at = random.between(train.start.min(train.end), train.start.max(train.end)),
+        1 => {
+            let post = random.between(train.start.min(train.end), train.start.max(train.end));
+            state_moves::bring(train, post);
+        }
         2 => train.standing = Standing::Asked(count),
         3 => {
             if let Standing::Asked(_) = other.standing {
@@ -301,7 +310,7 @@ fn with_a_rule_broken(mut state: State, random: &mut Random) -> State {
     state
 }
 
-/// A status above 2, a detail of a Free train, or a section's byte above 1.
+/// A status above 2, a detail of a Free train, a last move that is none, or a section's byte above 1.
 fn encoding_none(mut bytes: Vec<u8>, random: &mut Random) -> Vec<u8> {
     if random.one_in(3) {
         let any = random.between(2, 255);
@@ -309,7 +318,9 @@ fn encoding_none(mut bytes: Vec<u8>, random: &mut Random) -> Vec<u8> {
         return bytes;
     }
     let train = &mut bytes[FLEET_AT + TRAIN_BYTES * random.below(6)..][..TRAIN_BYTES];
-    if train[train_at::STATUS] == FREE && random.one_in(2) {
+    if random.one_in(2) {
+        last_of_none(&mut train[train_at::LAST..], random);
+    } else if train[train_at::STATUS] == FREE && random.one_in(2) {
         train[train_at::DETAIL] = random.between(1, 255);
     } else {
         let any = random.between(RUNNING + 1, 255);
@@ -318,11 +329,32 @@ fn encoding_none(mut bytes: Vec<u8>, random: &mut Random) -> Vec<u8> {
     bytes
 }
 
+/// The three bytes of a train's last move such that they encode none: a byte above 1, or none and a post.
+fn last_of_none(last: &mut [u8], random: &mut Random) {
+    let any = random.between(1, 255);
+    match random.below(4) {
+        0 => last[0] = random.pick(&[2, 2, 255, any.max(2)]),
+        1 => last.copy_from_slice(&[any.max(2), 0, 0]),
+        2 => last[0] = 0,
+        _ => last.copy_from_slice(&[0, 0, 0]),
+    }
+    if last[0] == 0 {
+        last[1 + random.below(2)] = random.pick(&[1, 255, any]);
+    }
+}
+
 /// Bytes in which every number is small, so that some of them are states.
 fn small(random: &mut Random) -> Vec<u8> {
     let mut bytes: Vec<u8> = (0..STATE_BYTES).map(|_| random.between(0, 8)).collect();
     for byte in &mut bytes[SECTIONS_AT..GIVEN_AT] {
         *byte /= 8;
+    }
+    for train in bytes[FLEET_AT..SECTIONS_AT].chunks_exact_mut(TRAIN_BYTES) {
+        let last = &mut train[train_at::LAST..];
+        last[0] /= 8;
+        if last[0] == 0 {
+            last.fill(0);
+        }
     }
     bytes
 }

@@ -6,6 +6,7 @@ use crate::lent::Lent;
 use crate::model_ends::Model;
 use crate::pair::{Pair, Reply};
 use crate::questions::Question;
+use crate::state_moves::bring;
 use crate::{all, codes, sidings, state_tracks, states, tracks, Options};
 use boundary::Ends;
 use inputs::books::{book, book_2, book_3, X};
@@ -14,8 +15,16 @@ use inputs::encoding::{put_records, state_bytes, state_of};
 use inputs::frames::{frame, AFE, AM, FA, FE};
 use inputs::random::Random;
 use inputs::sizes::{JOURNAL_BYTES, TIME_BYTES};
-use model::{Record, Standing, State};
+use model::{Record, Standing, State, Verdict};
 use std::cell::Cell;
+
+/// The model's verdict as the C interface tells it.
+pub fn reply_of(verdict: Verdict) -> Reply {
+    match verdict {
+        Verdict::Refused(refusal) => Reply { refusal, sent: 0 },
+        Verdict::Sent(sent) => Reply { refusal: 0, sent },
+    }
+}
 
 /// Where the altered bit is: in the result or in the buffer of this place among the written ones.
 #[derive(Debug, Clone, Copy, PartialEq)]
@@ -202,16 +211,37 @@ fn what_is_never_reached_fails() {
         "case of local runs: LB, several trains granted never reached",
         "case of running times: over 8,388,607 metres never reached",
         "case of the order of checks for them: 23 before 27 never reached",
+        "case of repeats: FE again, journal full never reached",
+        "case of last moves: a strange state, backwards never reached",
         "input: run: of a book of edition 3 never reached",
+        "input: run: over bad radio, all home never reached",
         "input: table: all ones never reached",
     ] {
         assert!(failings.contains(&due.to_string()), "{failings:?}");
     }
     let none_heard = Counts::new().failings();
+    let never_pressed = "case of Again: AM, Standing at the end never reached".to_string();
+    assert!(none_heard.contains(&never_pressed) && !failings.contains(&never_pressed));
     for kind in ["LA", "LE", "LB"] {
         let due = format!("{kind} heard by a unit: Arrived never reached");
         assert!(none_heard.contains(&due), "{none_heard:?}");
         assert!(!failings.contains(&due), "{failings:?}");
+    }
+}
+
+/// "Refusals 10 and 11 go": a box that gives one fails, also where both sides agree.
+#[test]
+fn numbers_that_are_gone_fail() {
+    for number in [10, 11] {
+        let mut counts = Counts::new();
+        let answered = format!("answer answered {number}");
+        let due = format!("answer never answered {number}");
+        assert!(!counts
+            .failings()
+            .iter()
+            .any(|f| [&answered, &due].contains(&f)));
+        assert!(counts.refusal(Entry::Answer, number));
+        assert!(counts.failings().contains(&answered));
     }
 }
 
@@ -259,7 +289,7 @@ fn what_sidings_bring_about_is_told() {
 /// X after the opening, with train 0 at post 1 and train 1 under way to it.
 fn x_with_both_at_post_1() -> State {
     let mut state = crews::open(&X).unwrap().state;
-    state.train[0].at = 1;
+    bring(&mut state.train[0], 1);
     state.train[1].standing = Standing::Running(2);
     state
 }
@@ -282,11 +312,12 @@ fn the_one_wrong_track_of_a_strange_state_is_told() {
         }),
         (Some(TrackCase::ToAnothers), |s| s.train[0].track = 2),
         (Some(TrackCase::OnAnothers), |s| {
-            (s.train[1].at, s.train[1].standing) = (1, Standing::Free);
+            bring(&mut s.train[1], 1);
+            s.train[1].standing = Standing::Free;
         }),
         (Some(TrackCase::OnOnePutAway), |s| {
             s.sidings = 4;
-            s.train[0].at = 2;
+            bring(&mut s.train[0], 2);
         }),
         // Two wrong tracks, and a state that right tracks would not make sound.
         (None, |s| (s.train[0].track, s.train[1].track) = (0, 0)),

@@ -1,6 +1,6 @@
 //! What came of questions about running times, by the model: what was answered, and for what a question was refused.
 
-use crate::cases::{Neighbours, TimeCase};
+use crate::cases::{shown, Neighbours, TimeCase};
 use crate::checks::{are_right, first, positions, would_refuse, Asked, CHECKS};
 use crate::openings;
 use crate::questions::Question;
@@ -117,12 +117,6 @@ fn of_speed(speed: u32) -> Vec<TimeCase> {
             TimeCase::RightInOneByte,
         ),
     ])
-}
-
-/// The cases of which this is true.
-fn shown<const N: usize>(cases: [(bool, TimeCase); N]) -> Vec<TimeCase> {
-    let shown = cases.into_iter().filter(|(is_shown, _)| *is_shown);
-    shown.map(|(_, case)| case).collect()
 }
 
 #[cfg(test)]

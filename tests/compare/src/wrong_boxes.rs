@@ -8,9 +8,9 @@ use crate::{all, Options};
 use boundary::Ends;
 use inputs::encoding::{put_records, records_of, state_bytes, state_of, unit_bytes, unit_of};
 use inputs::frames::KIND_AT;
-use inputs::sizes::{RECORD_BYTES, TIME_BYTES};
+use inputs::sizes::{FRAME_BYTES, RECORD_BYTES, TIME_BYTES};
 use model::table::bit;
-use model::{Record, State, Unit};
+use model::{write_frame, Message, Record, State, Unit};
 
 /// An accepted frame: the state before and after it, the records of it and its answers, and the table.
 pub struct Answered<'a> {
@@ -18,6 +18,35 @@ pub struct Answered<'a> {
     pub after: &'a mut State,
     pub records: &'a mut [Record],
     pub table: &'a [u8],
+}
+
+impl Answered<'_> {
+    /// The kind of the frame by its record; 0 for a repeat, which has none.
+    pub fn kind(&self) -> u8 {
+        self.records.first().map_or(0, |own| own.kind)
+    }
+}
+
+/// A frame put to a sound state with long enough stores, and what the model makes of it: the state before and after it,
+/// all records, the messages sent, and the number, 0 where it is accepted.
+pub struct Replied<'a> {
+    pub message: Message,
+    pub before: &'a State,
+    pub after: State,
+    pub records: Vec<Record>,
+    pub sent: Vec<Message>,
+    pub number: u8,
+    pub table: &'a [u8],
+}
+
+/// A press on a sound unit: the unit before and after it, the button, the bytes lent, and what the model makes of it:
+/// the message sent, or none, or the number.
+pub struct Pressed<'a> {
+    pub before: &'a Unit,
+    pub after: Unit,
+    pub button: u8,
+    pub room: usize,
+    pub given: Result<Option<Message>, u8>,
 }
 
 /// Where a wrong box or unit goes another way than the model.
@@ -38,6 +67,10 @@ pub enum Fault {
     Numbers(fn(&State, &[u8], u8) -> u8),
     /// It answers a frame in a sound state as if that were another, and mends what comes of it.
     AsIf(fn(State, &[u8]) -> State, fn(Answered)),
+    /// With all that comes of a frame that is read.
+    Replies(fn(&mut Replied)),
+    /// With all that comes of a press.
+    Presses(fn(&mut Pressed)),
     /// With a unit that accepted a frame of this kind: how it is then, and the number.
     Heard(fn(&mut Unit, u8) -> u8),
     /// At this call it takes the bytes of a book for others.
@@ -74,8 +107,10 @@ impl Ends for Wrong {
         out: &mut [u8],
     ) -> u32 {
         let (mut bytes, mut frame) = (state.to_vec(), frame.to_vec());
-        if let Fault::Reads(fault) = self.0 {
-            fault(&mut bytes, &mut frame);
+        match self.0 {
+            Fault::Replies(fault) => return replies(fault, [state, journal, out], table, &frame),
+            Fault::Reads(fault) => fault(&mut bytes, &mut frame),
+            _ => {}
         }
         let Some(before) = state_of(&bytes) else {
             return 1;
@@ -115,7 +150,10 @@ impl Ends for Wrong {
     }
 
     fn press(&self, unit: &mut [u8], button: u8, frame: &mut [u8]) -> u32 {
-        Model.press(unit, button, frame)
+        match self.0 {
+            Fault::Presses(fault) => presses(fault, unit, button, frame),
+            _ => Model.press(unit, button, frame),
+        }
     }
 
     fn hear(&self, unit: &mut [u8], frame: &[u8]) -> u32 {
@@ -177,6 +215,81 @@ impl Wrong {
     }
 }
 
+/// Answers a frame as the model does, but for the fault. Lent are a state, a journal and an out buffer.
+fn replies(fault: fn(&mut Replied), lent: [&mut [u8]; 3], table: &[u8], frame: &[u8]) -> u32 {
+    let [state, journal, out] = lent;
+    let [mut bytes, mut logged, mut sent] = [&state, &journal, &out].map(|lent| lent.to_vec());
+    let result = Model.answer(&mut bytes, table, &mut logged, frame, &mut sent);
+    let (Some(before), Some(after), Ok(message), 0 | 3..) = (
+        state_of(state),
+        state_of(&bytes),
+        model::read_frame(frame),
+        result as u8,
+    ) else {
+        return result;
+    };
+    let mut replied = Replied {
+        message,
+        before: &before,
+        after,
+        records: records_of(&logged),
+        sent: messages_of(result, &sent),
+        number: result as u8,
+        table,
+    };
+    fault(&mut replied);
+    if replied.number != 0 {
+        return replied.number.into();
+    }
+    state.copy_from_slice(&state_bytes(&replied.after));
+    put_records(&replied.records, journal);
+    write_frames(&replied.sent, out)
+}
+
+/// Presses a button as the model does, but for the fault.
+fn presses(fault: fn(&mut Pressed), unit: &mut [u8], button: u8, frame: &mut [u8]) -> u32 {
+    let Some(before) = unit_of(unit).filter(model::unit::sound) else {
+        return 1;
+    };
+    let mut given = frame.to_vec();
+    let result = Model.press(unit, button, &mut given);
+    let mut pressed = Pressed {
+        before: &before,
+        after: unit_of(unit).unwrap_or(before),
+        button,
+        room: frame.len(),
+        given: match result as u8 {
+            0 => Ok(messages_of(result, &given).pop()),
+            number => Err(number),
+        },
+    };
+    fault(&mut pressed);
+    unit.copy_from_slice(&unit_bytes(&pressed.after));
+    match pressed.given {
+        Ok(message) => write_frames(message.as_slice(), frame),
+        Err(number) => number.into(),
+    }
+}
+
+/// Writes these at the beginning of a buffer, and answers how many.
+fn write_frames(messages: &[Message], buffer: &mut [u8]) -> u32 {
+    for (message, place) in messages.iter().zip(buffer.chunks_exact_mut(FRAME_BYTES)) {
+        place.copy_from_slice(&write_frame(*message));
+    }
+    (messages.len() as u32) << 8
+}
+
+/// The messages that a call wrote to a buffer, by its answer.
+fn messages_of(result: u32, buffer: &[u8]) -> Vec<Message> {
+    messages_in(buffer, (result >> 8) as usize)
+}
+
+/// The messages of the first so many frames of a buffer.
+pub fn messages_in(buffer: &[u8], frames: usize) -> Vec<Message> {
+    let frames = buffer.chunks_exact(FRAME_BYTES).take(frames);
+    frames.filter_map(|f| model::read_frame(f).ok()).collect()
+}
+
 /// The table whose bit for each code is that of another code.
 fn looked_up(table: &[u8], other: fn(u64) -> u64) -> Vec<u8> {
     let bit_for = |code: u64| u8::from(bit(table, other(code))) << (code % 8);
@@ -189,7 +302,7 @@ fn looked_up(table: &[u8], other: fn(u64) -> u64) -> Vec<u8> {
 /// Frames within which each must be found.
 const ENOUGH: Options = Options {
     seed: 3,
-    frames: 100_000,
+    frames: 200_000,
 };
 
 pub fn every_is_found(faults: &[(&str, Fault)]) {
@@ -210,6 +323,8 @@ fn a_box_without_a_fault_is_not_found() {
         (Fault::Reads(|_, _| ()), ENOUGH.frames),
         (Fault::Numbers(|_, _, number| number), ENOUGH.frames),
         (Fault::AsIf(|s, _| s, |_| ()), ENOUGH.frames),
+        (Fault::Replies(|_| ()), ENOUGH.frames),
+        (Fault::Presses(|_| ()), ENOUGH.frames),
         (Fault::Heard(|_, _| 0), ENOUGH.frames),
         (Fault::ReadsBook(Entry::Open, |_| ()), ENOUGH.frames),
         (

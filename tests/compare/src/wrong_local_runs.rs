@@ -64,8 +64,7 @@ fn with_neighbours(state: State, frame: &[u8]) -> State {
 /// The gangs are those before the frame, but for its own.
 fn with_gangs_again(a: Answered) {
     let mut held = a.before.possessions;
-    let own = &a.records[0];
-    if matches!(own.kind, LA | LB) {
+    if let Some(own) = a.records.first().filter(|r| matches!(r.kind, LA | LB)) {
         held[usize::from(own.from)] = own.kind == LA;
     }
     a.after.possessions = held;
@@ -108,7 +107,7 @@ fn without_runs(mut state: State, frame: &[u8]) -> State {
 }
 
 fn with_trains_again(a: Answered) {
-    if a.records[0].kind == LA {
+    if a.kind() == LA {
         a.after.train = a.before.train;
     }
 }
@@ -165,8 +164,9 @@ const OF_TRAINS: [(&str, Fault); 9] = [
         "an LA lets trains go",
         Fault::Answered(|a| {
             let trains = 0..usize::from(a.before.trains);
-            for t in trains.filter(|_| a.records[0].kind == LA) {
-                if could_go(a.after, a.table, t) {
+            let is_la = a.kind() == LA;
+            for t in trains {
+                if is_la && could_go(a.after, a.table, t) {
                     a.after.train[t].standing = Standing::Running(1);
                 }
             }
@@ -211,7 +211,7 @@ const OF_GANGS: [(&str, Fault); 14] = [
     (
         "a section stays taken after its LB",
         Fault::Answered(|a| {
-            if a.records[0].kind == LB {
+            if a.kind() == LB {
                 a.after.possessions = a.before.possessions;
             }
         }),
@@ -219,7 +219,7 @@ const OF_GANGS: [(&str, Fault); 14] = [
     (
         "an LB frees all sections",
         Fault::Answered(|a| {
-            if a.records[0].kind == LB {
+            if a.kind() == LB {
                 a.after.possessions[..unread(a.before).start].fill(false);
             }
         }),
@@ -227,7 +227,7 @@ const OF_GANGS: [(&str, Fault); 14] = [
     (
         "a section is not taken by its LE",
         Fault::Answered(|a| {
-            if a.records[0].kind == LA {
+            if a.kind() == LA {
                 a.after.possessions = a.before.possessions;
             }
         }),
@@ -238,14 +238,12 @@ const OF_GANGS: [(&str, Fault); 14] = [
     ),
     (
         "only gangs that are out are counted",
-        Fault::Answered(|a| {
-            a.after.given -= u8::from(a.records[0].kind == LB && a.after.given > 0)
-        }),
+        Fault::Answered(|a| a.after.given -= u8::from(a.kind() == LB && a.after.given > 0)),
     ),
     (
         "local runs are counted as they come back",
         Fault::Answered(|a| {
-            let back = a.records[0].kind == LB && a.before.given < LOCAL_RUNS;
+            let back = a.kind() == LB && a.before.given < LOCAL_RUNS;
             a.after.given = a.before.given + u8::from(back);
         }),
     ),
@@ -262,7 +260,7 @@ const OF_GANGS: [(&str, Fault); 14] = [
                 }
                 s
             },
-            |a| a.after.given = a.before.given + u8::from(a.records[0].kind == LA),
+            |a| a.after.given = a.before.given + u8::from(a.kind() == LA),
         ),
     ),
     (
@@ -275,7 +273,7 @@ const OF_GANGS: [(&str, Fault); 14] = [
     (
         "an LA has a train's number in the journal",
         Fault::Answered(|a| {
-            if a.records[0].kind == LA {
+            if a.kind() == LA {
                 a.records[0].train = 0;
             }
         }),
@@ -291,7 +289,7 @@ const OF_GANGS: [(&str, Fault); 14] = [
     (
         "an LB is logged as an LA",
         Fault::Answered(|a| {
-            if a.records[0].kind == LB {
+            if a.kind() == LB {
                 a.records[0].kind = LA;
             }
         }),
@@ -299,10 +297,11 @@ const OF_GANGS: [(&str, Fault); 14] = [
     (
         "an LA is the train's that stands there",
         Fault::Answered(|a| {
-            let la = &mut a.records[0];
-            let stands = |train: &Train| la.kind == LA && train.at == la.from;
-            if let Some(t) = a.before.present().iter().position(stands) {
-                la.train = t as u8;
+            for la in a.records.iter_mut().filter(|r| r.kind == LA) {
+                let stands = |train: &Train| train.at == la.from;
+                if let Some(t) = a.before.present().iter().position(stands) {
+                    la.train = t as u8;
+                }
             }
         }),
     ),

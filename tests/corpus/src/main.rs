@@ -7,6 +7,7 @@
 
 mod gangs;
 mod positions;
+mod repeats;
 mod stored;
 
 use std::path::Path;

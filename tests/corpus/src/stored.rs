@@ -1,6 +1,6 @@
 //! Every stored input by name: refused books, refused frames, torn tails, and whole runs.
 
-use crate::{gangs, positions};
+use crate::{gangs, positions, repeats};
 use inputs::books::{book, book_2, X, Y};
 use inputs::crews::{self, Senders};
 use inputs::frames::{frame, AFE, AM, FA, FE, LA};
@@ -132,6 +132,7 @@ pub fn all() -> Vec<Input> {
     inputs.extend(frames());
     inputs.extend(gangs::all());
     inputs.extend(positions::all());
+    inputs.extend(repeats::all());
     inputs.extend(tails());
     inputs.extend(runs());
     inputs.sort();
@@ -160,6 +161,15 @@ pub fn end_to_end() -> Vec<u8> {
     book(
         &[3, 2, 2, 2, 2, 2, 2, 3],
         &[[0, 7], [7, 0], [0, 7], [7, 0], [0, 7], [7, 0]],
+    )
+}
+
+/// Three trains end at either single track, where they are put away.
+pub fn put_away() -> Vec<u8> {
+    book_2(
+        &[1, 2, 2, 2, 2, 2, 2, 1],
+        0x81,
+        &[[0, 7], [7, 0], [1, 7], [6, 0], [2, 7], [5, 0]],
     )
 }
 
@@ -283,17 +293,11 @@ fn tails() -> Vec<Input> {
 /// Runs of crews that ask and report in a random order, among stray frames, until all are home; and such with gangs.
 fn runs() -> Vec<Input> {
     let mut inputs = Vec::new();
-    // Three trains end at either single track.
-    let put_away = book_2(
-        &[1, 2, 2, 2, 2, 2, 2, 1],
-        0x81,
-        &[[0, 7], [7, 0], [1, 7], [6, 0], [2, 7], [5, 0]],
-    );
     for (name, book) in [
         ("x", X.to_vec()),
         ("y", Y.to_vec()),
         ("largest", largest()),
-        ("sidings", put_away),
+        ("sidings", put_away()),
         ("end-to-end", end_to_end()),
     ] {
         inputs.extend(runs_of(&book, name, Senders::Crews, 6));

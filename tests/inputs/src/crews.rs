@@ -1,4 +1,4 @@
-//! Runs as crews make them, alone or with track gangs, with the answers of the model.
+//! Runs as crews make them, alone, with track gangs or over bad radio, with the answers of the model.
 
 use crate::frames::{frame, local_run, AM, FA, LA, LB};
 use crate::random::Random;
@@ -25,6 +25,8 @@ pub struct Turn {
     pub frame: [u8; FRAME_BYTES],
     pub verdict: Verdict,
     pub out: [u8; OUT_BYTES],
+    /// It was accepted and changed nothing: a new frame is logged.
+    pub is_repeat: bool,
 }
 
 /// Who sends in a run.
@@ -32,10 +34,12 @@ pub struct Turn {
 pub enum Senders {
     Crews,
     CrewsAndGangs,
+    /// Crews that send again what may have been lost.
+    CrewsOverBadRadio,
 }
 
 /// The frames of crews that ask and report in a random order, among altered ones, until all trains are at their ends.
-/// Gangs among them ask for sections and give them back.
+/// Gangs among them ask for sections and give them back, or crews repeat what they sent.
 pub fn run<'a>(
     opened: &'a Opened,
     senders: Senders,
@@ -56,6 +60,7 @@ pub fn run<'a>(
             frame,
             verdict,
             out,
+            is_repeat: after == before && matches!(verdict, Verdict::Sent(_)),
         })
     })
 }
@@ -64,7 +69,8 @@ pub fn run<'a>(
 fn some_frame(state: &State, senders: Senders, random: &mut Random) -> [u8; FRAME_BYTES] {
     let mut frame = match senders {
         Senders::CrewsAndGangs if random.one_in(4) => of_some_gang(state, random),
-        Senders::Crews | Senders::CrewsAndGangs => of_some_crew(state, random),
+        Senders::CrewsOverBadRadio if random.one_in(2) => once_more(state, random),
+        _ => of_some_crew(state, random),
     };
     if random.one_in(8) {
         let byte = random.byte();
@@ -85,6 +91,21 @@ fn of_some_crew(state: &State, random: &mut Random) -> [u8; FRAME_BYTES] {
     frame(kind, t as u8, train.at, to)
 }
 
+/// What some crew sends again: the FA where it waits or has an authority, or the AM of its last move. One that has sent
+/// nothing yet begins.
+fn once_more(state: &State, random: &mut Random) -> [u8; FRAME_BYTES] {
+    let t = random.below(state.trains.into());
+    let train = state.train[t];
+    let next = train.next().filter(|_| train.standing != Standing::Free);
+    let request = next.map(|to| frame(FA, t as u8, train.at, to));
+    let arrival = train.last.map(|(from, to)| frame(AM, t as u8, from, to));
+    match (request, arrival) {
+        (Some(request), Some(arrival)) => random.pick(&[request, arrival]),
+        (Some(sent), None) | (None, Some(sent)) => sent,
+        (None, None) => of_some_crew(state, random),
+    }
+}
+
 /// A section that a gang has comes back, another is asked for; every eighth time it is the other way round.
 fn of_some_gang(state: &State, random: &mut Random) -> [u8; FRAME_BYTES] {
     let section = random.between(0, state.posts - 2);
@@ -100,19 +121,24 @@ fn all_home(state: &State) -> bool {
 mod tests {
     use super::*;
     use crate::books::book;
-    use crate::frames::KIND_AT;
+    use crate::frames::{AFE, FE, KIND_AT};
 
-    /// The kind and the outcome of each frame of some runs, long enough for twenty gangs.
-    fn outcomes(senders: Senders) -> Vec<(u8, Verdict)> {
+    /// The frames of some runs, long enough for twenty gangs.
+    fn turns(senders: Senders) -> Vec<Turn> {
         let both_ways = [[0, 7], [7, 0], [0, 7], [7, 0]];
         let opened = open(&book(&[2; 8], &both_ways)).unwrap();
-        let mut outcomes = vec![];
+        let mut turns = vec![];
         for seed in 1..=20 {
             let random = &mut Random::of_stored_runs(seed);
-            let outcome = |turn: Turn| (turn.frame[KIND_AT], turn.verdict);
-            outcomes.extend(run(&opened, senders, random).map(outcome));
+            turns.extend(run(&opened, senders, random));
         }
-        outcomes
+        turns
+    }
+
+    /// The kind and the outcome of each frame.
+    fn outcomes(senders: Senders) -> Vec<(u8, Verdict)> {
+        let outcome = |turn: &Turn| (turn.frame[KIND_AT], turn.verdict);
+        turns(senders).iter().map(outcome).collect()
     }
 
     #[test]
@@ -142,5 +168,24 @@ mod tests {
         let outcomes = outcomes(Senders::Crews);
         let answered = |outcome: &(u8, Verdict)| matches!(outcome, (LA | LB, Verdict::Sent(_)));
         assert!(!outcomes.iter().any(answered));
+    }
+
+    #[test]
+    fn crews_over_bad_radio_repeat_requests_and_arrivals() {
+        let turns = turns(Senders::CrewsOverBadRadio);
+        let came = |kind, sent: &[u8]| {
+            let repeats = |turn: &&Turn| {
+                let kinds = turn.out.chunks_exact(FRAME_BYTES).map(|f| f[KIND_AT]);
+                let verdict = Verdict::Sent(sent.len());
+                let as_said = (turn.frame[KIND_AT], turn.verdict) == (kind, verdict);
+                turn.is_repeat && as_said && kinds.take(sent.len()).eq(sent.iter().copied())
+            };
+            turns.iter().filter(repeats).count()
+        };
+        let [declined, granted, arrived] =
+            [(FA, &[AFE][..]), (FA, &[FE]), (AM, &[])].map(|(kind, sent)| came(kind, sent));
+        assert!(declined > 100 && granted > 100 && arrived > 100);
+        let repeats = turns.iter().filter(|turn| turn.is_repeat).count();
+        assert_eq!(declined + granted + arrived, repeats);
     }
 }

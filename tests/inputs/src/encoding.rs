@@ -15,6 +15,11 @@ pub mod train_at {
     pub const STATUS: usize = 4;
     /// Asked: the journal number of its FA. Running: its track at the post it runs to. Free: 0.
     pub const DETAIL: usize = 5;
+    /// 1 where it has finished a move, else 0.
+    pub const LAST: usize = 6;
+    /// Its last finished move, from post to post, or 0 and 0.
+    pub const LAST_FROM: usize = 7;
+    pub const LAST_TO: usize = 8;
 }
 
 /// Where the bytes of a unit have its phase.
@@ -35,7 +40,16 @@ const PHASES: [UnitState; 6] = [
 ];
 
 /// The buttons by their numbers.
-pub const BUTTONS: [Button; 4] = [Button::Ask, Button::Depart, Button::Reached, Button::Report];
+pub const BUTTONS: [Button; 5] = [
+    Button::Ask,
+    Button::Depart,
+    Button::Reached,
+    Button::Report,
+    Button::Again,
+];
+
+/// The number of Again.
+pub const AGAIN: u8 = 4;
 
 /// The lowest number that is no button.
 pub const NO_BUTTON: u8 = BUTTONS.len() as u8;
@@ -61,19 +75,7 @@ pub fn state_bytes(state: &State) -> [u8; STATE_BYTES] {
     bytes[TRAINS_AT] = state.trains;
     let places = bytes[FLEET_AT..].chunks_exact_mut(TRAIN_BYTES);
     for (train, place) in state.train.iter().zip(places) {
-        let (status, detail) = match train.standing {
-            Standing::Free => (FREE, 0),
-            Standing::Asked(number) => (ASKED, number),
-            Standing::Running(ahead) => (RUNNING, ahead),
-        };
-        let Train {
-            start,
-            end,
-            at,
-            track,
-            ..
-        } = *train;
-        place.copy_from_slice(&[start, end, at, track, status, detail]);
+        place.copy_from_slice(&train_bytes(train));
     }
     bytes[SECTIONS_AT..GIVEN_AT].copy_from_slice(&state.possessions.map(u8::from));
     bytes[GIVEN_AT] = state.given;
@@ -81,8 +83,29 @@ pub fn state_bytes(state: &State) -> [u8; STATE_BYTES] {
     bytes
 }
 
+fn train_bytes(train: &Train) -> [u8; TRAIN_BYTES] {
+    let (status, detail) = match train.standing {
+        Standing::Free => (FREE, 0),
+        Standing::Asked(number) => (ASKED, number),
+        Standing::Running(ahead) => (RUNNING, ahead),
+    };
+    let (finished, from, to) = match train.last {
+        None => (0, 0, 0),
+        Some((from, to)) => (1, from, to),
+    };
+    let Train {
+        start,
+        end,
+        at,
+        track,
+        ..
+    } = *train;
+    [start, end, at, track, status, detail, finished, from, to]
+}
+
 /// The state that the bytes encode; none for another length, another status, a detail where the
-/// status is Free, or a section's byte above 1.
+/// status is Free, a byte above 1 for whether a train has a last move, a post of that where there is
+/// none, or a section's byte above 1.
 pub fn state_of(bytes: &[u8]) -> Option<State> {
     if bytes.len() != STATE_BYTES {
         return None;
@@ -111,7 +134,7 @@ pub fn state_of(bytes: &[u8]) -> Option<State> {
 }
 
 fn train_of(place: &[u8]) -> Option<Train> {
-    let [start, end, at, track, status, detail] = *place else {
+    let [start, end, at, track, status, detail, finished, from, to] = *place else {
         return None;
     };
     let standing = match (status, detail) {
@@ -120,12 +143,18 @@ fn train_of(place: &[u8]) -> Option<Train> {
         (RUNNING, ahead) => Standing::Running(ahead),
         _ => return None,
     };
+    let last = match (finished, from, to) {
+        (0, 0, 0) => None,
+        (1, from, to) => Some((from, to)),
+        _ => return None,
+    };
     Some(Train {
         start,
         end,
         at,
         track,
         standing,
+        last,
     })
 }
 
@@ -204,16 +233,20 @@ mod tests {
         let mut state = crews::open(&book).unwrap().state;
         state.train[0].standing = Standing::Running(2);
         state.train[1].standing = Standing::Asked(6);
+        state.train[1].last = Some((7, 8));
         state.possessions[1] = true;
         state.given = 3;
         state.journal = 7;
         let bytes = state_bytes(&state);
         assert_eq!(bytes[..FLEET_AT], BEGINNING);
-        let two = [0, 2, 0, 1, RUNNING, 2, 2, 1, 2, 1, ASKED, 6];
-        assert_eq!(bytes[FLEET_AT..][..12], two);
-        assert_eq!(bytes[FLEET_AT + 12..47], [0; 24]);
-        assert_eq!(bytes[47..], [0, 1, 0, 0, 0, 0, 0, 3, 7]);
-        assert_eq!((line.len(), bytes.len()), (23, 56));
+        let two = [
+            [0, 2, 0, 1, RUNNING, 2, 0, 0, 0],
+            [2, 1, 2, 1, ASKED, 6, 1, 7, 8],
+        ];
+        assert_eq!(&bytes[FLEET_AT..][..18], two.as_flattened());
+        assert_eq!(bytes[FLEET_AT + 18..65], [0; 36]);
+        assert_eq!(bytes[65..], [0, 1, 0, 0, 0, 0, 0, 3, 7]);
+        assert_eq!((line.len(), bytes.len()), (23, 74));
         assert_eq!(state_of(&bytes), Some(state));
     }
 
@@ -237,6 +270,40 @@ mod tests {
                 assert_eq!(state_of(&other).is_some(), encodes, "{status} {detail}");
             }
         }
+    }
+
+    #[test]
+    fn a_post_without_a_last_move_and_a_byte_above_1_for_it_encode_none() {
+        let bytes = state_bytes(&crews::open(&X).unwrap().state);
+        for (last, encodes) in [
+            ([0, 0, 0], true),
+            ([1, 0, 0], true),
+            ([1, 0, 1], true),
+            ([1, 255, 255], true),
+            ([0, 1, 0], false),
+            ([0, 0, 1], false),
+            ([0, 255, 255], false),
+            ([2, 0, 0], false),
+            ([2, 0, 1], false),
+            ([255, 0, 0], false),
+        ] {
+            // Of the places that are not read, too.
+            for t in [0, 5] {
+                let mut other = bytes;
+                let train = &mut other[FLEET_AT + TRAIN_BYTES * t..][..TRAIN_BYTES];
+                train[train_at::LAST..].copy_from_slice(&last);
+                let read = state_of(&other);
+                assert_eq!(read.is_some(), encodes, "{last:?}");
+                assert!(read.is_none_or(|read| state_bytes(&read) == other));
+            }
+        }
+    }
+
+    #[test]
+    fn the_buttons_have_the_numbers_of_the_header() {
+        assert_eq!(BUTTONS.len(), 5);
+        assert_eq!(BUTTONS[usize::from(AGAIN)], Button::Again);
+        assert_eq!(NO_BUTTON, 5);
     }
 
     #[test]

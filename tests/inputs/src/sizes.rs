@@ -18,9 +18,9 @@ pub const FLEET_AT: usize = TRAINS_AT + 1;
 pub const ROUTE_BYTES: usize = 2;
 pub const LINE_BYTES: usize = FLEET_AT + 6 * ROUTE_BYTES;
 
-/// Of a train a state has six bytes. Then come a byte for each of seven sections, how many local runs were given, and
+/// Of a train a state has nine bytes. Then come a byte for each of seven sections, how many local runs were given, and
 /// the journal's count.
-pub const TRAIN_BYTES: usize = 6;
+pub const TRAIN_BYTES: usize = 9;
 pub const SECTIONS_AT: usize = FLEET_AT + 6 * TRAIN_BYTES;
 pub const GIVEN_AT: usize = SECTIONS_AT + 7;
 pub const COUNT_AT: usize = GIVEN_AT + 1;

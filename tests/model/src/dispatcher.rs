@@ -1,5 +1,5 @@
 //! The dispatcher: its state, what makes a state sound, the opening of a
-//! book, and the answer to a frame (refusals 1 to 13, 19, 20, 24 to 26).
+//! book, and the answer to a frame (refusals 1 to 9, 12, 13, 19, 20, 24 to 26).
 
 use crate::frame::{read_frame, write_frame, Message, Move, FRAME_BYTES, GANG};
 use crate::journal::{log, Record, JOURNAL_RECORDS, RECORDS_A_FRAME};
@@ -22,7 +22,8 @@ pub enum Standing {
 }
 
 /// A train's record: start, end and present post, its track there, from 1 (0
-/// for a train put away), and its standing.
+/// for a train put away), its standing, and its last finished move, from and
+/// to post, or none.
 #[derive(Debug, Clone, Copy, PartialEq, Eq)]
 pub struct Train {
     pub start: u8,
@@ -30,6 +31,7 @@ pub struct Train {
     pub at: u8,
     pub track: u8,
     pub standing: Standing,
+    pub last: Option<(u8, u8)>,
 }
 
 /// The dispatcher's state. Places for posts from `posts` on, trains from
@@ -57,13 +59,14 @@ pub enum Verdict {
 }
 
 impl Train {
-    /// All 0 and Free.
+    /// All 0 and Free, and no move finished.
     pub const EMPTY: Train = Train {
         start: 0,
         end: 0,
         at: 0,
         track: 0,
         standing: Standing::Free,
+        last: None,
     };
 
     /// An up train's end is above its start; parked trains count as up.
@@ -83,6 +86,18 @@ impl Train {
             Some(self.at + 1)
         } else if self.at > self.end {
             Some(self.at - 1)
+        } else {
+            None
+        }
+    }
+
+    /// The one-post move towards the end that reached the present post; none
+    /// at the start. In a sound state it is the last finished move.
+    pub fn reached_by(&self) -> Option<(u8, u8)> {
+        if self.at > self.start {
+            Some((self.at - 1, self.at))
+        } else if self.at < self.start {
+            Some((self.at + 1, self.at))
         } else {
             None
         }
@@ -199,6 +214,9 @@ pub fn sound(state: &State) -> bool {
         if t.is_put_away(state.sidings) && t.track != 0 {
             return false;
         }
+        if t.last != t.reached_by() {
+            return false;
+        }
     }
 
     for post in 0..state.posts {
@@ -253,9 +271,10 @@ pub fn open(book: &[u8], table: &mut [u8], journal: &[Record]) -> (State, u8) {
     (place(&line), 0)
 }
 
-/// Every train of the line Free at its start, count 0, all other places 0. In
-/// number order the trains take their tracks, put away ones none. For a line
-/// whose start placing is lawful: then a track is left for each.
+/// Every train of the line Free at its start, with no move finished, count 0,
+/// all other places 0. In number order the trains take their tracks, put away
+/// ones none. For a line whose start placing is lawful: then a track is left
+/// for each.
 fn place(line: &Line) -> State {
     let mut state = State {
         posts: line.posts,
@@ -279,27 +298,42 @@ fn place(line: &Line) -> State {
     state
 }
 
+/// What a frame that is not refused is to the state.
+enum Accepted {
+    /// New: it is logged, has its effect and is answered.
+    New(Message),
+    /// A repeat of one that was taken before. It gets the answer to that one
+    /// again, an FA its AFE or FE, an AM none, and nothing else comes of it.
+    Repeat(Option<Message>),
+}
+
 /// The checks from 3 on of a frame put to a sound state: what passes is an FA
 /// or an AM of one of its trains, or an LA or an LB for one of its sections.
-fn accept(state: &State, frame: &[u8]) -> Result<Message, u8> {
+/// Repeats are answered before 13.
+fn accept(state: &State, frame: &[u8]) -> Result<Accepted, u8> {
     let message = read_frame(frame)?;
-    match message {
+    let accepted = match message {
         Message::Fe(_) | Message::Afe(_) | Message::Le(_) => return Err(6),
         Message::Fa(_) | Message::Am(_) => check_train(state, message)?,
         Message::La(_) | Message::Lb(_) => check_gang(state, message)?,
+    };
+    let full = JOURNAL_RECORDS - usize::from(state.journal) < RECORDS_A_FRAME;
+    match accepted {
+        Accepted::New(_) if full => Err(13),
+        _ => Ok(accepted),
     }
-    if JOURNAL_RECORDS - usize::from(state.journal) < RECORDS_A_FRAME {
-        return Err(13);
-    }
-    Ok(message)
 }
 
-/// The checks 7 to 12 of an FA or an AM.
-fn check_train(state: &State, message: Message) -> Result<(), u8> {
+/// The checks 7, 8, 9 and 12 of an FA or an AM. "The test for a finished move
+/// comes before 8"; an FA that passes 9 is a repeat where its train is not Free.
+fn check_train(state: &State, message: Message) -> Result<Accepted, u8> {
     let m = message.movement();
     let Some(train) = state.present().get(usize::from(m.train)) else {
         return Err(7);
     };
+    if matches!(message, Message::Am(_)) && train.last == Some((m.from, m.to)) {
+        return Ok(Accepted::Repeat(None));
+    }
     let Some(next) = train.next() else {
         return Err(8);
     };
@@ -307,16 +341,16 @@ fn check_train(state: &State, message: Message) -> Result<(), u8> {
         return Err(9);
     }
     match (message, train.standing) {
-        (Message::Fa(_), Standing::Asked(_)) => Err(10),
-        (Message::Fa(_), Standing::Running(_)) => Err(11),
-        (Message::Fa(_), Standing::Free) | (_, Standing::Running(_)) => Ok(()),
+        (Message::Fa(_), Standing::Asked(_)) => Ok(Accepted::Repeat(Some(Message::Afe(m)))),
+        (Message::Fa(_), Standing::Running(_)) => Ok(Accepted::Repeat(Some(Message::Fe(m)))),
+        (Message::Fa(_), Standing::Free) | (_, Standing::Running(_)) => Ok(Accepted::New(message)),
         (_, _) => Err(12),
     }
 }
 
 /// The checks 7, 9 and 24 to 26 of an LA or an LB. It names its section by the
 /// two neighbouring posts, the lower first.
-fn check_gang(state: &State, message: Message) -> Result<(), u8> {
+fn check_gang(state: &State, message: Message) -> Result<Accepted, u8> {
     let m = message.movement();
     if m.train != GANG {
         return Err(7);
@@ -328,7 +362,7 @@ fn check_gang(state: &State, message: Message) -> Result<(), u8> {
         Message::La(_) if state.holders_of_section(m.from) > 0 => Err(24),
         Message::La(_) if state.given >= LOCAL_RUNS => Err(26),
         Message::Lb(_) if !state.gang_holds(m.from) => Err(25),
-        _ => Ok(()),
+        _ => Ok(Accepted::New(message)),
     }
 }
 
@@ -381,7 +415,7 @@ fn oldest_grantable(state: &State, table: &[u8]) -> Option<(usize, u8)> {
         .find_map(|(_, t)| Some((t, grantable_on(state, table, t)?)))
 }
 
-/// The effect of an accepted frame itself.
+/// The effect of a new frame itself.
 fn take(state: &mut State, message: Message) {
     match message {
         Message::La(m) => {
@@ -393,14 +427,16 @@ fn take(state: &mut State, message: Message) {
     }
 }
 
-/// The effect of an accepted FA or AM itself. At the post it ran to a train
-/// has the track that it ran to, or none where it is put away.
+/// The effect of a new FA or AM itself. At the post it ran to a train has the
+/// track that it ran to, or none where it is put away, and the move is its last
+/// finished one.
 fn take_of_train(state: &mut State, message: Message) {
     let m = message.movement();
     let train = &mut state.train[usize::from(m.train)];
     match (message, train.standing) {
         (Message::Am(_), Standing::Running(ahead)) => {
             train.at = m.to;
+            train.last = Some((m.from, m.to));
             train.standing = Standing::Free;
             let put_away = train.is_put_away(state.sidings);
             train.track = if put_away { 0 } else { ahead };
@@ -426,9 +462,19 @@ fn grant(state: &mut State, table: &[u8], message: Message) -> Vec<(Message, u8)
     answers
 }
 
+/// Writes the frames of the messages at the head of `out`, which has room for
+/// six, and says how many.
+fn send(messages: &[Message], out: &mut [u8]) -> Verdict {
+    for (message, place) in messages.iter().zip(out.chunks_exact_mut(FRAME_BYTES)) {
+        place.copy_from_slice(&write_frame(*message));
+    }
+    Verdict::Sent(messages.len())
+}
+
 /// The dispatcher's answer to a frame. Refused: state and buffers as before.
 /// Otherwise the new state and the number of frames at the head of `out`; the
-/// frame and its answers are logged at the journal's count.
+/// frame and its answers are logged at the journal's count. A repeat is answered
+/// with state and journal as before.
 pub fn answer(
     state: &State,
     table: &[u8],
@@ -443,7 +489,8 @@ pub fn answer(
         return (*state, Verdict::Refused(2));
     }
     let message = match accept(state, frame) {
-        Ok(message) => message,
+        Ok(Accepted::New(message)) => message,
+        Ok(Accepted::Repeat(again)) => return (*state, send(again.as_slice(), out)),
         Err(number) => return (*state, Verdict::Refused(number)),
     };
 
@@ -455,9 +502,9 @@ pub fn answer(
         _ => grant(&mut after, table, message),
     };
     after.journal = log(journal, after.journal, Record::of(message, 0));
-    for ((sent, track), place) in answers.iter().zip(out.chunks_exact_mut(FRAME_BYTES)) {
+    for (sent, track) in &answers {
         after.journal = log(journal, after.journal, Record::of(*sent, *track));
-        place.copy_from_slice(&write_frame(*sent));
     }
-    (after, Verdict::Sent(answers.len()))
+    let messages: Vec<Message> = answers.iter().map(|(sent, _)| *sent).collect();
+    (after, send(&messages, out))
 }

@@ -2,7 +2,8 @@
 //!
 //! Every public function is total: it answers for any bytes, any lent slice
 //! and any numbers in a state, and never panics. A refusal is the paper's
-//! number, 1 to 28; 0 stands for "not refused" where a number is returned.
+//! number, 28 at the most; 0 stands for "not refused" where a number is
+//! returned.
 
 #![forbid(unsafe_code)]
 

@@ -14,13 +14,14 @@ pub enum UnitState {
     Arrived,
 }
 
-/// The four buttons.
+/// The five buttons.
 #[derive(Debug, Clone, Copy, PartialEq, Eq)]
 pub enum Button {
     Ask,
     Depart,
     Reached,
     Report,
+    Again,
 }
 
 /// A unit: its train, its posts, its present post and its state.
@@ -59,6 +60,23 @@ impl Unit {
         })
     }
 
+    /// The unit's last move, to its present post from the one before it, seen
+    /// from the start; none at the start.
+    fn last_move(&self) -> Option<Move> {
+        let from = if self.at > self.start {
+            self.at - 1
+        } else if self.at < self.start {
+            self.at + 1
+        } else {
+            return None;
+        };
+        Some(Move {
+            train: self.train,
+            from,
+            to: self.at,
+        })
+    }
+
     /// The same unit in another state.
     fn turned(&self, state: UnitState) -> Unit {
         Unit { state, ..*self }
@@ -87,8 +105,19 @@ pub fn make(train: u8, start: u8, end: u8) -> (Unit, u8) {
     (unit, 0)
 }
 
+/// What Again gives in this state: "the FA in Asked or Declined, the AM of the
+/// last move in Standing past the start", and else nothing.
+fn repeated(unit: &Unit) -> Option<Message> {
+    match unit.state {
+        UnitState::Asked | UnitState::Declined => unit.own_move().map(Message::Fa),
+        UnitState::Standing => unit.last_move().map(Message::Am),
+        UnitState::Granted | UnitState::UnderWay | UnitState::Arrived => None,
+    }
+}
+
 /// A button is pressed: the unit after it, the refusal or 0, and the frame
-/// that is sent, FA at Ask and AM at Report.
+/// that is sent, FA at Ask, AM at Report, and at Again one of these once more.
+/// Again changes no unit.
 pub fn press(unit: &Unit, button: Button) -> (Unit, u8, Option<[u8; FRAME_BYTES]>) {
     if !sound(unit) {
         return (*unit, 1, None);
@@ -110,6 +139,10 @@ pub fn press(unit: &Unit, button: Button) -> (Unit, u8, Option<[u8; FRAME_BYTES]
             };
             (after, 0, Some(write_frame(Message::Am(m))))
         }
+        (Button::Again, _, _) => match repeated(unit) {
+            Some(message) => (*unit, 0, Some(write_frame(message))),
+            None => (*unit, 21, None),
+        },
         _ => (*unit, 21, None),
     }
 }

@@ -1,6 +1,7 @@
 //! What the tests share: the paper's books, frames, a small generator.
 
 use model::*;
+use std::cmp::Ordering;
 
 /// Book X of the paper.
 pub const X: [u8; 12] = [0, 10, 1, 3, 1, 2, 1, 2, 0, 2, 2, 0];
@@ -24,7 +25,13 @@ pub const STATES: [UnitState; 6] = [
     UnitState::UnderWay,
     UnitState::Arrived,
 ];
-pub const BUTTONS: [Button; 4] = [Button::Ask, Button::Depart, Button::Reached, Button::Report];
+pub const BUTTONS: [Button; 5] = [
+    Button::Ask,
+    Button::Depart,
+    Button::Reached,
+    Button::Report,
+    Button::Again,
+];
 
 pub fn frame(kind: u8, train: u8, from: u8, to: u8) -> [u8; FRAME_BYTES] {
     [0, 5, 1, kind, train, from, to]
@@ -119,10 +126,21 @@ pub fn state(tracks: &[u8], trains: &[(u8, u8, Standing)], journal: u8) -> State
             at: *start,
             track: before.count() as u8 + 1,
             standing: *standing,
+            last: None,
         };
     }
     s.journal = journal;
     s
+}
+
+/// Puts a train at a post of its way, with the move that brought it there.
+pub fn bring(train: &mut Train, post: u8) {
+    train.at = post;
+    train.last = match post.cmp(&train.start) {
+        Ordering::Less => Some((post + 1, post)),
+        Ordering::Equal => None,
+        Ordering::Greater => Some((post - 1, post)),
+    };
 }
 
 /// A box with its stores, as a run needs them.
@@ -181,6 +199,16 @@ pub fn boxed(state: State, table: Vec<u8>) -> Box {
         table,
         journal: vec![Record::BLANK; JOURNAL_RECORDS],
     }
+}
+
+/// Puts a frame that must be taken as a repeat: nothing changes but the out buffer. Gives the
+/// frames sent.
+pub fn put_repeat(b: &mut Box, frame: &[u8]) -> Vec<[u8; 4]> {
+    let (state, journal) = (b.state, b.journal.clone());
+    let sent = b.put(frame).expect("a repeat is accepted");
+    assert_eq!(b.state, state);
+    assert_eq!(b.journal, journal);
+    sent
 }
 
 /// What an opening gives, with stores of the right size, and the table after it.

@@ -12,6 +12,7 @@ fn a_x_opens() {
         at: start,
         track: 1,
         standing: Standing::Free,
+        last: None,
     };
     let mut train = [Train::EMPTY; 6];
     train[0] = free(0, 2);
@@ -102,10 +103,11 @@ fn j_wrong_end() {
 }
 
 #[test]
-fn k_under_authority() {
+fn k_fe_twice() {
     let mut b = Box::open(&X);
     assert_eq!(b.put(&frame(FA, 0, 0, 1)), Ok(vec![[FE, 0, 0, 1]]));
-    assert_eq!(b.put(&frame(FA, 0, 0, 1)), Err(11));
+    assert_eq!(put_repeat(&mut b, &frame(FA, 0, 0, 1)), [[FE, 0, 0, 1]]);
+    assert_eq!(b.state.journal, 2);
 }
 
 #[test]

@@ -488,6 +488,9 @@ fn the_fullest_journal() {
     for train in 0..6 {
         assert_eq!(b.put(&frame(FA, train, 0, 1)), Err(8));
         assert_eq!(b.put(&frame(AM, train, 0, 1)), Err(8));
+        // What can still be said is the last arrival once more.
+        let (from, to) = if train < 3 { (6, 7) } else { (1, 0) };
+        assert!(put_repeat(&mut b, &frame(AM, train, from, to)).is_empty());
     }
 }
 
@@ -575,6 +578,7 @@ fn told(b: &mut Box, tally: &mut Tally, f: [u8; FRAME_BYTES]) -> Came {
         assert_eq!(came, Err(number));
         return came;
     }
+    assert_eq!(tally.repeat_due(&f), None);
     tally.take(&f);
     let due = tally.answers_due(&f, &b.table, &b.journal[first..]);
     let sent = due.iter().map(|r| [r.kind, r.train, r.from, r.to]);

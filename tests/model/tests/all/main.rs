@@ -3,6 +3,7 @@
 mod common;
 mod examples;
 mod local_runs;
+mod repeats;
 mod runs;
 mod sidings;
 mod table;

@@ -199,6 +199,7 @@ fn on_its_way(train: Train) -> Train {
         start: 1,
         end: 0,
         track: 1,
+        last: None,
         ..train
     }
 }
@@ -208,7 +209,8 @@ fn sound_states_with_sidings() {
     for (number, (expected, change)) in CHANGES.iter().enumerate() {
         let mut s = Box::open(&TWO_IN).state;
         for train in &mut s.train[..2] {
-            (train.at, train.track) = (1, 0);
+            bring(train, 1);
+            train.track = 0;
         }
         change(&mut s);
         assert_eq!(sound(&s), *expected, "change {number}: {s:?}");

@@ -16,6 +16,7 @@ pub enum Has {
 /// The tally; `order` is the trains asked, oldest first. `here` is each train's track at its post, 0
 /// for one put away, and `ahead` the one where it has an authority to go. `gangs` is how many
 /// gangs are out on each section, from each LE written to an LB accepted, `given` all LEs written.
+#[derive(Debug, Clone, PartialEq)]
 pub struct Tally {
     pub tracks: Vec<u8>,
     pub sidings: u8,
@@ -69,6 +70,14 @@ impl Tally {
             std::cmp::Ordering::Equal => self.post[t],
             std::cmp::Ordering::Greater => self.post[t] - 1,
         }
+    }
+
+    /// The last move that the train finished, by its start and post: the way to its post runs over
+    /// the one before it, on the side of its start.
+    pub fn finished(&self, t: usize) -> Option<(u8, u8)> {
+        let (start, post) = (i16::from(self.starts[t]), i16::from(self.post[t]));
+        let before = post - (post - start).signum();
+        (before != post).then_some((before as u8, self.post[t]))
     }
 
     /// At its end, where that has a siding.
@@ -179,6 +188,9 @@ impl Tally {
         if t >= self.trains() {
             return 7;
         }
+        if frame[3] == 4 && self.finished(t) == Some((frame[5], frame[6])) {
+            return 0;
+        }
         if !self.short_of_end(t) {
             return 8;
         }
@@ -186,8 +198,6 @@ impl Tally {
             return 9;
         }
         match (frame[3], self.has[t]) {
-            (1, Has::Asked) => 10,
-            (1, Has::Authority(_, _)) => 11,
             (4, Has::Nothing | Has::Asked) => 12,
             _ => 0,
         }
@@ -211,12 +221,30 @@ impl Tally {
         }
     }
 
-    /// The effect of an accepted frame itself. A gang is out only with its LE.
+    /// The answers due to an accepted frame that repeats one of before: an FA gets its AFE or FE
+    /// again, an AM nothing. None for a frame that is new.
+    pub fn repeat_due(&self, frame: &[u8]) -> Option<Vec<Record>> {
+        let t = usize::from(frame[4]);
+        let has = self.has.get(t)?;
+        match (frame[3], has) {
+            (1, Has::Asked) => Some(vec![record(AFE, frame[4], frame[5], frame[6])]),
+            (1, Has::Authority(from, to)) => {
+                Some(vec![authority(frame[4], *from, *to, self.ahead[t])])
+            }
+            (4, _) if self.finished(t) == Some((frame[5], frame[6])) => Some(vec![]),
+            _ => None,
+        }
+    }
+
+    /// The effect of an accepted frame itself, new or not: an FA makes its train asked, one that
+    /// waits keeps its turn. A gang is out only with its LE.
     pub fn take(&mut self, frame: &[u8]) {
         match frame[3] {
             1 => {
                 self.has[usize::from(frame[4])] = Has::Asked;
-                self.order.push(frame[4]);
+                if !self.order.contains(&frame[4]) {
+                    self.order.push(frame[4]);
+                }
             }
             4 => self.take_arrival(frame),
             7 => self.gangs[usize::from(frame[5])] -= 1,
@@ -247,8 +275,8 @@ impl Tally {
         self.order.retain(|t| *t != fe.train);
     }
 
-    /// The records due for the answers after `take`, with the tally brought to them. The tally has
-    /// each FE's track from the record that was logged.
+    /// The records due for the answers to a new frame after `take`, with the tally brought to them.
+    /// The tally has each FE's track from the record that was logged.
     pub fn answers_due(&mut self, frame: &[u8], table: &[u8], logged: &[Record]) -> Vec<Record> {
         let mut due: Vec<Record> = vec![];
         if frame[3] == 5 {

@@ -21,6 +21,12 @@ fn standing(rng: &mut Rng) -> Standing {
     }
 }
 
+/// A last finished move of any posts, or none.
+fn last(rng: &mut Rng) -> Option<(u8, u8)> {
+    let posts = (number(rng), number(rng));
+    rng.chance(70).then_some(posts)
+}
+
 fn garbage(rng: &mut Rng) -> State {
     let mut s = State::EMPTY;
     s.posts = number(rng);
@@ -36,6 +42,7 @@ fn garbage(rng: &mut Rng) -> State {
             at: number(rng),
             track: number(rng),
             standing: standing(rng),
+            last: last(rng),
         };
     }
     for gang in s.possessions.iter_mut() {
@@ -66,6 +73,9 @@ fn near(rng: &mut Rng) -> State {
     }
     if rng.chance(90) {
         give_tracks(&mut s, rng);
+    }
+    if rng.chance(98) {
+        give_moves(&mut s, rng);
     }
     // Few gangs, so that many states are sound; the places that are not read hold anything.
     for gang in s.possessions[..usize::from(s.posts) - 1].iter_mut() {
@@ -99,6 +109,18 @@ fn give_tracks(s: &mut State, rng: &mut Rng) {
     }
 }
 
+/// Gives each train the move that reached its post, or now and then the one back, or the next one.
+fn give_moves(s: &mut State, rng: &mut Rng) {
+    for t in s.train.iter_mut() {
+        bring(t, t.at);
+        t.last = match rng.below(300) {
+            0 => t.last.map(|(from, to)| (to, from)),
+            1 => t.next().map(|to| (t.at, to)),
+            _ => t.last,
+        };
+    }
+}
+
 /// Start and end on the line, the present post between them.
 fn on_its_way(t: &Train, posts: u8) -> bool {
     let up = t.start <= t.at && t.at <= t.end;
@@ -113,7 +135,25 @@ fn in_siding(t: &Train, sidings: u8) -> bool {
 
 /// Soundness once more, by the paper's words and in another way.
 fn sound_again(s: &State) -> bool {
-    held_soundly(s) && on_right_tracks(s)
+    held_soundly(s) && on_right_tracks(s) && with_right_moves(s)
+}
+
+/// Of trains on their ways: with none at its start each, else the one-post move towards its end
+/// that reached the present post. It is sought among all moves of the line.
+fn with_right_moves(s: &State) -> bool {
+    s.train[..usize::from(s.trains)].iter().all(|t| {
+        let up = (1..s.posts).map(|post| (post - 1, post));
+        let down = (1..s.posts).map(|post| (post, post - 1));
+        let mut towards_its_end: Vec<(u8, u8)> = match t.start < t.end {
+            true => up.collect(),
+            false => down.collect(),
+        };
+        towards_its_end.retain(|(_, to)| *to == t.at);
+        match t.last {
+            None => t.at == t.start,
+            Some(last) => t.at != t.start && towards_its_end == [last],
+        }
+    })
 }
 
 /// The numbers of the state itself are in their ranges.
@@ -192,6 +232,10 @@ fn some_frame(s: &State, rng: &mut Rng) -> Vec<u8> {
     }
     let t = rng.within(0, 6);
     match s.train.get(usize::from(t)) {
+        Some(Train {
+            last: Some((from, to)),
+            ..
+        }) if rng.chance(20) => frame(if rng.chance(10) { FA } else { AM }, t, *from, *to).to_vec(),
         Some(train) if rng.chance(80) => {
             let next = train.next().unwrap_or(0);
             frame(if rng.chance(50) { FA } else { AM }, t, train.at, next).to_vec()
@@ -214,9 +258,24 @@ fn gangs_due(s: &State, f: &[u8]) -> ([bool; 7], u8) {
     (possessions, s.given + u8::from(f[3] == LA))
 }
 
-/// Puts some frame to the state, with stores that may be short, and checks what came of it. Gives
-/// the kind of a frame that was accepted, or the refusal.
-fn put_some_frame(s: &State, table: &[u8], rng: &mut Rng) -> Result<u8, u8> {
+/// The answer due to an accepted frame that repeats one of before, as one frame or none; None where
+/// the frame is new.
+fn repeat_due(s: &State, f: &[u8]) -> Option<Vec<[u8; FRAME_BYTES]>> {
+    let train = s.train.get(usize::from(f[4]))?;
+    let with = |kind: u8| frame(kind, f[4], f[5], f[6]);
+    match (f[3], train.standing) {
+        (FA, Standing::Asked(_)) => Some(vec![with(AFE)]),
+        (FA, Standing::Running(_)) => Some(vec![with(FE)]),
+        (AM, _) if f[6] == train.at => Some(vec![]),
+        _ => None,
+    }
+}
+
+/// What came of a frame: the kind of one that was accepted, and whether as a repeat, or the refusal.
+type Came = Result<(u8, bool), u8>;
+
+/// Puts some frame to the state, with stores that may be short, and checks what came of it.
+fn put_some_frame(s: &State, table: &[u8], rng: &mut Rng) -> Came {
     let records = JOURNAL_RECORDS - usize::from(!rng.chance(95));
     let mut journal = vec![OLD; records];
     let most = OUT_BYTES as u64;
@@ -232,15 +291,25 @@ fn put_some_frame(s: &State, table: &[u8], rng: &mut Rng) -> Result<u8, u8> {
         Verdict::Refused(n) => {
             assert_eq!(after, *s);
             assert_eq!(n == 1, !sound(s));
+            assert!(matches!(n, 1..=9 | 12 | 13 | 24..=26), "{n}");
             assert!(out.iter().all(|b| *b == 0xCC));
             assert!(journal.iter().all(|r| *r == OLD));
             Err(n)
         }
         Verdict::Sent(n) => {
             assert!(sound(s) && sound(&after), "{s:?} {after:?}");
-            assert_eq!(usize::from(after.journal), usize::from(s.journal) + 1 + n);
-            assert_eq!((after.possessions, after.given), gangs_due(s, &f));
-            Ok(f[3])
+            let due = repeat_due(s, &f);
+            let is_repeat = due.is_some();
+            if let Some(due) = due {
+                assert_eq!((after, n), (*s, due.len()));
+                assert_eq!(out[..FRAME_BYTES * n], *due.as_flattened());
+                assert!(out[FRAME_BYTES * n..].iter().all(|b| *b == 0xCC));
+                assert!(journal.iter().all(|r| *r == OLD));
+            } else {
+                assert_eq!(usize::from(after.journal), usize::from(s.journal) + 1 + n);
+                assert_eq!((after.possessions, after.given), gangs_due(s, &f));
+            }
+            Ok((f[3], is_repeat))
         }
     }
 }
@@ -258,7 +327,7 @@ struct Gangs {
 }
 
 impl Gangs {
-    fn count(&mut self, s: &State, came: Result<u8, u8>) {
+    fn count(&mut self, s: &State, came: Came) {
         let places = s.possessions.split_at(usize::from(s.posts.clamp(1, 8)) - 1);
         self.out += u32::from(sound(s) && places.0.contains(&true));
         self.unread += u32::from(sound(s) && places.1.contains(&true));
@@ -267,8 +336,31 @@ impl Gangs {
             ..*s
         };
         self.in_the_way += u32::from(!sound(s) && sound(&without));
-        self.asked += u32::from(came == Ok(LA));
-        self.back += u32::from(came == Ok(LB));
+        self.asked += u32::from(came == Ok((LA, false)));
+        self.back += u32::from(came == Ok((LB, false)));
+    }
+}
+
+/// What the states showed of repeats.
+#[derive(Debug, Default)]
+struct Repeats {
+    /// Not sound for a last finished move alone.
+    other_move: u32,
+    /// FAs and AMs that were taken as repeats, and those of them with a full journal.
+    asked: u32,
+    arrived: u32,
+    full: u32,
+}
+
+impl Repeats {
+    fn count(&mut self, s: &State, came: Came) {
+        let strange = held_soundly(s) && on_right_tracks(s) && !sound(s);
+        self.other_move += u32::from(strange);
+        self.asked += u32::from(came == Ok((FA, true)));
+        self.arrived += u32::from(came == Ok((AM, true)));
+        let full = s.journal >= 230;
+        assert!(!full || !matches!(came, Ok((_, false))));
+        self.full += u32::from(full && came.is_ok());
     }
 }
 
@@ -278,7 +370,8 @@ fn states_of_all_sorts() {
     let table: Vec<u8> = rng.bytes(TABLE_BYTES);
     let (mut good, mut strange, mut answered, mut crowded, mut off_track) = (0, 0, 0, 0, 0);
     let mut gangs = Gangs::default();
-    for round in 0..60_000 {
+    let mut repeats = Repeats::default();
+    for round in 0..80_000 {
         let s = match round % 4 {
             0 => garbage(&mut rng),
             _ => near(&mut rng),
@@ -288,9 +381,10 @@ fn states_of_all_sorts() {
         strange += u32::from(came == Err(1));
         answered += u32::from(came.is_ok());
         gangs.count(&s, came);
+        repeats.count(&s, came);
         good += u32::from(sound(&s));
         crowded += u32::from(sound(&s) && !held_soundly(&State { sidings: 0, ..s }));
-        off_track += u32::from(held_soundly(&s) && !sound(&s));
+        off_track += u32::from(held_soundly(&s) && !on_right_tracks(&s));
     }
     assert!(
         good > 3000 && strange > 10_000 && answered > 500 && crowded > 500 && off_track > 500,
@@ -299,6 +393,8 @@ fn states_of_all_sorts() {
     assert!(gangs.out > 500 && gangs.unread > 500, "{gangs:?}");
     assert!(gangs.in_the_way > 500, "{gangs:?}");
     assert!(gangs.asked > 300 && gangs.back > 300, "{gangs:?}");
+    assert!(repeats.other_move > 500 && repeats.full > 20, "{repeats:?}");
+    assert!(repeats.asked > 200 && repeats.arrived > 200, "{repeats:?}");
 }
 
 #[test]
@@ -312,8 +408,10 @@ fn units_of_all_sorts() {
             at: number(&mut rng),
             state: STATES[rng.below(6) as usize],
         };
-        let (after, refusal, sent) = unit::press(&u, BUTTONS[rng.below(4) as usize]);
+        let button = BUTTONS[rng.below(5) as usize];
+        let (after, refusal, sent) = unit::press(&u, button);
         assert_eq!(refusal == 1, !unit::sound(&u));
+        assert!(button != Button::Again || (after == u && sent.is_some() == (refusal == 0)));
         assert!(refusal == 0 || (after == u && sent.is_none()));
         assert!(refusal != 0 || unit::sound(&after));
         let f = frame(rng.within(0, 8), number(&mut rng), u.at, number(&mut rng));

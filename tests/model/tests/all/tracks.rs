@@ -198,12 +198,13 @@ const CHANGES: [(bool, Change); 16] = [
 ];
 
 fn standing_at_1(train: Train, track: u8) -> Train {
-    Train {
-        at: 1,
+    let mut at_1 = Train {
         track,
         standing: Standing::Free,
         ..train
-    }
+    };
+    bring(&mut at_1, 1);
+    at_1
 }
 
 #[test]

@@ -192,24 +192,29 @@ fn precedence_on_x() {
     assert_eq!(b.put(&frame(AM, 0, 0, 1)), Err(12));
     assert!(b.put(&frame(FA, 0, 0, 1)).is_ok());
     assert_eq!(b.put(&frame(FA, 0, 1, 2)), Err(9));
-    assert_eq!(b.put(&frame(FA, 0, 0, 1)), Err(11));
+    assert_eq!(put_repeat(&mut b, &frame(FA, 0, 0, 1)), [[FE, 0, 0, 1]]);
     assert_eq!(b.put(&frame(AM, 0, 0, 1)), Ok(vec![]));
+    assert_eq!(b.put(&frame(FA, 0, 0, 1)), Err(9));
+    assert!(put_repeat(&mut b, &frame(AM, 0, 0, 1)).is_empty());
     // Train 1 makes room at post 2, else train 0 never gets there.
     assert_eq!(b.put(&frame(FA, 0, 1, 2)), Ok(vec![[AFE, 0, 1, 2]]));
     assert_eq!(b.put(&frame(FA, 1, 2, 1)), Ok(vec![[FE, 1, 2, 1]]));
     assert_eq!(b.put(&frame(AM, 1, 2, 1)), Ok(vec![[FE, 0, 1, 2]]));
     assert_eq!(b.put(&frame(AM, 0, 1, 2)), Ok(vec![]));
     assert_eq!(b.put(&frame(FA, 0, 2, 2)), Err(8));
-    assert_eq!(b.put(&frame(AM, 0, 1, 2)), Err(8));
+    assert_eq!(b.put(&frame(FA, 0, 1, 2)), Err(8));
     assert_eq!(b.put(&frame(AM, 0, 0, 0)), Err(8));
+    // The test for a finished move comes before 8.
+    assert!(put_repeat(&mut b, &frame(AM, 0, 1, 2)).is_empty());
+    assert_eq!(b.put(&frame(AM, 0, 0, 1)), Err(8));
 }
 
-/// 8 and 9 hold for AM too, and come before 10, 11 and 12.
+/// 8 and 9 hold for AM too, and come before 12 and before a repeated FA is known.
 #[test]
 fn posts_before_standing() {
     let mut b = Box::open(&Y);
     assert!(b.put(&frame(FA, 2, 2, 1)).is_ok());
-    assert_eq!(b.put(&frame(FA, 2, 2, 1)), Err(10));
+    assert_eq!(put_repeat(&mut b, &frame(FA, 2, 2, 1)), [[AFE, 2, 2, 1]]);
     assert_eq!(b.put(&frame(AM, 2, 2, 1)), Err(12));
     // Either post wrong is 9.
     for (from, to) in [(2, 0), (2, 3), (2, 2), (1, 1), (3, 1), (0, 1), (1, 2)] {
@@ -358,7 +363,7 @@ fn the_bit_asked_for() {
         (2, 3, Standing::Asked(0)),
     ];
     let mut s = state(&[4; 8], &trains, 1);
-    s.train[2].at = 6; // one travelled
+    bring(&mut s.train[2], 6); // one travelled
     let wanted = 1 + 2 * 64; // train 0 ahead; train 2 from one to two
     let mut b = boxed(s, bits(&[wanted]));
     assert_eq!(b.put(&frame(FA, 2, 6, 5)), Ok(vec![[FE, 2, 6, 5]]));
@@ -377,9 +382,9 @@ fn the_largest_code() {
     let [up, down] = [(0, 7, Standing::Free), (7, 0, Standing::Free)];
     let mut s = state(&[4; 8], &[up, down, up, down, up, down], 1);
     for train in &mut s.train {
-        train.at = train.end;
+        bring(train, train.end);
     }
-    s.train[5].at = 1;
+    bring(&mut s.train[5], 1);
     let mut b = boxed(s, bits(&[262_143]));
     assert_eq!(b.put(&frame(FA, 5, 1, 0)), Ok(vec![[FE, 5, 1, 0]]));
     let mut table = vec![255; TABLE_BYTES];
@@ -421,7 +426,7 @@ fn six_frames_out() {
     assert_eq!(b.state.journal, 235);
 }
 
-/// 13 from count 230 on, last of all checks, also for AM.
+/// 13 from count 230 on, last of all checks, also for AM; a repeat does not meet it.
 #[test]
 fn full_from_230_records_on() {
     for count in 0..=255u8 {
@@ -440,9 +445,10 @@ fn full_from_230_records_on() {
                 let got = x.put(&frame(kind, train, from, 1));
                 assert_eq!(got.err().unwrap_or(0), full, "count {count}");
             }
-            let other = |n| if full == 1 { Err(1) } else { Err(n) };
-            assert_eq!(b.put(&frame(AM, 0, 0, 1)), other(12));
-            assert_eq!(b.put(&frame(FA, 1, 2, 1)), other(11));
+            let other = |came| if full == 1 { Err(1) } else { came };
+            assert_eq!(b.put(&frame(AM, 0, 0, 1)), other(Err(12)));
+            let again = vec![[FE, 1, 2, 1]];
+            assert_eq!(b.put(&frame(FA, 1, 2, 1)), other(Ok(again)));
             assert!(b.journal.iter().all(|r| *r == OLD));
         }
     }
@@ -478,7 +484,7 @@ fn strange_then_short_then_torn() {
 type Change = fn(&mut State);
 
 /// Whether the opened X is still sound with this change.
-const CHANGES: [(bool, Change); 32] = [
+const CHANGES: [(bool, Change); 34] = [
     (true, |_| ()),
     (false, |s| s.posts = 1),
     (false, |s| s.posts = 2), // train 1 starts at post 2
@@ -494,14 +500,17 @@ const CHANGES: [(bool, Change); 32] = [
     (true, |s| s.train[2].standing = Standing::Running(9)), // not read
     (false, |s| s.train[0].start = 3),
     (false, |s| s.train[0].end = 3),
-    (false, |s| s.train[0].at = 3),
+    (false, |s| bring(&mut s.train[0], 3)),
     (false, |s| s.train[0].end = 255),
-    (true, |s| s.train[0].at = 1),
-    (false, |s| s.train[0].at = 2), // two trains on one track
+    (true, |s| bring(&mut s.train[0], 1)),
+    (false, |s| bring(&mut s.train[0], 2)), // two trains on one track
     (false, |s| {
         s.train[0].start = 1;
-        s.train[0].at = 0; // not between 1 and 2
+        bring(&mut s.train[0], 0); // not between 1 and 2
     }),
+    // The last finished move goes with the present post.
+    (false, |s| s.train[0].at = 1),
+    (false, |s| s.train[0].last = Some((0, 1))),
     (true, |s| s.journal = 236),
     (false, |s| s.journal = 237),
     // FA numbers.
@@ -533,19 +542,21 @@ const CHANGES: [(bool, Change); 32] = [
     }),
     (false, |s| {
         s.tracks = [4; 8];
-        s.train[0].at = 1;
+        bring(&mut s.train[0], 1);
         s.train[0].standing = Standing::Running(2);
         s.train[1].standing = Standing::Running(3);
     }),
     // Only trains short of their end are Asked or Running.
     (false, |s| {
         s.tracks[2] = 2;
-        (s.train[0].at, s.train[0].track) = (2, 2);
+        bring(&mut s.train[0], 2);
+        s.train[0].track = 2;
         s.train[0].standing = Standing::Running(1);
     }),
     (false, |s| {
         s.tracks[2] = 2;
-        (s.train[0].at, s.train[0].track) = (2, 2);
+        bring(&mut s.train[0], 2);
+        s.train[0].track = 2;
         s.train[0].standing = Standing::Asked(0);
         s.journal = 1;
     }),
@@ -573,6 +584,7 @@ fn unread_places() {
         at: 1,
         track: 1,
         standing: Standing::Asked(0),
+        last: Some((1, 2)),
     };
     odd.state.train[2..].fill(ghost);
     let mut clean = clean;
@@ -653,21 +665,27 @@ fn unit_buttons() {
                     };
                     (after, 0, Some(frame(AM, 3, 4, 3)))
                 }
+                (UnitState::Standing, Button::Again) => (u, 0, Some(frame(AM, 3, 5, 4))),
+                (UnitState::Asked | UnitState::Declined, Button::Again) => {
+                    (u, 0, Some(frame(FA, 3, 4, 3)))
+                }
                 _ => (u, 21, None),
             };
             assert_eq!(unit::press(&u, button), expected);
 
             let home = Unit { at: 1, ..u };
-            let number = match (state, button) {
-                (UnitState::Standing, Button::Ask) => 8,
-                (UnitState::Standing, _) => 21,
-                _ => 1,
+            let (number, sent) = match (state, button) {
+                (UnitState::Standing, Button::Ask) => (8, None),
+                (UnitState::Standing, Button::Again) => (0, Some(frame(AM, 3, 2, 1))),
+                (UnitState::Standing, _) => (21, None),
+                _ => (1, None),
             };
-            assert_eq!(unit::press(&home, button), (home, number, None));
+            assert_eq!(unit::press(&home, button), (home, number, sent));
         }
     }
     let (parked, _) = unit::make(0, 4, 4);
     assert_eq!(unit::press(&parked, Button::Ask), (parked, 8, None));
+    assert_eq!(unit::press(&parked, Button::Again), (parked, 21, None));
 }
 
 /// Every kind of frame in every state.
@@ -886,8 +904,9 @@ fn program_reading() {
             0..=11 => "book 14\n".to_string(),
             12 => "end 0 0\n".to_string(),
             13..=18 => "end 0 1\n".to_string(),
-            19 => format!("{granted}end 2 0\n"),
-            _ => format!("{granted}end 2 1\n"),
+            // The second is a repeat, or torn.
+            20..=25 => format!("{granted}end 2 1\n"),
+            _ => format!("{granted}end 2 0\n"),
         };
         assert_eq!(program::run(&mut reader), expected, "failing at {fail_at}");
     }
