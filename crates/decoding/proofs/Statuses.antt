@@ -7,7 +7,7 @@ use native.Mathlib.Omega.{arith}
 use lib.Dec.{eqb}
 use borrow.Author.Tests.{ne-eqb, le-leb, lt-leb}
 use Rattle.encoding.specs.Types.{Running, Done}
-use Rattle.encoding.specs.StateBytes.{encodesStatus, encodesLast, statusOf, lastIn}
+use Rattle.encoding.specs.StateBytes.{encodesStatus, encodesLast, statusOf, lastOf}
 
 module _ (k n : ℕ) where
   pub running : 2 ≤ k → Running (record { 0 = n }) ≡ statusOf k n
@@ -26,8 +26,8 @@ module _ (k n : ℕ) where
 -- ---- last finished moves
 
 module _ (k p q : ℕ) where
-  pub one-last : 1 ≤ k → Done (record { 0 = p }) (record { 0 = q }) ≡ lastIn k p q
-  unfolding lastIn
+  pub one-last : 1 ≤ k → Done (record { 0 = p }) (record { 0 = q }) ≡ lastOf k p q
+  unfolding lastOf
   one-last h = rw (ne-eqb k 0 (λ e. omega arith))
 
   pub past-last : 1 < k → false ≡ encodesLast k p q

@@ -3,7 +3,7 @@ ghost use mathlib.Core.Path.{_≡_};
 ghost use Prim.Native.Nat.{_+_, _≤_};
 ghost use lib.ListN.{length};
 ghost use Rattle.encoding.specs.StateBytes.{trainLength, stateLength};
-ghost use Rattle.encoding.specs.StateBytes.{statusOf, lastIn, trainIn, tracksIn, fleetIn, possessionsIn, stateIn};
+ghost use Rattle.encoding.specs.StateBytes.{statusOf, lastOf, trainIn, tracksIn, fleetIn, possessionsIn, stateIn};
 use encoding::GIVEN_AT;
 use encoding::HEAD_LENGTH;
 use encoding::LOGGED_AT;
@@ -110,7 +110,7 @@ fn status_of(status: u8, detail: u8) -> Status
 }
 
 fn last_of(last: u8, from: u8, to: u8) -> Last
-    ensures { λ r. ⌜ r ≡ lastIn last from to ⌝ }
+    ensures { λ r. ⌜ r ≡ lastOf last from to ⌝ }
 {
     match last {
         0 => Last::Nothing,

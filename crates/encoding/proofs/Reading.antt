@@ -21,7 +21,7 @@ use Rattle.encoding.specs.Parts.{each, headParts, headBytes, tracksByte,
 use Rattle.encoding.specs.LineBytes.{routeEnds}
 use Rattle.encoding.specs.StateBytes.{statusNo, detail, lastNo, lastFrom, lastTo, trainLength, trainBytes}
 use Rattle.encoding.specs.StateBytes.{possessionBytes, trainAt, endingParts, endingBytes, possessionsAt}
-use Rattle.encoding.specs.StateBytes.{encodesStatus, encodesLast, encodesTrain, encodesState, statusOf, lastIn}
+use Rattle.encoding.specs.StateBytes.{encodesStatus, encodesLast, encodesTrain, encodesState, statusOf, lastOf}
 use Rattle.encoding.specs.StateBytes.{trainIn, stateIn}
 use Rattle.encoding.specs.RoundTrip.{Shaped}
 use Rattle.encoding.proofs.Parts.{At, same-place, bytes-at, at-joined, at-each}
@@ -37,8 +37,8 @@ status-only (suc (suc (suc k))) n h =
     let few = leb-true (suc (suc (suc k))) _ (and-left _ _ h) in absurd (omega arith)
 
 last-only : (k p q : ℕ) → encodesLast k p q ≡ true
-    → (lastNo (lastIn k p q) ≡ k) × (lastFrom (lastIn k p q) ≡ p) × (lastTo (lastIn k p q) ≡ q)
-unfolding lastIn
+    → (lastNo (lastOf k p q) ≡ k) × (lastFrom (lastOf k p q) ≡ p) × (lastTo (lastOf k p q) ≡ q)
+unfolding lastOf
 last-only zero p q h = (refl, sym (eqb-true p 0 (and-left (eqb p 0) _ h)), sym (eqb-true q 0 (and-right (eqb p 0) _ h)))
 last-only (suc zero) p q h = (refl, refl, refl)
 last-only (suc (suc k)) p q h = let few = leb-true (suc (suc k)) _ (and-left _ _ h) in absurd (omega arith)

@@ -28,7 +28,7 @@ use Rattle.encoding.specs.StateBytes.{statusNo, detail, lastNo, lastFrom
 use Rattle.encoding.specs.StateBytes.{stateBytes}
 use Rattle.encoding.specs.StateBytes.{trainAt, possessionsAt}
 use Rattle.encoding.specs.StateBytes.{encodesStatus, encodesLast, encodesTrains, encodesPossessions, encodesState}
-use Rattle.encoding.specs.StateBytes.{statusOf, lastIn, trainIn, tracksIn, fleetIn, possessionsIn, stateIn}
+use Rattle.encoding.specs.StateBytes.{statusOf, lastOf, trainIn, tracksIn, fleetIn, possessionsIn, stateIn}
 use Rattle.encoding.specs.JournalBytes.{recordLength, recordBytes, recordIn, recordCount, recordsIn}
 use Rattle.encoding.specs.JournalBytes.{journalParts, withRecords}
 use Rattle.encoding.specs.TimeBytes.{timeLength, timeBytes, secondsIn, restIn}
@@ -100,8 +100,8 @@ status-encodes Free = refl
 status-encodes (AskedAs n) = refl
 status-encodes (Running k) = refl
 
-last-back : (x : Last) → lastIn (lastNo x) (lastFrom x) (lastTo x) ≡ x
-unfolding lastIn
+last-back : (x : Last) → lastOf (lastNo x) (lastFrom x) (lastTo x) ≡ x
+unfolding lastOf
 last-back Nothing = refl
 last-back (Done p q) = refl
 

@@ -129,8 +129,8 @@ unfoldable pub statusOf : ℕ → ℕ → Status
 statusOf k n = cond (eqb k 0) Free (cond (eqb k 1) (AskedAs n) (Running (record { 0 = n })))
 
 -- the last finished move of a number; what is above 1 is not read
-unfoldable pub lastIn : ℕ → ℕ → ℕ → Last
-lastIn k p q = cond (eqb k 0) Nothing (Done (record { 0 = p }) (record { 0 = q }))
+unfoldable pub lastOf : ℕ → ℕ → ℕ → Last
+lastOf k p q = cond (eqb k 0) Nothing (Done (record { 0 = p }) (record { 0 = q }))
 
 -- the train whose bytes begin at i
 abbrev pub trainIn : List ℕ → ℕ → Train
@@ -139,7 +139,7 @@ trainIn b i = record {
   at = record { 0 = byteAt b (i + 2) };
   track = record { 0 = byteAt b (i + 3) };
   status = statusOf (byteAt b (i + 4)) (byteAt b (i + 5));
-  last = lastIn (byteAt b (i + 6)) (byteAt b (i + 7)) (byteAt b (i + 8));
+  last = lastOf (byteAt b (i + 6)) (byteAt b (i + 7)) (byteAt b (i + 8));
 }
 
 abbrev pub tracksIn : List ℕ → List ℕ
