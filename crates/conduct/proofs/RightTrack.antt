@@ -202,7 +202,7 @@ right-track book table journal inputs e =
     let r = run (filled l table) (openedState l) journal inputs in
     let o = observe (atOpening l) (r .exchanges) in
     let k = observeTracks l (atOpening l) (tracksAtOpening l) (r .exchanges) in
-    rw (opening-accepted book table journal e .0) (λ i.
+    rw (opening-accepted book table journal e .0) (λ i said m fe.
     let a = answer (r .state) (filled l table) (r .journal) (i .frame) (i .out) in
     subst
     (λ (z : Line).
@@ -211,4 +211,5 @@ right-track book table journal inputs e =
     (answersOf (a .verdict) (a .out)) (newRecords (r .state) a))
     (after .line ∙ opened-line book)
     (answer-given (filled l table) (r .state) (r .journal) o (after .after .kept) k
-    (opened-told book table journal inputs e) (i .frame) (i .out)))
+    (opened-told book table journal inputs e) (i .frame) (i .out))
+    (fe .new) said m (fe .rest) (fe .parts))

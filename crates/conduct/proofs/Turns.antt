@@ -230,7 +230,7 @@ turn-by-turn book table journal inputs e =
       order = λ t u kt ku a. clash (isAsked (trainOf s t .status)) a (none t kt);
     } in
     let now = rw zero-add at (run-ordered (filled l table) inputs s journal (atOpening l) k 0 (λ t. 0) first) in
-    rw (b .0) (λ i.
+    rw (b .0) (λ i said m fe.
     let a = answer (r .state) (filled l table) (r .journal) (i .frame) (i .out) in
     subst
     (λ (z : Line).
@@ -239,4 +239,5 @@ turn-by-turn book table journal inputs e =
     (noteFrame o (readFrame (i .frame))) (answersOf (a .verdict) (a .out)))
     (after .line ∙ opened-line book)
     (answer-turned (filled l table) (r .state) (r .journal) o (after .after .kept) (length inputs)
-    (turns l (r .exchanges)) now (i .frame) (i .out) .given))
+    (turns l (r .exchanges)) now (i .frame) (i .out) .given)
+    (fe .new) said m (fe .rest) (fe .parts))

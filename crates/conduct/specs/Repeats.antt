@@ -3,7 +3,7 @@
 use mathlib.Core.Path.{_≡_}
 use mathlib.Core.Logic.{_≢_}
 use mathlib.Core.Bool.{Bool, true, false, not, _||_}
-use mathlib.Core.List.{List, [], _∷_}
+use mathlib.Core.List.{List, [], _∷_, _++_}
 use Prim.Native.Nat.{ℕ}
 use Rattle.line.specs.Route.{nextPost}
 use Rattle.line.specs.Line.{routeOf}
@@ -28,6 +28,13 @@ repeatsTold o (Fe m) = false
 repeatsTold o (Afe m) = false
 repeatsTold o (Le m) = false
 repeatsTold o (Refused n) = false
+
+-- the FE for the move m in the answer to a frame that repeats none, with what was said before it: an authority that was
+-- not there before
+pub record NewFe (o : Observer) (frame : List ℕ) (a : Answer) (said : List Message) (m : Move) : Type 0 where
+  pub new : repeatsTold o (readFrame frame) ≡ false
+  pub rest : List Message
+  pub parts : answersOf (a .verdict) (a .out) ≡ said ++ Fe m ∷ rest
 
 -- the move by which its train, past its start, came to its post: the last that it finished
 pub record LastTold (l : Line) (o : Observer) (m : Move) : Type 0 where

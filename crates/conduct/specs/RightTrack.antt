@@ -1,7 +1,7 @@
 -- Which track an FE's record has, told by the tally: "An up train (end above start) gets the smallest unheld track, a
 -- down train the largest."
 use mathlib.Core.Path.{_≡_}
-use mathlib.Core.Bool.{Bool, false}
+use mathlib.Core.Bool.{Bool}
 use mathlib.Core.List.{List, _∷_, _++_}
 use Prim.Native.Nat.{ℕ, _+_}
 use lib.ListN.{length}
@@ -14,9 +14,9 @@ use Rattle.journal.specs.Journal.{recordOn}
 use Rattle.rules.specs.Opening.{opening}
 use Rattle.assurance.specs.Types.{Line, Move, Message, Fe, Record}
 use Rattle.assurance.specs.Run.{Input, newRecords, run, answerAfter}
-use Rattle.assurance.specs.Observer.{Observer, atOpening, noteFrame, noteAnswers, answersOf, observe, locatedTold}
+use Rattle.assurance.specs.Observer.{Observer, atOpening, noteFrame, noteAnswers, observe, locatedTold}
 use Rattle.assurance.specs.Tracks.{Tracks, tracksAtOpening, trackFrame, trackRecords, observeTracks, trackTold}
-use Rattle.conduct.specs.Repeats.{repeatsTold}
+use Rattle.conduct.specs.Repeats.{NewFe}
 
 -- some train holds track j of post p
 abbrev pub heldTold : Line → Observer → Tracks → ℕ → ℕ → Bool
@@ -47,8 +47,6 @@ RightTrack = (book table : List ℕ) (journal : List Record) (inputs : List Inpu
     let a = answerAfter (o .table) r (i .frame) (i .out) in
     let seen = observe (atOpening l) (r .exchanges) in
     let tracks = observeTracks l (atOpening l) (tracksAtOpening l) (r .exchanges) in
-    repeatsTold seen (readFrame (i .frame)) ≡ false
-    → (said : List Message) (m : Move) (rest : List Message)
-    → answersOf (a .verdict) (a .out) ≡ said ++ Fe m ∷ rest
+    (said : List Message) (m : Move) → NewFe seen (i .frame) a said m
     → OnTrack l (noteFrame seen (readFrame (i .frame))) (trackFrame l seen tracks (readFrame (i .frame))) said m
     (newRecords (r .state) a)

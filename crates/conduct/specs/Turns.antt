@@ -2,8 +2,8 @@
 -- foresee turns by order of asking."
 use mathlib.Core.Path.{_≡_}
 use mathlib.Core.Logic.{_≢_}
-use mathlib.Core.Bool.{false, cond}
-use mathlib.Core.List.{List, [], _∷_, _++_}
+use mathlib.Core.Bool.{cond}
+use mathlib.Core.List.{List, [], _∷_}
 use Prim.Native.Nat.{ℕ, _+_, _<_}
 use lib.ListN.{length}
 use Rattle.common.specs.Update.{update}
@@ -13,8 +13,8 @@ use Rattle.rules.specs.Opening.{opening}
 use Rattle.assurance.specs.Types.{Line, Move, Message, Fa, Fe, Afe, Am, La, Le, Lb, Refused, Record, Verdict}
 use Rattle.assurance.specs.Types.{Sent, RefusedBy}
 use Rattle.assurance.specs.Run.{Input, Exchange, run, answerAfter}
-use Rattle.assurance.specs.Observer.{Observer, atOpening, noteFrame, noteAnswers, answersOf, note, observe, nextTold}
-use Rattle.conduct.specs.Repeats.{repeatsTold}
+use Rattle.assurance.specs.Observer.{Observer, atOpening, noteFrame, noteAnswers, note, observe, nextTold}
+use Rattle.conduct.specs.Repeats.{repeatsTold, NewFe}
 use Rattle.conduct.specs.Waiting.{CouldGo}
 
 -- by train: the number in the list of its last accepted FA that repeats none
@@ -64,8 +64,6 @@ TurnByTurn = (book table : List ℕ) (journal : List Record) (inputs : List Inpu
     let r = run (o .table) (o .state) journal inputs in
     let a = answerAfter (o .table) r (i .frame) (i .out) in
     let seen = observe (atOpening l) (r .exchanges) in
-    repeatsTold seen (readFrame (i .frame)) ≡ false
-    → (said : List Message) (m : Move) (rest : List Message)
-    → answersOf (a .verdict) (a .out) ≡ said ++ Fe m ∷ rest
+    (said : List Message) (m : Move) → NewFe seen (i .frame) a said m
     → InTurn l (turnIn (length inputs) seen (turns l (r .exchanges)) (i .frame) (a .verdict))
     (noteAnswers (noteFrame seen (readFrame (i .frame))) said) m
