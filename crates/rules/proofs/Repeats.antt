@@ -6,12 +6,13 @@ use mathlib.Core.Option.{some}
 use mathlib.Core.List.{List}
 use Prim.Native.Nat.{ℕ, _≤_, _<_}
 use native.Mathlib.Omega.{arith}
+use borrow.Author.Tests.{eq-eqb}
 use Rattle.common.proofs.Check.{Refuses, none, clear, not-given, refusal-is, accepts}
 use Rattle.line.specs.Route.{nextPost}
 use Rattle.line.proofs.Travel.{Between, of-between, next-up, next-down}
 use Rattle.frame.specs.Frame.{readFrame}
-use Rattle.rules.specs.Types.{Move, Message, Fa, Am, Last, Nothing, Done, RefusedBy}
-use Rattle.rules.specs.State.{isNothing, trainOf}
+use Rattle.rules.specs.Types.{Move, Message, Fa, Am, Last, Nothing, Done, PostNo, RefusedBy}
+use Rattle.rules.specs.State.{isNothing, isLast, trainOf}
 use Rattle.rules.specs.Answer.{again, accepted, answered, refused, answer}
 use Rattle.rules.specs.Refusals.{Handed, RefusedAs, NamesNext}
 use Rattle.rules.specs.Repeats.{AnsweredBy, CameBy, RepeatsAnswered}
@@ -70,11 +71,17 @@ came-by a p e b past = ⊎-elim
       short = rw (← next-up p a h) (λ z. omega arith);
     }) b
 
+-- a train's last finished move is known by its two posts
+named-last : (x : Last) (p q : PostNo) → x ≡ Done p q → isLast x (p .0) (q .0) ≡ true
+named-last x p q e = rw (e, eq-eqb (p .0) (p .0) refl) (eq-eqb (q .0) (q .0) refl)
+
 pub repeats-answered : RepeatsAnswered
 repeats-answered = record {
   declined = λ h m v e. request-again h m v (λ n. declined-before m n e);
   authorised = λ h m v e. request-again h m v (λ n. granted-before m n e);
-  arrived = λ h m v known e. again-answered h (Am m) (v .message) (rw e) (after-finish h m v known e);
+  arrived = λ h m v known e.
+      let last = named-last _ _ _ e in
+      again-answered h (Am m) (v .message) (rw last) (after-finish h m v known last);
   ten-gone = λ h. not-a-number h 10 (omega arith) (by-content (h .state) (λ cs. clear 10 cs ≡ true)
       (λ m. refl) (λ m. refl) (λ m. refl) (λ m. refl) (λ m. refl) (λ m. refl) refl (readFrame (h .frame)));
   eleven-gone = λ h. not-a-number h 11 (omega arith) (by-content (h .state) (λ cs. clear 11 cs ≡ true)

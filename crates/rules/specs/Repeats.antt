@@ -9,7 +9,7 @@ use lib.ListN.{length}
 use Rattle.common.specs.Part.{replaced}
 use Rattle.line.specs.Route.{nextPost, between}
 use Rattle.rules.specs.Types.{Message, Fa, Fe, Afe, Am, Move, Record, Nothing, Done, PostNo, State, Sent}
-use Rattle.rules.specs.State.{isAsked, isRunning, isLast, trainOf}
+use Rattle.rules.specs.State.{isAsked, isRunning, trainOf}
 use Rattle.rules.specs.Valid.{valid}
 use Rattle.rules.specs.Answer.{framesOf, Answer, answer}
 use Rattle.rules.specs.Refusals.{Handed, RefusedAs, ofTrain, Reads, named, NamesNext}
@@ -45,7 +45,7 @@ pub record RepeatsAnswered : Type 0 where
   -- "an AM naming the train's last finished move is taken with no output", wherever the train is by now and whatever
   -- its status
   pub arrived : (h : Handed) (m : Move) → Reads ofTrain h (Am m) → m .train .0 < h .state .trains
-      → isLast (named h (Am m) .last) (m .from .0) (m .to .0) ≡ true → AnsweredBy h []
+      → named h (Am m) .last ≡ Done (m .from) (m .to) → AnsweredBy h []
   -- "Refusals 10 and 11 go": whatever is handed in
   pub ten-gone : (h : Handed) → RefusedAs 10 h → ⊥
   pub eleven-gone : (h : Handed) → RefusedAs 11 h → ⊥
