@@ -36,8 +36,8 @@
 extern "C" {
 #endif
 
-/* 100 times the edition (what the ends answer) plus the revision: 600 is version 6.00. */
-#define QUANGEVIT_VERSION 600
+/* 100 times the edition (what the ends answer) plus the revision: 700 is version 7.00. */
+#define QUANGEVIT_VERSION 700
 
 #define QUANGEVIT_REFUSAL(answer) ((answer) & 255u)
 #define QUANGEVIT_SENT(answer) ((answer) >> 8)
@@ -60,6 +60,7 @@ extern "C" {
 #define QUANGEVIT_POSTS_MOST 8
 #define QUANGEVIT_TRAINS_MOST 6
 #define QUANGEVIT_LOCAL_RUNS_MOST 20 /* given since the opening */
+#define QUANGEVIT_LOGGED_MOST 229     /* records counted in a sound state; in a run at most 228 */
 #define QUANGEVIT_METRES_MOST 8388607 /* a post's position */
 #define QUANGEVIT_SPEED_MOST 160      /* km/h */
 
@@ -124,6 +125,10 @@ enum quangevit_route_at { QUANGEVIT_ROUTE_START_AT = 0, QUANGEVIT_ROUTE_END_AT =
  * with a detail that is not 0 where the status is Free, with another byte than 0 or 1 for whether a
  * train has a last move, with a post of it that is not 0 where there is none, or with another byte
  * for a section, encode no state.
+ *
+ * A move logs at most four records, FA, AFE, FE and AM, and a local run three, LA, LE and LB, so
+ * that a box that was opened never counts more than 228: its journal does not fill up, and nothing
+ * need be done about it. A state that counts more than 229 is not sound.
  */
 enum quangevit_state_at {
     QUANGEVIT_STATE_POSTS_AT = 0,
@@ -247,7 +252,6 @@ enum quangevit_refusal {
                                        neighbouring posts of the line, lower first; running time: a
                                        post not on the line */
     QUANGEVIT_NO_AUTHORITY = 12,    /* AM of a train not Running */
-    QUANGEVIT_JOURNAL_FULL = 13,    /* fewer than 7 records left of 236 */
     QUANGEVIT_TORN_BOOK = 14,       /* length wrong, or the book ends too early */
     QUANGEVIT_POSTS = 15,           /* posts not 2 to 8 */
     QUANGEVIT_TRACKS = 16,          /* a track count not 1 to 4 */
@@ -301,8 +305,8 @@ uint32_t quangevit_open(const uint8_t *book, size_t book_len, uint8_t *state, si
  * train's last finished move by no frame. Nobody gets an authority by a repeat.
  *
  * Checks, in this order: 1, then 2 to 9 by their numbers (8 not for LA and LB; an AM of the last
- * finished move passes after 7, and an FA of a train that is not Free after 9), 12 for an AM, 24 and
- * 26 for an LA, 25 for an LB, then 13. A refusal changes nothing. No call answers 10 or 11.
+ * finished move passes after 7), 12 for an AM, 24 and 26 for an LA, 25 for an LB. A refusal changes
+ * nothing. No call answers 10, 11 or 13.
  */
 uint32_t quangevit_answer(uint8_t *state, size_t state_len, const uint8_t *table, size_t table_len,
                           uint8_t *journal, size_t journal_len, const uint8_t *frame,

@@ -15,15 +15,15 @@ use Rattle.common.proofs.Update.{update-own, update-other}
 use Rattle.frame.specs.Frame.{moveOf, readFrame, bytesOf}
 use Rattle.frame.specs.RoundTrip.{IsMessage}
 use Rattle.frame.proofs.RoundTrip.{round-trip}
-use Rattle.journal.specs.Journal.{journalLength, blank}
+use Rattle.journal.specs.Journal.{blank}
 use Rattle.rules.specs.State.{isAsked, isRunning, trainOf, lineOf, nextMove}
 use Rattle.rules.specs.Valid.{valid}
-use Rattle.rules.specs.Answer.{mostLogged, anew, framesOf, Answer, answered, refused, answer}
+use Rattle.rules.specs.Answer.{anew, framesOf, Answer, answered, refused, answer}
 use Rattle.rules.specs.Repeats.{toldAgain}
 use Rattle.rules.proofs.Validity.{is-valid}
 use Rattle.rules.proofs.Oldest.{Nobody}
 use Rattle.rules.proofs.Frames.{bytes-length}
-use Rattle.rules.proofs.Acceptance.{RoomLeft, NextMove, Taken, Repeats, declined-before, granted-before, arrived-before}
+use Rattle.rules.proofs.Acceptance.{NextMove, Taken, Repeats, declined-before, granted-before, arrived-before}
 use Rattle.rules.proofs.Acceptance.{Passed, by-verdict, accepted-facts, accepted-nobody}
 use Rattle.assurance.specs.Types.{Move, Message, Fa, Fe, Record, State}
 use Rattle.assurance.specs.Observer.{Claim, Observer, noteFrame, noteAnswer, noteAnswers}
@@ -74,13 +74,11 @@ pub record Settled (table : List ℕ) (s : State) (j : List Record) (o : Observe
   pub nobody : Nobody table s (s .trains)
   pub bounded : s .logged + lentIn s ≤ recordsIn s
 
--- so that the journal has room for the next frame, and the state is valid, its count included
-module _ {table : List ℕ} {s : State} {j : List Record} {o : Observer} (k : Settled table s j o) where
-  pub room-settled : s .logged + mostLogged ≤ journalLength
-  room-settled = omega (arith, k .bounded, few-records s (k .kept .valid-state))
-
-  pub valid-settled : valid s ≡ true
-  valid-settled = is-valid s (k .kept .valid-state) (omega (arith, room-settled))
+-- so that the state is valid, its count included
+pub valid-settled : {table : List ℕ} {s : State} {j : List Record} {o : Observer} → Settled table s j o
+    → valid s ≡ true
+valid-settled {s = s} k =
+    is-valid s (k .kept .valid-state) (omega (arith, k .bounded, few-records s (k .kept .valid-state)))
 
 -- what the answer to a frame leaves
 pub record Exchanged (table : List ℕ) (s : State) (j : List Record) (o : Observer) (frame : List ℕ) (a : Answer)
@@ -194,12 +192,12 @@ module _ (table : List ℕ) (s : State) (j : List Record) (o : Observer) (k : Se
         later = later-same (s .logged) j;
       }
 
-  accepted-kept : Passed s table j frame out → Taken s (readFrame frame) → RoomLeft s
+  accepted-kept : Passed s table j frame out → Taken s (readFrame frame)
       → Exchanged table s j o frame (answered (s .logged) j out (anew table s (readFrame frame)))
-  accepted-kept p t room =
+  accepted-kept p t =
       let w = anew table s (readFrame frame) in
       let facts = accepted-facts table s (k .kept .valid-state) (readFrame frame) t in
-      let worked = accepted-worked table s j o (k .kept) room (readFrame frame) t in
+      let worked = accepted-worked table s j o (k .kept) (p .room) (readFrame frame) t in
       let count = accepted-bounded table s (k .kept .valid-state) (k .kept .seven) (readFrame frame) t 0
       (record { spare = omega (arith, k .bounded); raised = omega (arith, k .bounded) }) in
       let back : readFrames (length (w .sent)) (replaced out 0 (framesOf (w .sent))) ≡ w .sent =
@@ -216,7 +214,7 @@ module _ (table : List ℕ) (s : State) (j : List Record) (o : Observer) (k : Se
           more = omega (arith, facts .counted);
           same = λ i l.
               replaced-before j (s .logged) (w .logged) i blank l
-              (omega (arith, k .kept .room, room-settled k));
+              (omega (arith, k .kept .room, p .room));
         };
       }
 

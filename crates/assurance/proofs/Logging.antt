@@ -14,7 +14,7 @@ use Rattle.frame.specs.Frame.{readFrame}
 use Rattle.journal.specs.Journal.{blank, frameOf, recordAt}
 use Rattle.rules.specs.Answer.{anew, answered}
 use Rattle.rules.specs.Repeats.{toldAgain}
-use Rattle.rules.proofs.Acceptance.{RoomLeft, Taken, Passed, accepted-facts}
+use Rattle.rules.proofs.Acceptance.{Taken, Passed, accepted-facts}
 use Rattle.assurance.specs.Types.{Move, Message, Record, State}
 use Rattle.assurance.specs.Run.{newRecords}
 use Rattle.assurance.specs.Observer.{Observer, noteAnswer, noteAnswers}
@@ -52,15 +52,15 @@ replaced-part j n b h =
 
 -- those that a new frame adds
 pub new-logged : (table : List ℕ) (s : State) (j : List Record) (frame out : List ℕ) → Passed s table j frame out
-    → Taken s (readFrame frame) → RoomLeft s
+    → Taken s (readFrame frame)
     → let w = anew table s (readFrame frame) in newRecords s (answered (s .logged) j out w) ≡ w .logged
-new-logged table s j frame out p t room =
+new-logged table s j frame out p t =
     let w = anew table s (readFrame frame) in
     let facts = accepted-facts table s (p .valid-state) (readFrame frame) t in
     let size : w .state .logged - s .logged ≡ length (w .logged) = omega (arith, facts .counted) in
     rw size
     (replaced-part j (s .logged) (w .logged)
-    (omega (arith, p .long-journal)))
+    (omega (arith, p .long-journal, p .room)))
 
 -- a repeat adds none
 pub none-logged : (s : State) (j : List Record) (out : List ℕ) (answers : List Message)

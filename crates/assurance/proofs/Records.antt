@@ -16,6 +16,7 @@ use Rattle.common.proofs.Sums.{sum-change, sum-le}
 use Rattle.line.specs.Route.{distance}
 use Rattle.line.proofs.Travel.{travelled-within, next-within, next-travelled}
 use Rattle.line.proofs.WellFormed.{short-route}
+use Rattle.completion.specs.Configuration.{distanceOf}
 use Rattle.rules.specs.declared.state.Status.{Status}
 use Rattle.rules.specs.declared.state.Status.the-variants.{Free, Asked, Running}
 use Rattle.rules.specs.declared.state.Train.{Train}
@@ -35,25 +36,25 @@ use Rattle.assurance.specs.Types.{Move, Message, Fa, Am, Lb, State}
 -- ---- one train
 
 -- FA and AFE; then FE
-abbrev askedFor : Status → ℕ
+abbrev pub askedFor : Status → ℕ
 askedFor Free = 0
 askedFor (Asked n) = 2
 askedFor (Running k) = 3
 
-abbrev recordsOf : Train → ℕ
+abbrev pub recordsOf : Train → ℕ
 recordsOf x = 4 * distance (x .route .start .0) (x .at .0) + askedFor (x .status)
 
-free-none : (w : Status) → isFree w ≡ true → askedFor w ≡ 0
+pub free-none : (w : Status) → isFree w ≡ true → askedFor w ≡ 0
 free-none Free e = refl
 free-none (Asked n) e = absurd (false≢true e)
 free-none (Running k) e = absurd (false≢true e)
 
-asked-two : (w : Status) → isAsked w ≡ true → askedFor w ≡ 2
+pub asked-two : (w : Status) → isAsked w ≡ true → askedFor w ≡ 2
 asked-two Free e = absurd (false≢true e)
 asked-two (Asked n) e = refl
 asked-two (Running k) e = absurd (false≢true e)
 
-most-three : (w : Status) → askedFor w ≤ 3
+pub most-three : (w : Status) → askedFor w ≤ 3
 most-three Free = omega arith
 most-three (Asked n) = omega arith
 most-three (Running k) = omega arith
@@ -87,19 +88,21 @@ changed-sum f s t x n k l =
     let e : f (trainOf (changed s t x n) t) ≡ f x = ap f (changed-own s t x n l) in
     omega arith
 
+-- four for each post of its way are enough for every train
+pub records-within : (s : State) → Consistent s → (t : ℕ) → t < s .trains
+    → recordsOf (trainOf s t) ≤ 4 * distanceOf (lineOf s) t
+records-within s d t k =
+    let x = trainOf s t in
+    rw (route-of s t)
+    (by-cases (isFree (x .status))
+    (λ e. omega (arith, free-none (x .status) e, travelled-within _ _ _ (d .each t k .inside)))
+    (λ e. omega (arith, most-three (x .status), next-within _ _ _ (d .each t k .inside) (d .each t k .busy e))))
+
 pub few-records : (s : State) → Consistent s → recordsIn s ≤ 228
 few-records s d =
-    let all = sum-le (s .trains) 28 (λ t. recordsOf (trainOf s t)) each in
+    let all = sum-le (s .trains) 28 (λ t. recordsOf (trainOf s t)) (λ t k.
+    omega (arith, records-within s d t k, short-route (lineOf s) (d .line) t k)) in
     omega (arith, mul-le-mul-right 28 (d .line .few-trains), d .few-given)
-  where
-    each : (t : ℕ) → t < s .trains → recordsOf (trainOf s t) ≤ 28
-    each t k =
-        let x = trainOf s t in
-        let far : distance (x .route .start .0) (x .route .end .0) ≤ 7 =
-        rw (route-of s t) at (short-route (lineOf s) (d .line) t k) in
-        by-cases (isFree (x .status))
-        (λ e. omega (arith, free-none (x .status) e, travelled-within _ _ _ (d .each t k .inside)))
-        (λ e. omega (arith, most-three (x .status), next-within _ _ _ (d .each t k .inside) (d .each t k .busy e)))
 
 -- ---- a new frame
 

@@ -151,7 +151,7 @@ module _ (table : List ℕ) (s : State) (j : List Record) (o : Observer) (inv : 
       (λ a. TracksAgree (a .state) (trackBy (lineOf s) o k frame (a .verdict) (newRecords s a)))
       (λ n e. h)
       (λ p answers r. rw (none-logged s j out answers) (again-tells (readFrame frame) answers r))
-      (λ p t room. rw (new-logged table s j frame out p t room)
+      (λ p t. rw (new-logged table s j frame out p t)
       (accepted-tells table s o k h (readFrame frame) t (authorised table s j o inv)))
 
 pub run-tells : (table : List ℕ) (inputs : List Input) (s : State) (j : List Record) (o : Observer) (k : Tracks)

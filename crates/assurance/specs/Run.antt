@@ -1,9 +1,12 @@
 -- A run over a list of frames. 01: "The list may be empty, and its frames are any bytes of any length, each with any
 -- out buffer. The first frame gets the state, table and journal that an accepted opening left. Each later one gets them
 -- as the frame before it, accepted or refused, left them".
+use mathlib.Core.Bool.{Bool}
 use mathlib.Core.List.{List, [], _∷_}
 use Prim.Native.Nat.{ℕ, _-_}
 use lib.ListN.{take, drop}
+use Rattle.common.specs.Below.{countBelow}
+use Rattle.journal.specs.Journal.{recordAt}
 use Rattle.rules.specs.Answer.{Answer, answer}
 use Rattle.assurance.specs.Types.{Record, State, Verdict}
 
@@ -24,6 +27,10 @@ pub record Ran : Type 0 where
   pub state : State
   pub journal : List Record
   pub exchanges : List Exchange
+
+-- how many records below the journal count are of a sort
+abbrev pub recordsLike : (Record → Bool) → Ran → ℕ
+recordsLike like r = countBelow (r .state .logged) (λ i. like (recordAt (r .journal) i))
 
 -- the records of a journal from number m on and below n
 abbrev pub recordsBetween : ℕ → ℕ → List Record → List Record

@@ -7,7 +7,6 @@ use mathlib.Core.Bool.{Bool, true, false, _&&_}
 use mathlib.Core.List.{List, List·Memᴰ}
 use Prim.Native.Nat.{ℕ, _≤_, _<_}
 use lib.Dec.{eqb}
-use Rattle.common.specs.Below.{countBelow}
 use Rattle.line.specs.Line.{routeOf, tracksAt}
 use Rattle.line.specs.Holding.{holdsPost, postHolders}
 use Rattle.line.specs.Book.{lineIn}
@@ -17,7 +16,7 @@ use Rattle.rules.specs.State.{reached}
 use Rattle.rules.specs.Valid.{valid}
 use Rattle.rules.specs.Opening.{opening}
 use Rattle.assurance.specs.Types.{Line, Move, Fa, Fe, Record}
-use Rattle.assurance.specs.Run.{Input, Exchange, Ran, run}
+use Rattle.assurance.specs.Run.{Input, Exchange, Ran, recordsLike, run}
 use Rattle.assurance.specs.Observer.{nothing, authority, Observer, atOpening, answersOf, observe, locatedTold}
 use Rattle.assurance.specs.Observer.{holdersTold, hasAsked, nextTold, reachedTold}
 use Rattle.assurance.specs.Tracks.{Tracks, tracksAtOpening, observeTracks, trackTold}
@@ -37,7 +36,7 @@ abbrev pub isFeOf : ℕ → Record → Bool
 isFeOf t e = eqb (e .kind) FE && eqb (e .train .0) t
 
 abbrev pub authorities : Ran → ℕ → ℕ
-authorities r t = countBelow (r .state .logged) (λ i. isFeOf t (recordAt (r .journal) i))
+authorities r t = recordsLike (isFeOf t) r
 
 -- "A train is short of its end if its post in the tally is not its end."
 abbrev pub ShortOfEnd : Line → Observer → ℕ → Type 0

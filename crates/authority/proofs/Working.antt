@@ -43,7 +43,7 @@ pub record Working (table : List ℕ) (w : Work) (p : Progress) : Type 0 where
   pub roomy : Roomy work
   pub ends : settled table work ≡ settled table w
 
--- a frame is logged, and its own change made, which leaves a valid state with room for the answers
+-- a frame is logged, and its own change made, which leaves a consistent state with room for the answers
 pub begun-roomy : (s : State) (r : Record) → consistent (oneLogged s) ≡ true → s .logged + mostLogged ≤ journalLength
     → Roomy (begun s r)
 begun-roomy s r v room =

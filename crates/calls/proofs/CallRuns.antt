@@ -58,7 +58,7 @@ verdict-read s table journal frame out =
     (λ e. rw (accepts a (refused s journal out) e) (sent-word _))
     (λ h.
     let small =
-    by-content s (λ ds. numbersBelow 256 ds ≡ true) (λ m. refl) (λ m. refl) (λ m. refl) (λ m. refl) (λ m. refl)
+    by-content s (λ ds. numbersBelow 256 ds ≡ true) (λ m. refl) (λ m. refl) (λ m. refl) (λ m. refl)
     (λ m. refl) refl (readFrame frame) in
     rw (refuses {n = refusal cs} a (refused s journal out) (omega arith))
     (refused-word (refusal cs) h (refusal-below 256 cs (omega arith) small)))

@@ -61,7 +61,7 @@ module _ (s : State) (table : List ℕ) (journal : List Record) (frame out : Lis
   answer-shaped : Shaped s → Shaped (answer s table journal frame out .state)
   answer-shaped h =
       by-verdict s table journal frame out (λ (a : Answer). Shaped (a .state)) (λ n e. h) (λ p answers r. h)
-      (λ p t room.
+      (λ p t.
       let k = accepted-facts table s (p .valid-state) (readFrame frame) t in
       record {
         eight = ap (λ (l : Line). length (l .tracks)) (k .line) ∙ h .eight;
@@ -73,7 +73,7 @@ module _ (s : State) (table : List ℕ) (journal : List Record) (frame out : Lis
   pub answer-line : lineOf (answer s table journal frame out .state) ≡ lineOf s
   answer-line =
       by-verdict s table journal frame out (λ (a : Answer). lineOf (a .state) ≡ lineOf s) (λ n e. refl)
-      (λ p answers r. refl) (λ p t room. accepted-facts table s (p .valid-state) (readFrame frame) t .line)
+      (λ p answers r. refl) (λ p t. accepted-facts table s (p .valid-state) (readFrame frame) t .line)
 
   -- ---- the journal
 
@@ -81,7 +81,7 @@ module _ (s : State) (table : List ℕ) (journal : List Record) (frame out : Lis
   answer-records =
       by-verdict s table journal frame out (λ (a : Answer). length (a .journal) ≡ length journal) (λ n e. refl)
       (λ p answers r. refl)
-      (λ p t room.
+      (λ p t.
       let k = accepted-facts table s (p .valid-state) (readFrame frame) t in
       length-replaced journal (s .logged) _ (omega (arith, k .few, p .long-journal)))
 

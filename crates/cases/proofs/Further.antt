@@ -42,8 +42,8 @@ unfolding bytesOf openedBlank ranWith answer valid consistent wellFormed between
 precedence = record {
   fresh = refl;
   later = refl;
-  full = refl;
-  room = refl;
+  in-range = refl;
+  above = refl;
   strange = refl;
   table = refl;
   journal = refl;

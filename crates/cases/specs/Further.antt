@@ -8,7 +8,7 @@ use Rattle.frame.specs.Frame.{bytesOf}
 use Rattle.journal.specs.Journal.{journalLength, blank, recordOf, recordOn}
 use Rattle.completion.specs.Table.{tableLength}
 use Rattle.rules.specs.Answer.{outLength, answer}
-use Rattle.rules.specs.State.{stateWith}
+use Rattle.rules.specs.State.{counting}
 use Rattle.rules.specs.Opening.{emptyState}
 use Rattle.assurance.specs.Types.{Record, State, Verdict, Sent, RefusedBy}
 use Rattle.assurance.specs.Run.{Input, Ran}
@@ -114,9 +114,7 @@ frameWith size version kind t p q = 0 ∷ size ∷ version ∷ kind ∷ t ∷ p 
 
 -- book X, opened, with a made-up journal count
 abbrev pub ranWithRecords : ℕ → List (List ℕ) → Ran
-ranWithRecords n frames =
-    let s = openedBlank bookX .state in
-    ranFrom (stateWith s (s .fleet) (s .possessions) (s .given) n) (openedBlank bookX .table) frames
+ranWithRecords n frames = ranFrom (counting (openedBlank bookX .state) n) (openedBlank bookX .table) frames
 
 -- the verdict on a frame of a torn length, by the lengths of table, journal and out buffer
 abbrev pub shortStores : State → ℕ → ℕ → ℕ → Verdict
@@ -140,9 +138,11 @@ pub record Precedence : Type 0 where
       ∷ am 1 2 1 ∷ am 0 1 2 ∷ fa 0 2 2 ∷ am 0 1 2 ∷ am 0 0 0 ∷ [])))
       ≡ Sent 1 ∷ RefusedBy 9 ∷ Sent 1 ∷ Sent 1 ∷ Sent 0 ∷ Sent 1 ∷ RefusedBy 9 ∷ Sent 1 ∷ RefusedBy 12
       ∷ Sent 1 ∷ Sent 0 ∷ RefusedBy 8 ∷ Sent 0 ∷ RefusedBy 8 ∷ []
-  -- 13 with six records left and not with seven, and after 12
-  pub full : verdictsOf (ranWithRecords 230 (map bytesOf (fa 0 0 1 ∷ am 0 0 1 ∷ []))) ≡ RefusedBy 13 ∷ RefusedBy 12 ∷ []
-  pub room : verdictsOf (ranWithRecords 229 (bytesOf (fa 0 0 1) ∷ [])) ≡ Sent 1 ∷ []
+  -- 02, card 7: "A state whose journal count is above 229 becomes strange, refusal 1.": at 229 a request is answered,
+  -- and 3 and 12 come as at any other count; at 230 all three are 1
+  pub in-range : verdictsOf (ranWithRecords 229 ([] ∷ map bytesOf (am 0 0 1 ∷ fa 0 0 1 ∷ [])))
+      ≡ RefusedBy 3 ∷ RefusedBy 12 ∷ Sent 1 ∷ []
+  pub above : verdictsOf (ranWithRecords 230 ([] ∷ map bytesOf (am 0 0 1 ∷ fa 0 0 1 ∷ []))) ≡ replicate 3 (RefusedBy 1)
   -- 1 before 2, and 2 before 3, for each of the stores
   pub strange : shortStores emptyState 0 0 0 ≡ RefusedBy 1
   pub table : shortStores (openedBlank bookX .state) (tableLength - 1) journalLength outLength ≡ RefusedBy 2

@@ -1,8 +1,8 @@
 -- The checks of a frame in the order in which the code makes them: which number is given where one fails.
 use mathlib.Core.Path.{_≡_, refl, sym, ap, subst, _∙_}
 use mathlib.Core.Logic.{_≢_}
-use mathlib.Core.Bool.{Bool, true, false, not, _&&_, true≢false}
-use mathlib.Core.List.{List, [], _∷_, _++_}
+use mathlib.Core.Bool.{Bool, true, false, not, _&&_}
+use mathlib.Core.List.{List, _∷_, _++_}
 use Prim.Native.Nat.{ℕ, _+_, _≤_, _<_}
 use native.Mathlib.Omega.{arith}
 use lib.Dec.{leb}
@@ -12,19 +12,19 @@ use Rattle.common.proofs.Check.{Refuses, none, stop, pass, refusal-is, numbered
 use Rattle.common.proofs.Check.{first-part, second-part, refuses-of, pass-all}
 use Rattle.line.specs.Route.{sectionOf}
 use Rattle.line.specs.Refusal.{strangeState, shortStore, wrongEnd, unknownTrain, atItsEnd, wrongPost}
-use Rattle.line.specs.Refusal.{noAuthority, journalFull, sectionTaken, noLocalRun, twentyGiven}
+use Rattle.line.specs.Refusal.{noAuthority, sectionTaken, noLocalRun, twentyGiven}
 use Rattle.frame.specs.Frame.{readChecks, readFrame}
 use Rattle.frame.specs.RoundTrip.{IsMessage}
 use Rattle.frame.proofs.Outcome.{read-passed, read-refused}
 use Rattle.journal.specs.Journal.{journalLength}
 use Rattle.completion.specs.Table.{tableLength}
-use Rattle.checks.specs.Types.{Move, Message, Fa, Fe, Afe, Am, La, Le, Lb, Refused, Status, Free, Asked, Running}
+use Rattle.checks.specs.Types.{Move, Message, Fa, Fe, Afe, Am, La, Le, Lb, Refused}
 use Rattle.checks.specs.Types.{Train, State}
-use Rattle.rules.specs.State.{isFree, isRunning, isLast, atEnd, nextOf, trainOf, possessed, sectionFree}
+use Rattle.rules.specs.State.{isRunning, isLast, atEnd, nextOf, trainOf, possessed, sectionFree}
 use Rattle.rules.specs.Valid.{mostGiven, valid}
-use Rattle.rules.specs.Answer.{outLength, forBox, knows, moveChecks, hasRoom, requestChecks, arrivalChecks, gangByte}
-use Rattle.rules.specs.Answer.{sectionChecks, askedAgain, arrivedAgain, ofNew, contentChecks, frameChecks}
-use Rattle.rules.proofs.Acceptance.{neighbours, free-new}
+use Rattle.rules.specs.Answer.{outLength, forBox, knows, moveChecks, arrivalChecks, gangByte}
+use Rattle.rules.specs.Answer.{sectionChecks, arrivedAgain, ofNew, contentChecks, frameChecks}
+use Rattle.rules.proofs.Acceptance.{neighbours}
 use Rattle.checks.specs.Messages.{messageRefusal}
 
 -- ---- the checks of a move
@@ -75,33 +75,13 @@ module _ (s : State) (m : Move) where
     after-train f {k} r =
         sym (refusal-is (pass (lt-ltb _ _ known) (subst (λ (y : Train). Refuses (f y) k) own r)))
 
-    -- of an FA 8 and 9, which give n, and then 13 where it repeats none
-    abbrev ofFa : Train → List Check
-    ofFa y = moveChecks y m ++ ofNew (askedAgain (y .status) m) (requestChecks s)
+    -- of an FA 8 and 9, which give n
+    pub move-decides : {n : ℕ} → n ≡ refusal (moveChecks x m) → n ≡ refusal (contentChecks s (Fa m))
+    move-decides number = after-train (λ y. moveChecks y m) (refuses-of _ (sym number))
 
-    module _ (n : ℕ) (number : n ≡ refusal (moveChecks x m)) where
-      pub fa-refuses : n ≢ 0 → n ≡ refusal (contentChecks s (Fa m))
-      fa-refuses h = after-train ofFa (refuses-of _ (sym (part-refuses (moveChecks x m) refl number _ h)))
-
-      module _ (zero : n ≡ 0) where
-        after-move : {cs : List Check} {k : ℕ} → Refuses cs k → Refuses (moveChecks x m ++ cs) k
-        after-move r = pass-all (moveChecks x m) refl (sym number ∙ zero) r
-
-        pub fa-again : isFree (x .status) ≡ false → 0 ≡ refusal (contentChecks s (Fa m))
-        fa-again e = after-train ofFa (after-move (asked-before (x .status) e))
-          where
-            asked-before : (w : Status) → isFree w ≡ false → Refuses (ofNew (askedAgain w m) (requestChecks s)) 0
-            asked-before Free z = absurd (true≢false z)
-            asked-before (Asked k) z = none
-            asked-before (Running k) z = none
-
-        pub fa-room : isFree (x .status) ≡ true → {k : ℕ} → k ≡ refusal (check journalFull (hasRoom s) ∷ [])
-            → k ≡ refusal (contentChecks s (Fa m))
-        fa-room e r = after-train ofFa (after-move (rw (free-new (x .status) m e) (refuses-of _ (sym r))))
-
-    -- of an AM, where it names no finished move, 8 and 9, then 12 and 13
+    -- of an AM, where it names no finished move, 8 and 9, then 12
     abbrev ofAm : Train → List Check
-    ofAm y = ofNew (arrivedAgain (y .last) m) (moveChecks y m ++ arrivalChecks s y)
+    ofAm y = ofNew (arrivedAgain (y .last) m) (moveChecks y m ++ arrivalChecks y)
 
     abbrev finished : Bool
     finished = isLast (x .last) (m .from .0) (m .to .0)
@@ -110,19 +90,21 @@ module _ (s : State) (m : Move) where
     am-again e = after-train ofAm (rw e none)
 
     module _ (other : finished ≡ false) (n : ℕ) (number : n ≡ refusal (moveChecks x m)) where
-      onward-am : {k : ℕ} → Refuses (moveChecks x m ++ arrivalChecks s x) k → k ≡ refusal (contentChecks s (Am m))
+      onward-am : {k : ℕ} → Refuses (moveChecks x m ++ arrivalChecks x) k → k ≡ refusal (contentChecks s (Am m))
       onward-am r = after-train ofAm (rw other r)
 
       pub am-refuses : n ≢ 0 → n ≡ refusal (contentChecks s (Am m))
       am-refuses h = onward-am (refuses-of _ (sym (part-refuses (moveChecks x m) refl number _ h)))
 
       module _ (zero : n ≡ 0) where
-        pub no-authority : isRunning (x .status) ≡ false → noAuthority ≡ refusal (contentChecks s (Am m))
-        no-authority e = onward-am (after-move n number zero (stop e))
+        after-move : {k : ℕ} → Refuses (arrivalChecks x) k → k ≡ refusal (contentChecks s (Am m))
+        after-move r = onward-am (pass-all (moveChecks x m) refl (sym number ∙ zero) r)
 
-        pub am-room : isRunning (x .status) ≡ true → {k : ℕ} → k ≡ refusal (check journalFull (hasRoom s) ∷ [])
-            → k ≡ refusal (contentChecks s (Am m))
-        am-room e r = onward-am (after-move n number zero (pass e (refuses-of _ (sym r))))
+        pub no-authority : isRunning (x .status) ≡ false → noAuthority ≡ refusal (contentChecks s (Am m))
+        no-authority e = after-move (stop e)
+
+        pub am-passes : isRunning (x .status) ≡ true → 0 ≡ refusal (contentChecks s (Am m))
+        am-passes e = after-move (pass e none)
 
 -- ---- the checks of a section
 
@@ -166,7 +148,7 @@ module _ {s : State} {m : Move} {n : ℕ} (x : Sectioned s m n) where
     after-section : {cs : List Check} {k : ℕ} → Refuses cs k → k ≡ refusal (sectionChecks s m ++ cs)
     after-section = after-part (sectionChecks s m) refl (x .number) zero
 
-    -- of an LA 24, 26 and 13 are left
+    -- of an LA 24 and 26 are left
     pub section-taken : sectionFree s i ≡ false → sectionTaken ≡ refusal (contentChecks s (La m))
     section-taken e = after-section (stop (rw (lower, e)))
 
@@ -174,17 +156,15 @@ module _ {s : State} {m : Move} {n : ℕ} (x : Sectioned s m n) where
       pub twenty-given : mostGiven ≤ s .given → twentyGiven ≡ refusal (contentChecks s (La m))
       twenty-given h = after-section (pass (rw (lower, free)) (stop (le-ltb _ _ h)))
 
-      pub lending-room : s .given < mostGiven → {k : ℕ} → k ≡ refusal (check journalFull (hasRoom s) ∷ [])
-          → k ≡ refusal (contentChecks s (La m))
-      lending-room h r = after-section (pass (rw (lower, free)) (pass (lt-ltb _ _ h) (refuses-of _ (sym r))))
+      pub lending-passes : s .given < mostGiven → 0 ≡ refusal (contentChecks s (La m))
+      lending-passes h = after-section (pass (rw (lower, free)) (pass (lt-ltb _ _ h) none))
 
-    -- of an LB 25 and 13 are left
+    -- of an LB 25 is left
     pub no-local-run : possessed s i ≡ false → noLocalRun ≡ refusal (contentChecks s (Lb m))
     no-local-run e = after-section (stop (rw (lower, e)))
 
-    pub return-room : possessed s i ≡ true → {k : ℕ} → k ≡ refusal (check journalFull (hasRoom s) ∷ [])
-        → k ≡ refusal (contentChecks s (Lb m))
-    return-room e r = after-section (pass (rw (lower, e)) (refuses-of _ (sym r)))
+    pub return-passes : possessed s i ≡ true → 0 ≡ refusal (contentChecks s (Lb m))
+    return-passes e = after-section (pass (rw (lower, e)) none)
 
 -- ---- all checks of a frame
 

@@ -1,24 +1,21 @@
 // Whether a frame is refused, and by which number. 01: "Checks in order: 1, 2, 3, 4, 5, 6, 7, 8 (at
 // its end), 9, then .. 12 for AM, then 13." 02, card 4, for LA and LB, after 6: 7, 9, "then for LA 24,
-// section taken, and 26, twenty already given; for LB 25, no local run there; then 13." Card 6: an FA
-// of a train that is not Free passes after 9, and an AM of the last finished move after 7.
+// section taken, and 26, twenty already given; for LB 25, no local run there; then 13." Card 6: an AM
+// of the last finished move passes after 7. Card 7 removes 13.
 ghost use mathlib.Core.Path.{_≡_};
 ghost use mathlib.Core.Bool.{true, _&&_};
-ghost use mathlib.Core.List.{[], _∷_};
 ghost use Prim.Native.Nat.{_≤_};
 ghost use lib.Dec.{leb};
-ghost use Rattle.common.specs.Check.{check, refusal};
-ghost use Rattle.line.specs.Refusal.{journalFull};
+ghost use Rattle.common.specs.Check.{refusal};
 ghost use Rattle.journal.specs.Journal.{journalLength};
 ghost use Rattle.completion.specs.Table.{tableLength};
 ghost use Rattle.rules.specs.Valid.{valid};
-ghost use Rattle.rules.specs.Answer.{outLength, moveChecks, hasRoom, sectionChecks, contentChecks, frameChecks};
+ghost use Rattle.rules.specs.Answer.{outLength, moveChecks, sectionChecks, contentChecks, frameChecks};
 ghost use Rattle.checks.specs.Types.{Fa, Am, La, Lb};
 ghost use Rattle.checks.specs.Messages.{messageRefusal};
 use frame::FRAME_LENGTH;
 use frame::Message;
 use frame::Move;
-use journal::BATCH_LENGTH;
 use journal::JOURNAL_LENGTH;
 use journal::MOST_SENT;
 use line::refusal;
@@ -28,7 +25,6 @@ use table::TABLE_LENGTH;
 use validity::MOST_GIVEN;
 use validity::at_end;
 use validity::holders_of;
-use validity::is_free;
 use validity::is_last;
 use validity::is_running;
 use validity::next_post;
@@ -91,16 +87,7 @@ fn request_refusal(state: State, m: Move) -> u8
     if state.trains <= m.train.0 {
         return refusal::UNKNOWN_TRAIN;
     }
-    let train = train_of(state, m.train);
-    let number = move_refusal(train, m);
-    if number != 0 {
-        return number;
-    }
-    let status = train.status;
-    if !is_free(status) {
-        return 0;
-    }
-    room_refusal(state)
+    move_refusal(train_of(state, m.train), m)
 }
 
 // The checks of what an AM says.
@@ -124,7 +111,7 @@ fn arrival_refusal(state: State, m: Move) -> u8
     if !is_running(status) {
         return refusal::NO_AUTHORITY;
     }
-    room_refusal(state)
+    0
 }
 
 // The checks of what an LA says.
@@ -143,7 +130,7 @@ fn lending_refusal(state: State, m: Move) -> u8
     if MOST_GIVEN <= state.given {
         return refusal::TWENTY_GIVEN;
     }
-    room_refusal(state)
+    0
 }
 
 // The checks of what an LB says.
@@ -158,7 +145,7 @@ fn return_refusal(state: State, m: Move) -> u8
     if !possessed(state, line::section(m.from, m.to)) {
         return refusal::NO_LOCAL_RUN;
     }
-    room_refusal(state)
+    0
 }
 
 // Whether two neighbouring posts are named for a gang, the lower one first: "a train byte not 255 is
@@ -190,16 +177,6 @@ fn move_refusal(train: Train, m: Move) -> u8
     }
     if m.to.0 != next_post(train).0 {
         return refusal::WRONG_POST;
-    }
-    0
-}
-
-// Whether the journal has room for the frame and its answers.
-fn room_refusal(state: State) -> u8
-    ensures { λ r. ⌜ r ≡ refusal (check journalFull (hasRoom state) ∷ []) ⌝ }
-{
-    if JOURNAL_LENGTH < state.logged as usize + BATCH_LENGTH {
-        return refusal::JOURNAL_FULL;
     }
     0
 }

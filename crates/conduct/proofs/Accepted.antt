@@ -101,7 +101,7 @@ module _ (table : List ℕ) where
 
   -- ---- of gangs
 
-  accepted-given : (s : State) (a : Message) → Taken s a
+  pub accepted-given : (s : State) (a : Message) → Taken s a
       → anew table s a .state .given ≡ s .given + ofBool (asksSection a)
   unfolding anew
   accepted-given s a (request m q free) =
@@ -117,7 +117,7 @@ module _ (table : List ℕ) where
   settled-lent w =
       grants-keep table (λ v. lentIn (v .state) ≡ lentIn (w .state)) (λ v t e f. e) (w .state .trains) w refl
 
-  accepted-lent : (s : State) → Consistent s → length (s .possessions) ≡ 7 → (a : Message) → Taken s a
+  pub accepted-lent : (s : State) → Consistent s → length (s .possessions) ≡ 7 → (a : Message) → Taken s a
       → ofBool (asksSection a) + lentIn s ≡ ofBool (givesBack a) + lentIn (anew table s a .state)
   unfolding anew
   accepted-lent s d seven a (request m q free) =
@@ -158,7 +158,7 @@ module _ (table : List ℕ) where
           (λ a. ofBool (isNew kind o (i .frame) (a .verdict)) + f s ≡ f (a .state))
           (λ n e. omega arith)
           (λ p answers r. rw (repeat-told table s j o (k .kept) (readFrame (i .frame)) answers r) (omega arith))
-          (λ p t room. rw (new-told table s j o (k .kept) (readFrame (i .frame)) t)
+          (λ p t. rw (new-told table s j o (k .kept) (readFrame (i .frame)) t)
           (omega (arith, raises s (p .valid-state) (readFrame (i .frame)) t)))
 
   pub run-frames : (is : List Input) (s : State) (j : List Record) (o : Observer) → Settled table s j o
@@ -188,7 +188,7 @@ module _ (table : List ℕ) where
           ≡ ofBool (isNew givesBack o (i .frame) (a .verdict)) + lentIn (a .state))
           (λ n e. refl)
           (λ p answers r. rw (repeat-told table s j o (k .kept) (readFrame (i .frame)) answers r))
-          (λ p t room. rw (new-told table s j o (k .kept) (readFrame (i .frame)) t)
+          (λ p t. rw (new-told table s j o (k .kept) (readFrame (i .frame)) t)
           (accepted-lent s (p .valid-state) (k .kept .seven) (readFrame (i .frame)) t))
 
   pub lent-told : (s : State) (j : List Record) (o : Observer) → Invariant table s j o

@@ -5,7 +5,7 @@ use mathlib.Core.Option.{Option, none, some}
 use mathlib.Core.List.{List, [], _∷_, _++_}
 use Prim.Native.Nat.{ℕ, zero, suc, _+_, _≤_, _<_}
 use native.Mathlib.Omega.{arith}
-use lib.Dec.{eqb, leb, ltb}
+use lib.Dec.{eqb, ltb}
 use lib.ListN.{length, length-set}
 use borrow.Author.Tests.{ltb-true}
 use Rattle.common.specs.Below.{ofBool}
@@ -15,7 +15,7 @@ use Rattle.common.proofs.Tests.{by-cases, by-equality, same-test}
 use Rattle.common.proofs.Below.{count-cong, any-cong}
 use Rattle.common.proofs.Check.{check-passes, check-fails}
 use Rattle.line.specs.Route.{sectionOf}
-use Rattle.line.specs.Refusal.{unknownTrain, wrongPost, journalFull, sectionTaken, noLocalRun, twentyGiven}
+use Rattle.line.specs.Refusal.{unknownTrain, wrongPost, sectionTaken, noLocalRun, twentyGiven}
 use Rattle.line.specs.Line.{routeOf, tracksAt}
 use Rattle.line.specs.Holding.{holdsPost, holdsSection, postHolders, sectionHolders}
 use Rattle.completion.specs.Configuration.{moved, codeBelow}
@@ -23,7 +23,7 @@ use Rattle.completion.specs.Table.{bitOf}
 use Rattle.completion.proofs.Codes.{code-cong}
 use Rattle.frame.specs.Frame.{moveOf, readFrame}
 use Rattle.tracks.proofs.Choice.{track-cong}
-use Rattle.journal.specs.Journal.{journalLength, recordOn}
+use Rattle.journal.specs.Journal.{recordOn}
 use Rattle.rules.specs.declared.state.Train.{Train}
 use Rattle.rules.specs.declared.state.Status.the-variants.{Running}
 use Rattle.rules.specs.State.{isAsked, nextOf, locatedAt, trackAt, reachedBy, trainOf, lineOf, located, trackHeld}
@@ -31,7 +31,7 @@ use Rattle.rules.specs.State.{possessed, holdersOf, freeTrack, reached, nextMov
 use Rattle.rules.specs.State.{stateWith, oneLogged}
 use Rattle.rules.specs.Valid.{mostGiven, valid}
 use Rattle.rules.specs.Granting.{grantable, older, oldest, Work, granted, proceed, grants, granting, grantRecord}
-use Rattle.rules.specs.Answer.{mostLogged, outerChecks, knows, gangByte, contentChecks, frameChecks}
+use Rattle.rules.specs.Answer.{outerChecks, knows, gangByte, contentChecks, frameChecks}
 use Rattle.rules.proofs.Trains.{route-of, in-fleet, changed, changed-own, changed-other}
 use Rattle.rules.proofs.Validity.{TrainValid, Consistent, valid-facts, few-logged, is-valid, asked-short}
 use Rattle.rules.proofs.Validity.{next-post-below}
@@ -157,21 +157,19 @@ module _ (s u : State) (a : Alike s u) where
       })
 
 -- the checks of an LA and of an LB, by what they read of a state
-abbrev lendingBy : ℕ → ℕ → ℕ → ℕ → Move → List Check
-lendingBy posts holders given logged m =
+abbrev lendingBy : ℕ → ℕ → ℕ → Move → List Check
+lendingBy posts holders given m =
     check unknownTrain (eqb (m .train .0) gangByte)
     ∷ check wrongPost (eqb (m .to .0) (m .from .0 + 1) && ltb (m .to .0) posts)
     ∷ check sectionTaken (eqb holders 0)
     ∷ check twentyGiven (ltb given mostGiven)
-    ∷ check journalFull (leb (logged + mostLogged) journalLength)
     ∷ []
 
-abbrev returnBy : ℕ → Bool → ℕ → Move → List Check
-returnBy posts held logged m =
+abbrev returnBy : ℕ → Bool → Move → List Check
+returnBy posts held m =
     check unknownTrain (eqb (m .train .0) gangByte)
     ∷ check wrongPost (eqb (m .to .0) (m .from .0 + 1) && ltb (m .to .0) posts)
     ∷ check noLocalRun held
-    ∷ check journalFull (leb (logged + mostLogged) journalLength)
     ∷ []
 
 module _ (s u : State) (a : Alike s u) where
@@ -183,18 +181,16 @@ module _ (s u : State) (a : Alike s u) where
   -- the checks after 7 are reached with a train below T only
   content-same : (b : Message) → refusal (contentChecks u b) ≡ refusal (contentChecks s b)
   content-same (Fa m) = rw (a .trains) (check-same (check unknownTrain (knows s m)) _ _
-      (λ e. rw (a .logged, a .train (m .train .0) (ltb-true (m .train .0) (s .trains) e))))
+      (λ e. rw (a .train (m .train .0) (ltb-true (m .train .0) (s .trains) e))))
   content-same (Am m) = rw (a .trains) (check-same (check unknownTrain (knows s m)) _ _
-      (λ e. rw (a .logged, a .train (m .train .0) (ltb-true (m .train .0) (s .trains) e))))
+      (λ e. rw (a .train (m .train .0) (ltb-true (m .train .0) (s .trains) e))))
   content-same (La m) =
-      ap (λ (n : ℕ). refusal (lendingBy n (holdersOf u (m .from .0)) (u .given) (u .logged) m)) (a .posts)
-      ∙ ap (λ (n : ℕ). refusal (lendingBy (s .posts) n (u .given) (u .logged) m)) (holders-same s u a (m .from .0))
-      ∙ ap (λ (n : ℕ). refusal (lendingBy (s .posts) (holdersOf s (m .from .0)) n (u .logged) m)) (a .given)
-      ∙ ap (λ (n : ℕ). refusal (lendingBy (s .posts) (holdersOf s (m .from .0)) (s .given) n m)) (a .logged)
+      ap (λ (n : ℕ). refusal (lendingBy n (holdersOf u (m .from .0)) (u .given) m)) (a .posts)
+      ∙ ap (λ (n : ℕ). refusal (lendingBy (s .posts) n (u .given) m)) (holders-same s u a (m .from .0))
+      ∙ ap (λ (n : ℕ). refusal (lendingBy (s .posts) (holdersOf s (m .from .0)) n m)) (a .given)
   content-same (Lb m) =
-      ap (λ (n : ℕ). refusal (returnBy n (possessed u (m .from .0)) (u .logged) m)) (a .posts)
-      ∙ ap (λ (b : Bool). refusal (returnBy (s .posts) b (u .logged) m)) (a .sections (m .from .0))
-      ∙ ap (λ (n : ℕ). refusal (returnBy (s .posts) (possessed s (m .from .0)) n m)) (a .logged)
+      ap (λ (n : ℕ). refusal (returnBy n (possessed u (m .from .0)) m)) (a .posts)
+      ∙ ap (λ (b : Bool). refusal (returnBy (s .posts) b m)) (a .sections (m .from .0))
   content-same (Fe m) = refl
   content-same (Afe m) = refl
   content-same (Le m) = refl

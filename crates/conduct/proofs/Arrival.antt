@@ -44,7 +44,7 @@ use Rattle.conduct.specs.Arrival.{dueBy, due, MayCome, of-train, of-gang
 use Rattle.conduct.specs.Arrival.{newCount, asksSection, framesTold, mostFrames, Arrives, Arrival}
 use Rattle.assurance.proofs.Invariant.{claimOf, Invariant}
 use Rattle.assurance.proofs.Records.{lentIn}
-use Rattle.assurance.proofs.Exchanged.{Settled, room-settled, valid-settled}
+use Rattle.assurance.proofs.Exchanged.{Settled, valid-settled}
 use Rattle.conduct.proofs.LocalRuns.{section-named}
 use Rattle.conduct.proofs.Repeats.{new-told}
 use Rattle.conduct.proofs.Accepted.{framesIn, run-frames, run-given, run-lent, frames-told, lent-told}
@@ -233,7 +233,7 @@ module _ (table : List ℕ) (long : tableLength ≤ length table) (r : Ran) (o :
       let d = comes-passes table s (r .journal) o (k .kept) frame c in
       let e : refusal (frameChecks s (length table) (length (r .journal)) (bytesOf (d .0)) (length out)) ≡ 0 =
       ⊎-elim
-      (taken-accepted s table (r .journal) out (valid-settled k) long (k .kept .room) room (room-settled k) (d .0))
+      (taken-accepted s table (r .journal) out (valid-settled k) long (k .kept .room) room (d .0))
       (λ q. again-accepted s table (r .journal) out (valid-settled k) long (k .kept .room) room (d .0) (q .0) (q .1))
       (d .2) in
       let w = accepted table s (readFrame (bytesOf (d .0))) in
@@ -252,7 +252,7 @@ module _ (table : List ℕ) (long : tableLength ≤ length table) (r : Ran) (o :
       (λ p answers q e. subst (Comes table s (r .journal) o (k .kept))
       (round-trip .only frame (repeat-message q))
       (repeats-come table s (r .journal) o (k .kept) (readFrame frame) answers q))
-      (λ p t room e. subst (Comes table s (r .journal) o (k .kept))
+      (λ p t e. subst (Comes table s (r .journal) o (k .kept))
       (round-trip .only frame (taken-message s (readFrame frame) t))
       (taken-comes table s (r .journal) o (k .kept) (readFrame frame) t))
 

@@ -32,7 +32,7 @@ use Rattle.assurance.specs.Observer.{Observer, atOpening, observe}
 use Rattle.conduct.specs.Homecoming.{Homecoming}
 use Rattle.conduct.specs.LocalRuns.{sectionMove}
 use Rattle.assurance.proofs.Standstill.{Short, goes-on}
-use Rattle.assurance.proofs.Exchanged.{Settled, room-settled, valid-settled, answer-kept}
+use Rattle.assurance.proofs.Exchanged.{Settled, valid-settled, answer-kept}
 use Rattle.assurance.proofs.Records.{recordsIn, lentIn, few-records, accepted-bounded}
 use Rattle.assurance.proofs.Opened.{opening-accepted, opened-line, opened-settled}
 use Rattle.assurance.proofs.Told.{at-post}
@@ -76,7 +76,7 @@ module _ (table : List ℕ) (long : tableLength ≤ length table) where
   raises s j o k a t =
       let read : readFrame (bytesOf a) ≡ a = round-trip .back a (taken-message s a t) in
       let e =
-      taken-accepted s table j buffer (valid-settled k) long (k .kept .room) (omega arith) (room-settled k) a t in
+      taken-accepted s table j buffer (valid-settled k) long (k .kept .room) (omega arith) a t in
       let b = accepted-bounded table s (k .kept .valid-state) (k .kept .seven) a t (worth s)
       (record { spare = omega (arith, k .bounded); raised = omega (arith, k .bounded) }) .raised in
       rw (

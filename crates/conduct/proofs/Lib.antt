@@ -4,7 +4,7 @@ pub mod LocalRuns
 pub mod TrackKept
 pub mod Alike
 pub mod Unread
-pub mod NeverRefused
+pub mod NeverStrange
 pub mod Homecoming
 pub mod Repeats
 pub mod Waiting
@@ -16,3 +16,6 @@ pub mod RightTrack
 pub mod Recorded
 pub mod Serving
 pub mod Replies
+pub mod Counted
+pub mod PerMove
+pub mod FewRecords

@@ -16,7 +16,7 @@ use Rattle.journal.specs.Journal.{recordOf}
 use Rattle.rules.specs.State.{possessed, withPossession}
 use Rattle.rules.specs.Granting.{Work, begun, settled}
 use Rattle.rules.specs.Answer.{gangByte, again, anew, accepted, Answer, answered, refused, answer}
-use Rattle.rules.specs.Refusals.{Handed}
+use Rattle.rules.specs.Refusals.{Handed, answerTo, Prepared}
 use Rattle.rules.proofs.Changes.{grantable-facts}
 use Rattle.rules.proofs.Grants.{grants-keep}
 use Rattle.rules.proofs.Possessions.{others-possessed, lent-possessed, possessed-on, back-unpossessed}
@@ -26,7 +26,7 @@ use Rattle.rules.proofs.Acceptance.{new-or-again, accepted-anew, by-verdict, ac
 use Rattle.rules.proofs.Taking.{taken-accepted}
 use Rattle.assurance.specs.Types.{Move, Message, La, Le, Lb, State, Sent}
 use Rattle.assurance.specs.Observer.{answersOf}
-use Rattle.conduct.specs.LocalRuns.{sectionMove, answerTo, WithRoom, MayLend, Changed, LocalRuns}
+use Rattle.conduct.specs.LocalRuns.{sectionMove, MayLend, Changed, LocalRuns}
 use Rattle.assurance.proofs.Exchanged.{answers-back}
 
 -- ---- what is taken
@@ -58,14 +58,13 @@ taken-lb s a m e (return n q held) =
 -- ---- a frame handed in
 
 -- one that is taken is accepted
-taken-sent : (h : Handed) (a : Message) → IsMessage a → WithRoom h → h .frame ≡ bytesOf a → Taken (h .state) a
+taken-sent : (h : Handed) (a : Message) → IsMessage a → Prepared h → h .frame ≡ bytesOf a → Taken (h .state) a
     → answerTo h .verdict ≡ Sent (length (anew (h .table) (h .state) a .sent))
 unfolding answer
-taken-sent h a is r e t =
-    let p = r .prepared in
+taken-sent h a is p e t =
     let w = accepted (h .table) (h .state) (readFrame (bytesOf a)) in
     let passed = taken-accepted (h .state) (h .table) (h .journal) (h .out) (p .valid-state) (p .long-table)
-    (p .long-journal) (p .long-out) (r .room) a t in
+    (p .long-journal) (p .long-out) a t in
     let new : w ≡ anew (h .table) (h .state) a =
     rw (round-trip .back a is) (accepted-anew (h .table) (h .state) a
     (taken-new (h .state) (valid-facts (h .state) (p .valid-state)) a t)) in
@@ -82,7 +81,7 @@ sent-taken h n P fresh takes =
     by-verdict (h .state) (h .table) (h .journal) (h .frame) (h .out) (λ a. a .verdict ≡ Sent n → P a)
     (λ k q e. absurd (let z : _≡_ {A = ℕ} 0 1 = cc in omega arith))
     (λ p answers r e. absurd (new-or-again fresh (repeats-again r)))
-    (λ p t room e. takes p t)
+    (λ p t e. takes p t)
 
 -- a gang's frame repeats none
 la-new : (h : Handed) (m : Move) → readFrame (h .frame) ≡ La m → again (h .state) (readFrame (h .frame)) ≡ none

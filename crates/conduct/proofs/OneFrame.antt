@@ -12,10 +12,11 @@ use Rattle.completion.specs.Configuration.{moved}
 use Rattle.completion.specs.Table.{filled}
 use Rattle.completion.proofs.Rule.{bit-completable, completable-bit}
 use Rattle.rules.specs.State.{lineOf, reached, nextMove}
-use Rattle.rules.specs.Valid.{valid}
+use Rattle.rules.specs.Valid.{consistent}
 use Rattle.rules.specs.Granting.{oldest, Work, granted, proceed, grants, granting}
-use Rattle.rules.specs.Answer.{again, anew, runsGranting, answer}
-use Rattle.rules.proofs.Validity.{Distinct, valid-facts, next-post-below, asked-short}
+use Rattle.rules.specs.Answer.{mostLogged, again, anew, runsGranting, answer}
+use Rattle.rules.proofs.Validity.{Distinct, consistent-facts, is-consistent, valid-facts, few-logged, is-valid}
+use Rattle.rules.proofs.Validity.{next-post-below, asked-short}
 use Rattle.rules.proofs.FreeTrack.{free-fewer, fewer-free}
 use Rattle.rules.proofs.Changes.{distinct-change, grantable-facts, is-grantable}
 use Rattle.rules.proofs.Reached.{moved-within, moved-code}
@@ -24,16 +25,38 @@ use Rattle.rules.proofs.Grants.{askedCount, Turn, granted-fewer, granted-place,
 use Rattle.rules.proofs.Grants.{settled-next}
 use Rattle.rules.proofs.Settling.{settled-settles}
 use Rattle.rules.proofs.Acceptance.{Repeats, declined-before, granted-before, arrived-before, repeats-again}
-use Rattle.rules.proofs.Acceptance.{new-or-again, by-verdict, refusal-leaves, paired, accepted-facts, accepted-valid}
+use Rattle.rules.proofs.Acceptance.{new-or-again, by-verdict, refusal-leaves, paired, accepted-facts}
 use Rattle.rules.proofs.Acceptance.{runs-nobody, accepted-nobody}
 use Rattle.assurance.specs.Types.{Message, Fe, Record, State, Sent}
-use Rattle.conduct.specs.OneFrame.{ValidKept, RefusalsChangeNothing, AtMostSix, BitInTable, TrackFound}
+use Rattle.conduct.specs.OneFrame.{ConsistentKept, RefusalsChangeNothing, AtMostSix, BitInTable, TrackFound}
 use Rattle.conduct.specs.OneFrame.{NoneLeft, First, Granting, done, next, ExactGrant, OldestFirst, RightGrant}
 
-pub valid-kept : ValidKept
-valid-kept s table journal frame out e =
-    by-verdict s table journal frame out (λ a. valid (a .state) ≡ true) (λ n q. e) (λ p answers r. e)
-    (λ p. accepted-valid table s (p .valid-state) (readFrame frame))
+module _ (s : State) (table : List ℕ) (journal : List Record) (frame out : List ℕ) where
+  kept : consistent s ≡ true → consistent (answer s table journal frame out .state) ≡ true
+  kept e = by-verdict s table journal frame out (λ a. consistent (a .state) ≡ true) (λ n q. e) (λ p answers r. e)
+      (λ p t. is-consistent _ (accepted-facts table s (p .valid-state) (readFrame frame) t .valid-state))
+
+  counted : let v = answer s table journal frame out .state in
+      (s .logged ≤ v .logged) × (v .logged ≤ s .logged + mostLogged)
+  counted = by-verdict s table journal frame out
+      (λ a. (s .logged ≤ a .state .logged) × (a .state .logged ≤ s .logged + mostLogged))
+      (λ n q. (omega arith, omega arith))
+      (λ p answers r. (omega arith, omega arith))
+      (λ p t.
+      let k = accepted-facts table s (p .valid-state) (readFrame frame) t in
+      (omega (arith, k .counted), omega (arith, k .counted, k .few)))
+
+pub consistent-kept : ConsistentKept
+consistent-kept = record {
+  kept = kept;
+  counted = counted;
+  valid-kept = λ s table journal frame out e few.
+      is-valid _
+      (consistent-facts _ (kept s table journal frame out (is-consistent s (valid-facts s e))))
+      (omega (arith, few));
+  in-journal = λ s table journal frame out e.
+      omega (arith, counted s table journal frame out .1, few-logged s e);
+}
 
 pub refusals-change-nothing : RefusalsChangeNothing
 refusals-change-nothing = refusal-leaves
@@ -51,13 +74,13 @@ at-most-six s table journal frame out n =
     (λ p answers r e.
     let same : length answers ≡ n = cc in
     omega (arith, one-again r))
-    (λ p t room e.
+    (λ p t e.
     let a = accepted-facts table s (p .valid-state) (readFrame frame) t in
     let same : length (anew table s (readFrame frame) .sent) ≡ n = cc in
     omega (arith, a .few, paired a))
 
 pub bit-in-table : BitInTable
-bit-in-table s t e k asks = moved-code s (valid-facts s e) t k asks
+bit-in-table s t e k asks = moved-code s (consistent-facts s e) t k asks
 
 none-left : (s : State) (table : List ℕ) (journal : List Record) (frame out : List ℕ) (n : ℕ)
     → runsGranting (readFrame frame) ≡ true → again s (readFrame frame) ≡ none
@@ -66,14 +89,14 @@ none-left s table journal frame out n runs fresh =
     by-verdict s table journal frame out (λ a. a .verdict ≡ Sent n → NoneLeft table (a .state))
     (λ k q e. absurd (let z : _≡_ {A = ℕ} 0 1 = cc in omega arith))
     (λ p answers r e. absurd (new-or-again fresh (repeats-again r)))
-    (λ p t room e. runs-nobody table s (readFrame frame) t runs .barred)
+    (λ p t e. runs-nobody table s (readFrame frame) t runs .barred)
 
 none-more : (s : State) (table : List ℕ) (journal : List Record) (frame out : List ℕ)
     → NoneLeft table s → NoneLeft table (answer s table journal frame out .state)
 none-more s table journal frame out before =
     by-verdict s table journal frame out (λ a. NoneLeft table (a .state)) (λ k q. before)
     (λ p answers r. before)
-    (λ p t room. accepted-nobody table s (readFrame frame) t (record { barred = before }) .barred)
+    (λ p t. accepted-nobody table s (readFrame frame) t (record { barred = before }) .barred)
 
 -- ---- the chain of grants
 
@@ -113,14 +136,14 @@ module _ (table : List ℕ) where
 pub exact-grant : ExactGrant
 exact-grant = record {
   chain = λ table w e.
-      chain table (w .state .trains) w (valid-facts (w .state) e .distinct) (few-asked table w);
+      chain table (w .state .trains) w (consistent-facts (w .state) e .distinct) (few-asked table w);
   none-left = none-left;
   none-more = none-more;
 }
 
 pub oldest-first : OldestFirst
 oldest-first table w t e f =
-    let d = valid-facts (w .state) e in
+    let d = consistent-facts (w .state) e in
     let rest = settled-settles table (granted w t) in (
       rest .answers,
       ap (λ (v : Work). v .sent) (sym (settled-next table w t d (first-turn table (w .state) t f))) ∙ rest .added ∙
@@ -131,8 +154,8 @@ oldest-first table w t e f =
 
 pub track-found : TrackFound
 track-found = record {
-  only = λ s t p e kp. free-fewer s (valid-facts s e) p kp t;
-  then = λ s t p e kp. fewer-free s (valid-facts s e) p kp t;
+  only = λ s t p e kp. free-fewer s (consistent-facts s e) p kp t;
+  then = λ s t p e kp. fewer-free s (consistent-facts s e) p kp t;
 }
 
 -- ---- the grant, with the table of the line
@@ -140,7 +163,7 @@ track-found = record {
 pub right-grant : RightGrant
 right-grant = record {
   only = λ s table t e k g.
-      let d = valid-facts s e in
+      let d = consistent-facts s e in
       let f = grantable-facts (filled (lineOf s) table) s t g in
       record {
         asks = f .asks;
@@ -150,7 +173,7 @@ right-grant = record {
             (moved-within s d t k (f .asks)) (f .bit);
       };
   then = λ s table t e k m.
-      let d = valid-facts s e in
+      let d = consistent-facts s e in
       is-grantable (filled (lineOf s) table) s t (record {
         asks = m .asks;
         section = m .section;

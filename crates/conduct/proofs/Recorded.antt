@@ -17,7 +17,7 @@ use Rattle.line.specs.Book.{lineIn}
 use Rattle.rules.specs.State.{lineOf}
 use Rattle.rules.specs.Answer.{again, anew, framesOf, answered, refused, answer}
 use Rattle.rules.specs.Opening.{Opening, openedState}
-use Rattle.rules.proofs.Acceptance.{RoomLeft, Taken, Passed, repeats-again, new-or-again, by-verdict, accepted-facts}
+use Rattle.rules.proofs.Acceptance.{Taken, Passed, repeats-again, new-or-again, by-verdict, accepted-facts}
 use Rattle.assurance.specs.Types.{Line, Message, Record, State}
 use Rattle.assurance.specs.Run.{Input, Exchange, newRecords, run}
 use Rattle.assurance.specs.Observer.{Observer, atOpening, readFrames}
@@ -52,19 +52,19 @@ none-logged : (l : Line) → Logs l [] []
 none-logged l = record { logged = refl; tracked = λ r h. absurd (List·Memᴰ·not-nil h) }
 
 module _ (table : List ℕ) (s : State) (j : List Record) (frame out : List ℕ) where
-  accepted-adds : Passed s table j frame out → Taken s (readFrame frame) → RoomLeft s
+  accepted-adds : Passed s table j frame out → Taken s (readFrame frame)
       → let a = answered (s .logged) j out (anew table s (readFrame frame)) in
       Adds s j (a .state) (a .journal) (newRecords s a)
   unfolding replaced
-  accepted-adds p t room =
+  accepted-adds p t =
       let w = anew table s (readFrame frame) in
       let facts = accepted-facts table s (p .valid-state) (readFrame frame) t in
       let old : length (take (s .logged) j) ≡ s .logged =
-      length-take-le (s .logged) j (omega (arith, p .long-journal)) in
+      length-take-le (s .logged) j (omega (arith, p .long-journal, p .room)) in
       let whole : length (take (s .logged) j ++ w .logged) ≡ w .state .logged =
       length-append (take (s .logged) j) (w .logged) ∙ omega (arith, facts .counted) in
       let reach : s .logged + length (w .logged) ≡ w .state .logged = omega (arith, facts .counted) in
-      let new = new-logged table s j frame out p t room in
+      let new = new-logged table s j frame out p t in
       subst (Adds s j (w .state) (replaced j (s .logged) (w .logged))) (sym new) (record {
         count = facts .counted;
         records = take-at (take (s .logged) j ++ w .logged) _ (w .state .logged) whole;
@@ -72,15 +72,15 @@ module _ (table : List ℕ) (s : State) (j : List Record) (frame out : List ℕ)
             ∙ ap (λ n. drop n j) reach;
       })
 
-  accepted-logs : Passed s table j frame out → Taken s (readFrame frame) → RoomLeft s
+  accepted-logs : Passed s table j frame out → Taken s (readFrame frame)
       → let a = answered (s .logged) j out (anew table s (readFrame frame)) in
       Logs (lineOf s) (newRecords s a) (loggedBy (a .verdict) frame (a .out))
-  accepted-logs p t room =
+  accepted-logs p t =
       let w = anew table s (readFrame frame) in
       let facts = accepted-facts table s (p .valid-state) (readFrame frame) t in
       let back : readFrames (length (w .sent)) (replaced out 0 (framesOf (w .sent))) ≡ w .sent =
       answers-back (w .sent) out (facts .messages) in
-      rw (new-logged table s j frame out p t room) (record {
+      rw (new-logged table s j frame out p t) (record {
         logged = facts .written ∙ ap (λ (z : List Message). map recordOf (readFrame frame ∷ z)) (sym back);
         tracked = facts .tracked;
       })
@@ -102,7 +102,7 @@ module _ (table : List ℕ) (s : State) (j : List Record) (frame out : List ℕ)
   same-line = by-verdict s table j frame out (λ a. lineOf (a .state) ≡ lineOf s)
       (λ n e. refl)
       (λ p answers r. refl)
-      (λ p t room. accepted-facts table s (p .valid-state) (readFrame frame) t .line)
+      (λ p t. accepted-facts table s (p .valid-state) (readFrame frame) t .line)
 
   -- what a frame that repeats none is logged by
   pub answer-logs : again s (readFrame frame) ≡ none
@@ -125,7 +125,7 @@ module _ (table : List ℕ) (s : State) (j : List Record) (frame out : List ℕ)
       (λ n e. rw (none-new n, neither (repeatsTold o (readFrame frame))) (none-logged (lineOf s)))
       (λ p answers r. rw (again-none s j out answers, repeat-told table s j o inv (readFrame frame) answers r)
       (none-logged (lineOf s)))
-      (λ p t room. rw (new-told table s j o inv (readFrame frame) t) (accepted-logs p t room))
+      (λ p t. rw (new-told table s j o inv (readFrame frame) t) (accepted-logs p t))
     where
       neither : (b : Bool) → _≡_ {A = List Record} (cond b [] []) []
       neither true = refl

@@ -101,7 +101,7 @@ leaves-all table r o k h frame out n = by-verdict (r .state) table (r .journal) 
       tracks = rw (none-logged (r .state) (r .journal) out answers)
           (tracks-same table (r .state) (r .journal) o (h .kept) k (readFrame frame) answers q);
     })
-    (λ p t room e told.
+    (λ p t e told.
     clash (repeatsTold o (readFrame frame)) told
     (new-told table (r .state) (r .journal) o (h .kept) (readFrame frame) t))
 

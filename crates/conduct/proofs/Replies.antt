@@ -124,7 +124,7 @@ module _ (s : State) (table : List ℕ) (journal : List Record) (frame out : Lis
       → Reply s (readFrame frame) (readFrames n (a .out)))
       (λ k q e. absurd (let z : _≡_ {A = ℕ} 0 1 = cc in omega arith))
       (λ p answers r e fresh. absurd (new-or-again fresh (repeats-again r)))
-      (λ p t room e fresh.
+      (λ p t e fresh.
       let w = anew table s (readFrame frame) in
       let facts = accepted-facts table s (p .valid-state) (readFrame frame) t in
       let same : n ≡ length (w .sent) = cc in
@@ -143,7 +143,7 @@ module _ (s : State) (table : List ℕ) (journal : List Record) (frame out : Lis
       (λ (a : Answer). a .verdict ≡ Sent n → drop (7 * n) (a .out) ≡ drop (7 * n) out)
       (λ k q e. absurd (let z : _≡_ {A = ℕ} 0 1 = cc in omega arith))
       (λ p answers r e. rest-after answers (let same : length answers ≡ n = cc in same))
-      (λ p t room e.
+      (λ p t e.
       let l = anew table s (readFrame frame) .sent in
       rest-after l (let same : length l ≡ n = cc in same))
 
@@ -161,7 +161,7 @@ module _ (s : State) (table : List ℕ) (journal : List Record) (frame out : Lis
         ap (toldAgain s journal out) same,
         rw size (answers-back l out (again-messages r)) ∙ same,
       ))
-      (λ p t room e told. absurd (new-or-again (taken-new s (p .valid-state) (readFrame frame) t) told))
+      (λ p t e told. absurd (new-or-again (taken-new s (p .valid-state) (readFrame frame) t) told))
     where
       orNone : Option (List Message) → List Message
       orNone none = []

@@ -187,13 +187,13 @@ module _ (table : List ℕ) (s : State) (j : List Record) (o : Observer) (inv : 
       (λ n e. on-track-none (lineOf s) _ _ _)
       (λ p answers r.
       clash (repeatsTold o (readFrame frame)) (repeat-told table s j o inv (readFrame frame) answers r) fresh)
-      (λ p t room.
+      (λ p t.
       let facts = accepted-facts table s (inv .valid-state) (readFrame frame) t in
       rw (
-        new-logged table s j frame out p t room,
+        new-logged table s j frame out p t,
         answers-back (anew table s (readFrame frame) .sent) out (facts .messages),
       )
-      (accepted-given room (readFrame frame) t))
+      (accepted-given (p .room) (readFrame frame) t))
 
 pub right-track : RightTrack
 right-track book table journal inputs e =

@@ -125,4 +125,4 @@ track-kept s table journal frame out t p =
     by-verdict s table journal frame out (λ a. KeptFrom s (a .state))
     (λ n e u i held after. refl)
     (λ q answers r u i held after. refl)
-    (λ q k room. accepted-kept table s (q .valid-state) (readFrame frame) k) t p
+    (λ q k. accepted-kept table s (q .valid-state) (readFrame frame) k) t p

@@ -190,8 +190,8 @@ answer-turned table s j o inv n k h frame out = by-verdict s table j frame out (
       ordered = rw told (later table s j o inv n k h);
       given = λ new. clash (repeatsTold o (readFrame frame)) told new;
     })
-    (λ p t room.
-    let v = accepted-turned table s j o inv n k h room (readFrame frame) t in
+    (λ p t.
+    let v = accepted-turned table s j o inv n k h (p .room) (readFrame frame) t in
     let facts = accepted-facts table s (inv .valid-state) (readFrame frame) t in
     let fresh = new-told table s j o inv (readFrame frame) t in
     record {

@@ -98,7 +98,7 @@ accepted-same table s u a d b (return m n held) =
 
 -- what repeats an earlier frame in the one state does so in the other
 again-same : (s u : State) → Alike s u → (b : Message) → Content s b → again u b ≡ again s b
-again-same s u a b (new t room) = of t
+again-same s u a b (new t) = of t
   where
     of : {c : Message} → Taken s c → again u c ≡ again s c
     of (request m n free) = rw (a .train (m .train .0) (n .known))
@@ -117,7 +117,7 @@ content-same : (table : List ℕ) (s u : State) → Alike s u → Consistent s �
 content-same table s u a d b c = of c
   where
     of : Content s b → SameWork (accepted table s b) (accepted table u b)
-    of (new t room) =
+    of (new t) =
         let fresh = taken-new s d b t in
         rw (accepted-anew table s b fresh, accepted-anew table u b (again-same s u a b c ∙ fresh))
         (accepted-same table s u a d b t)
@@ -237,4 +237,4 @@ pub left-alone : LeftAlone
 left-alone s table journal frame out = by-verdict s table journal frame out (λ a. Kept s (a .state))
     (λ n q. unchanged s)
     (λ p answers r. unchanged s)
-    (λ p t room. accepted-kept table s (readFrame frame) t)
+    (λ p t. accepted-kept table s (readFrame frame) t)

@@ -1,9 +1,9 @@
--- Claims on runs beside demand 3: two numbers that no run meets, and that every train can still come home.
+-- Claims on runs beside demand 3: a number that no run meets, and that every train can still come home.
 use mathlib.Core.Path.{_≡_}
 use mathlib.Core.Logic.{_≢_}
 use mathlib.Core.List.{List, _++_, List·Memᴰ}
 use Prim.Native.Nat.{ℕ, _<_}
-use Rattle.line.specs.Refusal.{strangeState, journalFull}
+use Rattle.line.specs.Refusal.{strangeState}
 use Rattle.line.specs.Line.{routeOf}
 use Rattle.line.specs.Book.{lineIn}
 use Rattle.rules.specs.Opening.{opening}
@@ -11,16 +11,12 @@ use Rattle.assurance.specs.Types.{Line, Record, RefusedBy}
 use Rattle.assurance.specs.Run.{Input, Exchange, run}
 use Rattle.assurance.specs.Observer.{Observer, atOpening, observe}
 
--- in a run from an accepted opening the state is never strange and the journal never full
-pub record NeverRefused : Type 0 where
-  pub strange : (book table : List ℕ) (journal : List Record) (inputs : List Input)
-      → let o = opening book table journal in
-      o .number ≡ 0 → (e : Exchange) → List·Memᴰ e (run (o .table) (o .state) journal inputs .exchanges)
-      → e .verdict ≢ RefusedBy strangeState
-  pub full : (book table : List ℕ) (journal : List Record) (inputs : List Input)
-      → let o = opening book table journal in
-      o .number ≡ 0 → (e : Exchange) → List·Memᴰ e (run (o .table) (o .state) journal inputs .exchanges)
-      → e .verdict ≢ RefusedBy journalFull
+-- in a run from an accepted opening the state is never strange
+abbrev pub NeverStrange : Type 0
+NeverStrange = (book table : List ℕ) (journal : List Record) (inputs : List Input)
+    → let o = opening book table journal in
+    o .number ≡ 0 → (e : Exchange) → List·Memᴰ e (run (o .table) (o .state) journal inputs .exchanges)
+    → e .verdict ≢ RefusedBy strangeState
 
 -- every train is at its end, as the observer tells it
 abbrev pub AllAtEnds : Line → Observer → Type 0

@@ -11,3 +11,4 @@ pub mod Arrival
 pub mod Turns
 pub mod RightTrack
 pub mod Recorded
+pub mod FewRecords

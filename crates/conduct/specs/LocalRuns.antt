@@ -4,30 +4,22 @@ use mathlib.Core.Path.{_≡_}
 use mathlib.Core.Logic.{_≢_}
 use mathlib.Core.Bool.{Bool, true, false}
 use mathlib.Core.List.{List, [], _∷_}
-use Prim.Native.Nat.{ℕ, _+_, _≤_, _<_}
+use Prim.Native.Nat.{ℕ, _+_, _<_}
 use lib.ListN.{length}
 use Rattle.line.specs.Route.{sectionOf}
 use Rattle.frame.specs.Frame.{moveOf, readFrame, bytesOf}
-use Rattle.journal.specs.Journal.{journalLength}
 use Rattle.rules.specs.State.{nextOf, trainOf, possessed, holdersOf}
 use Rattle.rules.specs.Valid.{mostGiven}
 use Rattle.rules.specs.Granting.{grantable}
-use Rattle.rules.specs.Answer.{mostLogged, gangByte, Answer, answer}
-use Rattle.rules.specs.Refusals.{Handed, Prepared}
+use Rattle.rules.specs.Answer.{gangByte}
+use Rattle.rules.specs.Refusals.{Handed, answerTo, Prepared}
+use Rattle.rules.specs.Counts.{IsAnswered}
 use Rattle.assurance.specs.Types.{Move, La, Le, Lb, State, Sent}
 use Rattle.assurance.specs.Observer.{answersOf}
 
 -- "have train byte 255 and name the two neighbouring posts, lower first"
 abbrev pub sectionMove : ℕ → Move
 sectionMove i = moveOf gangByte i (i + 1)
-
-abbrev pub answerTo : Handed → Answer
-answerTo h = answer (h .state) (h .table) (h .journal) (h .frame) (h .out)
-
--- the state is valid, the stores are long enough, and the journal has room
-pub record WithRoom (h : Handed) : Type 0 where
-  pub prepared : Prepared h
-  pub room : h .state .logged + mostLogged ≤ journalLength
 
 -- "if no train and no gang holds the section and fewer than 20 local runs were given since opening"
 pub record MayLend (s : State) (i : ℕ) : Type 0 where
@@ -43,7 +35,7 @@ pub record Changed (s : State) (i : ℕ) (held : Bool) (n : ℕ) (v : State) : T
 
 pub record LocalRuns : Type 0 where
   -- "LA is answered by LE exactly if" so
-  pub then : (h : Handed) (i : ℕ) → WithRoom h → h .frame ≡ bytesOf (La (sectionMove i)) → MayLend (h .state) i
+  pub then : (h : Handed) (i : ℕ) → Prepared h → h .frame ≡ bytesOf (La (sectionMove i)) → MayLend (h .state) i
       → answerTo h .verdict ≡ Sent 1
   pub only : (h : Handed) (m : Move) (n : ℕ) → readFrame (h .frame) ≡ La m → answerTo h .verdict ≡ Sent n
       → (m ≡ sectionMove (m .from .0)) × MayLend (h .state) (m .from .0)
@@ -58,8 +50,8 @@ pub record LocalRuns : Type 0 where
   pub blocks : (s : State) (table : List ℕ) (t : ℕ)
       → possessed s (sectionOf (trainOf s t .at .0) (nextOf (trainOf s t))) ≡ true → grantable table s t ≡ false
   -- LB is accepted exactly where a gang has the section
-  pub back : (h : Handed) (i : ℕ) → WithRoom h → h .frame ≡ bytesOf (Lb (sectionMove i)) → possessed (h .state) i ≡ true
-      → (n : ℕ) × (answerTo h .verdict ≡ Sent n)
+  pub back : (h : Handed) (i : ℕ) → Prepared h → h .frame ≡ bytesOf (Lb (sectionMove i)) → possessed (h .state) i ≡ true
+      → IsAnswered h
   pub back-only : (h : Handed) (m : Move) (n : ℕ) → readFrame (h .frame) ≡ Lb m → answerTo h .verdict ≡ Sent n
       → (m ≡ sectionMove (m .from .0)) × (possessed (h .state) (m .from .0) ≡ true)
   -- "LB frees it"

@@ -5,24 +5,36 @@ use mathlib.Core.Logic.{_≢_}
 use mathlib.Core.Bool.{true, false}
 use mathlib.Core.Option.{none}
 use mathlib.Core.List.{List, _∷_, _++_}
-use Prim.Native.Nat.{ℕ, _≤_, _<_}
+use Prim.Native.Nat.{ℕ, _+_, _≤_, _<_}
 use Rattle.line.specs.Route.{sectionOf}
 use Rattle.line.specs.Line.{tracksAt}
 use Rattle.line.specs.Holding.{holdsPost, postHolders}
 use Rattle.frame.specs.Frame.{readFrame}
+use Rattle.journal.specs.Journal.{journalLength}
 use Rattle.completion.specs.Configuration.{Completable, moved, codeBelow}
 use Rattle.completion.specs.Table.{codeCount, filled}
 use Rattle.rules.specs.State.{isAsked, askedAs, nextOf, trackAt, trainOf, lineOf, located, holdersOf, freeTrack}
 use Rattle.rules.specs.State.{reached, nextMove}
-use Rattle.rules.specs.Valid.{valid}
+use Rattle.rules.specs.Valid.{consistent, mostCounted, valid}
 use Rattle.rules.specs.Granting.{grantable, Work, granted, settled}
-use Rattle.rules.specs.Answer.{again, runsGranting, answer}
+use Rattle.rules.specs.Answer.{mostLogged, again, runsGranting, answer}
 use Rattle.assurance.specs.Types.{Message, Fe, Record, State, Sent, RefusedBy}
 
--- a valid state stays valid
-abbrev pub ValidKept : Type 0
-ValidKept = (s : State) (table : List ℕ) (journal : List Record) (frame out : List ℕ)
-    → valid s ≡ true → valid (answer s table journal frame out .state) ≡ true
+-- a valid state stays one but for its count, which a frame raises by at most seven records. 02, card 7: "A state whose
+-- journal count is above 229 becomes strange", so that one with more than 222 may be left strange; what a run from an
+-- opening leaves is `NeverStrange`'s.
+pub record ConsistentKept : Type 0 where
+  pub kept : (s : State) (table : List ℕ) (journal : List Record) (frame out : List ℕ)
+      → consistent s ≡ true → consistent (answer s table journal frame out .state) ≡ true
+  pub counted : (s : State) (table : List ℕ) (journal : List Record) (frame out : List ℕ)
+      → let v = answer s table journal frame out .state in
+      (s .logged ≤ v .logged) × (v .logged ≤ s .logged + mostLogged)
+  pub valid-kept : (s : State) (table : List ℕ) (journal : List Record) (frame out : List ℕ)
+      → let v = answer s table journal frame out .state in
+      valid s ≡ true → v .logged ≤ mostCounted → valid v ≡ true
+  -- all that is counted is in the journal
+  pub in-journal : (s : State) (table : List ℕ) (journal : List Record) (frame out : List ℕ)
+      → valid s ≡ true → answer s table journal frame out .state .logged ≤ journalLength
 
 -- "A refusal returns its number and the state unchanged, and changes no buffer."
 abbrev pub RefusalsChangeNothing : Type 0
@@ -38,15 +50,15 @@ AtMostSix = (s : State) (table : List ℕ) (journal : List Record) (frame out : 
 
 -- the placing that a grant asks for has its bit in the table
 abbrev pub BitInTable : Type 0
-BitInTable = (s : State) (t : ℕ) → valid s ≡ true → t < s .trains → isAsked (trainOf s t .status) ≡ true
+BitInTable = (s : State) (t : ℕ) → consistent s ≡ true → t < s .trains → isAsked (trainOf s t .status) ≡ true
     → codeBelow (s .trains) (moved (reached s) t) < codeCount
 
 -- 02, card 2: "The test for a free track now returns which one", and does so exactly where the post "is held by fewer
 -- trains than tracks"
 pub record TrackFound : Type 0 where
-  pub only : (s : State) (t p : ℕ) → valid s ≡ true → p < s .posts → freeTrack s t p ≢ 0
+  pub only : (s : State) (t p : ℕ) → consistent s ≡ true → p < s .posts → freeTrack s t p ≢ 0
       → postHolders (s .trains) (located s) p < tracksAt (lineOf s) p
-  pub then : (s : State) (t p : ℕ) → valid s ≡ true → p < s .posts
+  pub then : (s : State) (t p : ℕ) → consistent s ≡ true → p < s .posts
       → postHolders (s .trains) (located s) p < tracksAt (lineOf s) p → freeTrack s t p ≢ 0
 
 -- "A train keeps its track while it holds the post": whatever the frame
@@ -76,8 +88,9 @@ pub data Granting (table : List ℕ) : Work → Work → Type 0 where
 -- demand 2: "A train that asked gets its authority exactly when the section is free, the next post has a free track,
 -- and all trains could still reach their ends", the last by the table's bit
 pub record ExactGrant : Type 0 where
-  -- the granting of a frame is such a chain
-  pub chain : (table : List ℕ) (w : Work) → valid (w .state) ≡ true → Granting table w (settled table w)
+  -- the granting of a frame is such a chain, in every state that is valid but for its count: a frame that finds 229
+  -- records begins it with 230
+  pub chain : (table : List ℕ) (w : Work) → consistent (w .state) ≡ true → Granting table w (settled table w)
   -- after an accepted frame that runs the granting none is left. 02, card 6: a repeat runs none.
   pub none-left : (s : State) (table : List ℕ) (journal : List Record) (frame out : List ℕ) (n : ℕ)
       → runsGranting (readFrame frame) ≡ true → again s (readFrame frame) ≡ none
@@ -89,7 +102,7 @@ pub record ExactGrant : Type 0 where
 -- "crews can only foresee turns by order of asking": of the trains that can be granted the one that asked first gets
 -- the first authority
 abbrev pub OldestFirst : Type 0
-OldestFirst = (table : List ℕ) (w : Work) (t : ℕ) → valid (w .state) ≡ true → First table (w .state) t
+OldestFirst = (table : List ℕ) (w : Work) (t : ℕ) → consistent (w .state) ≡ true → First table (w .state) t
     → (others : List Message) × (settled table w .sent ≡ w .sent ++ Fe (nextMove (w .state) t) ∷ others)
 
 -- what demand 2 asks for an authority: the train asked, "the section is free, the next post has a free track, and all
@@ -102,7 +115,7 @@ pub record MayGo (s : State) (t : ℕ) : Type 0 where
 
 -- with the table of the line, as every run from an opening has it, a train can be granted exactly then
 pub record RightGrant : Type 0 where
-  pub only : (s : State) (table : List ℕ) (t : ℕ) → valid s ≡ true → t < s .trains
+  pub only : (s : State) (table : List ℕ) (t : ℕ) → consistent s ≡ true → t < s .trains
       → grantable (filled (lineOf s) table) s t ≡ true → MayGo s t
-  pub then : (s : State) (table : List ℕ) (t : ℕ) → valid s ≡ true → t < s .trains
+  pub then : (s : State) (table : List ℕ) (t : ℕ) → consistent s ≡ true → t < s .trains
       → MayGo s t → grantable (filled (lineOf s) table) s t ≡ true

@@ -62,7 +62,7 @@ taken-acceptable s d room a (return m n held) = (
 
 -- what passes the checks names a train that has its place
 pub train-placed : (s : State) → Consistent s → (a : Message) → Content s a → NamesTrain a
-train-placed s d a (new t room) = of t
+train-placed s d a (new t) = of t
   where
     of : {b : Message} → Taken s b → NamesTrain b
     of (request m n free) = omega (arith, n .known, d .line .few-trains)
@@ -88,8 +88,8 @@ none-told Silent e = absurd (true≢false e)
 none-told (Told a) e = absurd (true≢false e)
 
 -- a message that passes and repeats none is new
-new-content : {s : State} {a : Message} → Content s a → again s a ≡ none → Taken s a × RoomLeft s
-new-content (new t room) z = (t, room)
+new-content : {s : State} {a : Message} → Content s a → again s a ≡ none → Taken s a
+new-content (new t) z = t
 new-content (old answers r) z = absurd (new-or-again z (repeats-again r))
 
 module _ (s : State) (table : List ℕ) (count : ℕ) (frame out : List ℕ) (number : ℕ)
@@ -148,11 +148,11 @@ module _ (s : State) (table : List ℕ) (count : ℕ) (frame out : List ℕ) (nu
       abbrev work : Work
       work = anew table s (readFrame frame)
 
-      pub step-taken : Taken s (readFrame frame) × RoomLeft s
+      pub step-taken : Taken s (readFrame frame)
       step-taken = new-content (step-passed .message) fresh
 
       left : Accepted s (readFrame frame) work
-      left = accepted-facts table s (step-passed .valid-state) (readFrame frame) (step-taken .0)
+      left = accepted-facts table s (step-passed .valid-state) (readFrame frame) step-taken
 
       -- the batch has the frame's record and those of its answers
       kept : Batched (batchOf (work .logged)) (work .logged)
@@ -177,7 +177,7 @@ module _ (s : State) (table : List ℕ) (count : ℕ) (frame out : List ℕ) (nu
         written : (journal : List Record) → length journal ≡ count
             → replaced journal (s .logged) (work .logged) ≡ appended journal (s .logged) (p .batch)
         written journal long =
-            let space = step-taken .1 in
+            let space = step-passed .room in
             let enough : journalLength ≤ count = rw length-replicate at (step-passed .long-journal) in
             sym (batched-appended (batchOf (work .logged)) (work .logged) kept journal (s .logged)
             (omega (arith, left .few)) (omega (arith, left .few)))

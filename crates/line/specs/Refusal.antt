@@ -1,5 +1,5 @@
 -- 01, "Declining by number", and 02. `src/refusal.rt` has the same numbers for the code. Card 6: "Refusals 10 and 11
--- go", and no other has their numbers.
+-- go"; card 7 removes 13. No other has their numbers.
 use Prim.Native.Nat.{ℕ}
 
 abbrev pub strangeState : ℕ
@@ -31,9 +31,6 @@ wrongPost = 9
 
 abbrev pub noAuthority : ℕ
 noAuthority = 12
-
-abbrev pub journalFull : ℕ
-journalFull = 13
 
 abbrev pub tornBook : ℕ
 tornBook = 14

@@ -36,8 +36,8 @@ gang-states = record {
   beside = (refl, refl);
   given = (refl, refl);
   unread = (refl, refl);
-  room = refl;
-  full = (refl, refl, refl);
+  in-range = (refl, refl, refl);
+  above = (refl, refl, refl);
 }
 
 pub gangs-seen : GangsSeen

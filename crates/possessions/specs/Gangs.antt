@@ -114,12 +114,18 @@ pub record GangStates : Type 0 where
       (verdictsFrom s (la 2 3 ∷ lb 2 3 ∷ la 0 1 ∷ []) ≡ RefusedBy 9 ∷ RefusedBy 9 ∷ Sent 1 ∷ [])
       × (ranFrom s (openedBlank bookX .table) (map bytesOf (la 0 1 ∷ lb 0 1 ∷ [])) .state .possessions
       ≡ false ∷ false ∷ true ∷ replicate 4 false)
-  -- 13 with six records left and not with seven; after 24, 25 and 26
-  pub room : verdictsFrom (givenOnX 0 229) (la 0 1 ∷ lb 0 1 ∷ []) ≡ Sent 1 ∷ RefusedBy 13 ∷ []
-  pub full : (verdictsFrom (givenOnX 0 230) (la 0 1 ∷ lb 0 1 ∷ []) ≡ RefusedBy 13 ∷ RefusedBy 25 ∷ [])
-      × (verdictsFrom (givenOnX 20 230) (la 0 1 ∷ []) ≡ RefusedBy 26 ∷ [])
+  -- 02, card 7: "A state whose journal count is above 229 becomes strange, refusal 1.": at 229 an LA is answered and an
+  -- LB taken, and what each leaves is strange; 25, 26 and 24 come as at any other count
+  pub in-range :
+      (verdictsFrom (givenOnX 0 229) (lb 0 1 ∷ la 0 1 ∷ lb 0 1 ∷ []) ≡ RefusedBy 25 ∷ Sent 1 ∷ RefusedBy 1 ∷ [])
+      × (verdictsFrom (givenOnX 20 229) (la 0 1 ∷ []) ≡ RefusedBy 26 ∷ [])
+      × (verdictsFrom (withPossession (givenOnX 20 229) 0 true 20) (la 0 1 ∷ lb 0 1 ∷ la 0 1 ∷ [])
+      ≡ RefusedBy 24 ∷ Sent 0 ∷ RefusedBy 1 ∷ [])
+  -- at 230 all of these are 1
+  pub above : (verdictsFrom (givenOnX 0 230) (lb 0 1 ∷ la 0 1 ∷ []) ≡ RefusedBy 1 ∷ RefusedBy 1 ∷ [])
+      × (verdictsFrom (givenOnX 20 230) (la 0 1 ∷ []) ≡ RefusedBy 1 ∷ [])
       × (verdictsFrom (withPossession (givenOnX 20 230) 0 true 20) (la 0 1 ∷ lb 0 1 ∷ [])
-      ≡ RefusedBy 24 ∷ RefusedBy 13 ∷ [])
+      ≡ RefusedBy 1 ∷ RefusedBy 1 ∷ [])
 
 -- ---- as the observer tells it
 

@@ -17,22 +17,24 @@ use Rattle.driver.proofs.History.{history}
 use Rattle.rules.proofs.Acceptance.{numbers-told}
 use Rattle.rules.proofs.Refusals.{refusals}
 use Rattle.rules.proofs.Repeats.{repeats-answered}
+use Rattle.rules.proofs.Counts.{counts}
 use Rattle.rules.proofs.OpeningCases.{opened-alike}
 use Rattle.assurance.proofs.WholeList.{whole-list}
-use Rattle.conduct.proofs.OneFrame.{valid-kept, refusals-change-nothing, at-most-six, bit-in-table}
+use Rattle.conduct.proofs.OneFrame.{consistent-kept, refusals-change-nothing, at-most-six, bit-in-table}
 use Rattle.conduct.proofs.OneFrame.{track-found, exact-grant, oldest-first, right-grant}
 use Rattle.conduct.proofs.LocalRuns.{local-runs}
 use Rattle.conduct.proofs.Repeats.{repeats-told}
 use Rattle.conduct.proofs.TrackKept.{track-kept}
 use Rattle.conduct.proofs.Unread.{unread, left-alone}
 use Rattle.conduct.proofs.Replies.{all-replies}
-use Rattle.conduct.proofs.NeverRefused.{never-refused-in-runs}
+use Rattle.conduct.proofs.NeverStrange.{never-strange}
 use Rattle.conduct.proofs.Homecoming.{homecoming}
 use Rattle.conduct.proofs.Waiting.{no-needless-wait}
 use Rattle.conduct.proofs.Arrival.{arrival-of-all}
 use Rattle.conduct.proofs.Turns.{turn-by-turn}
 use Rattle.conduct.proofs.RightTrack.{right-track}
 use Rattle.conduct.proofs.Recorded.{journal-told}
+use Rattle.conduct.proofs.FewRecords.{journal-never-full}
 use Rattle.encoding.proofs.RoundTrip.{round-trip as bytes-read-back}
 use Rattle.calls.proofs.HandedOn.{handed-on}
 use Rattle.calls.proofs.CallRuns.{call-runs}
@@ -47,8 +49,9 @@ use Rattle.possessions.proofs.Gangs.{gang-on-x, named, beside-trains, other-sec
 use Rattle.possessions.proofs.Gangs.{gang-states, gangs-seen}
 use Rattle.distances.proofs.Evaluated.{position-bytes, opened-with-positions, times, time-refusals}
 use Rattle.distances.proofs.Evaluated.{answered-all-the-same}
-use Rattle.repeating.proofs.Evaluated.{repeats-on-x, declined-again, last-move-only, full-journal, grants-nobody}
+use Rattle.repeating.proofs.Evaluated.{repeats-on-x, declined-again, last-move-only, high-counts, grants-nobody}
 use Rattle.repeating.proofs.Evaluated.{last-moves, again-upward, again-elsewhere, lost-authority, lost-report}
+use Rattle.counting.proofs.Evaluated.{last-answered, strange-counts, five-granted, six-granted, fullest-run}
 use Rattle.promises.specs.Claims.{Parts, Cab, OneFrame, WholeLists, InUse, Evaluated}
 
 pub parts : Parts
@@ -77,7 +80,8 @@ one-frame = record {
   numbers = refusals;
   told = numbers-told;
   refusals = refusals-change-nothing;
-  valid = valid-kept;
+  valid = consistent-kept;
+  counts = counts;
   unread = unread;
   left-alone = left-alone;
   track = track-found;
@@ -95,7 +99,7 @@ one-frame = record {
 pub whole-lists : WholeLists
 whole-lists = record {
   whole-list = whole-list;
-  never-refused = never-refused-in-runs;
+  never-strange = never-strange;
   homecoming = homecoming;
   arrival = arrival-of-all;
   repeats = repeats-told;
@@ -103,6 +107,7 @@ whole-lists = record {
   turns = turn-by-turn;
   right-track = right-track;
   journal = journal-told;
+  few-records = journal-never-full;
 }
 
 pub in-use : InUse
@@ -150,11 +155,16 @@ evaluated = record {
   repeats-on-x = repeats-on-x;
   declined-again = declined-again;
   last-move-only = last-move-only;
-  full-journal = full-journal;
+  high-counts = high-counts;
   grants-nobody = grants-nobody;
   last-moves = last-moves;
   again-upward = again-upward;
   again-elsewhere = again-elsewhere;
   lost-authority = lost-authority;
   lost-report = lost-report;
+  last-answered = last-answered;
+  strange-counts = strange-counts;
+  five-granted = five-granted;
+  six-granted = six-granted;
+  fullest-run = fullest-run;
 }

@@ -12,20 +12,22 @@ use Rattle.driver.specs.History.{History}
 use Rattle.rules.specs.Answer.{NumbersTold}
 use Rattle.rules.specs.Refusals.{Refusals}
 use Rattle.rules.specs.Repeats.{RepeatsAnswered}
+use Rattle.rules.specs.Counts.{Counts}
 use Rattle.rules.specs.Opening.{OpenedAlike}
 use Rattle.assurance.specs.WholeList.{WholeList}
-use Rattle.conduct.specs.OneFrame.{ValidKept, RefusalsChangeNothing, AtMostSix, BitInTable}
+use Rattle.conduct.specs.OneFrame.{ConsistentKept, RefusalsChangeNothing, AtMostSix, BitInTable}
 use Rattle.conduct.specs.OneFrame.{TrackFound, TrackKept, ExactGrant, OldestFirst, RightGrant}
 use Rattle.conduct.specs.LocalRuns.{LocalRuns}
 use Rattle.conduct.specs.Unread.{Unread, LeftAlone}
 use Rattle.conduct.specs.Replies.{Replies}
-use Rattle.conduct.specs.Homecoming.{NeverRefused, Homecoming}
+use Rattle.conduct.specs.Homecoming.{NeverStrange, Homecoming}
 use Rattle.conduct.specs.Repeats.{RepeatsTold}
 use Rattle.conduct.specs.Waiting.{NoNeedlessWait}
 use Rattle.conduct.specs.Arrival.{Arrival}
 use Rattle.conduct.specs.Turns.{TurnByTurn}
 use Rattle.conduct.specs.RightTrack.{RightTrack}
 use Rattle.conduct.specs.Recorded.{JournalTold}
+use Rattle.conduct.specs.FewRecords.{JournalNeverFull}
 use Rattle.encoding.specs.RoundTrip.{BytesReadBack}
 use Rattle.calls.specs.HandedOn.{HandedOn}
 use Rattle.calls.specs.CallRuns.{CallRuns}
@@ -40,9 +42,12 @@ use Rattle.possessions.specs.Gangs.{GangOnX, Named, BesideTrains, OtherSection,
 use Rattle.possessions.specs.Gangs.{GangStates, GangsSeen}
 use Rattle.distances.specs.Positions.{PositionBytes, OpenedWithPositions}
 use Rattle.distances.specs.Times.{Times, TimeRefusals, AnsweredAllTheSame}
-use Rattle.repeating.specs.AtTheBox.{RepeatsOnX, DeclinedAgain, LastMoveOnly, FullJournal, GrantsNobody, LastMoves}
+use Rattle.repeating.specs.AtTheBox.{RepeatsOnX, DeclinedAgain, LastMoveOnly, HighCounts, GrantsNobody, LastMoves}
 use Rattle.repeating.specs.InTheCab.{AgainUpward, AgainElsewhere}
 use Rattle.repeating.specs.OverTheRadio.{LostAuthority, LostReport}
+use Rattle.counting.specs.Limit.{LastAnswered, StrangeCounts}
+use Rattle.counting.specs.AllAtOnce.{FiveGranted, SixGranted}
+use Rattle.counting.specs.Shuttle.{FullestRun}
 
 -- any book, question, frame, record, table
 pub record Parts : Type 0 where
@@ -86,8 +91,10 @@ pub record OneFrame : Type 0 where
   pub numbers : Refusals
   pub told : NumbersTold
   pub refusals : RefusalsChangeNothing
-  -- a valid state stays valid; what is past the posts, trains and sections is neither read nor written
-  pub valid : ValidKept
+  -- a valid state stays so but for its count; which counts are strange, and that 13 is gone
+  pub valid : ConsistentKept
+  pub counts : Counts
+  -- what is past the posts, trains and sections is neither read nor written
   pub unread : Unread
   pub left-alone : LeftAlone
   -- a track is found exactly where fewer trains hold the post than it has tracks; a train keeps it while it holds the
@@ -111,8 +118,8 @@ pub record OneFrame : Type 0 where
 pub record WholeLists : Type 0 where
   -- demand 3
   pub whole-list : WholeList
-  -- no frame of a run is refused by 1 or 13
-  pub never-refused : NeverRefused
+  -- no frame of a run is refused by 1
+  pub never-strange : NeverStrange
   -- the trains can all get home, and any train that runs can arrive
   pub homecoming : Homecoming
   pub arrival : Arrival
@@ -125,6 +132,8 @@ pub record WholeLists : Type 0 where
   pub right-track : RightTrack
   -- the journal is what was heard and sent, but for repeats, with the tracks
   pub journal : JournalTold
+  -- it cannot fill up: at most four records for each of at most 42 moves, and sixty of gangs
+  pub few-records : JournalNeverFull
 
 -- the ends in use: calls from C, and the desk's program
 pub record InUse : Type 0 where
@@ -170,10 +179,15 @@ pub record Evaluated : Type 0 where
   pub repeats-on-x : RepeatsOnX
   pub declined-again : DeclinedAgain
   pub last-move-only : LastMoveOnly
-  pub full-journal : FullJournal
+  pub high-counts : HighCounts
   pub grants-nobody : GrantsNobody
   pub last-moves : LastMoves
   pub again-upward : AgainUpward
   pub again-elsewhere : AgainElsewhere
   pub lost-authority : LostAuthority
   pub lost-report : LostReport
+  pub last-answered : LastAnswered
+  pub strange-counts : StrangeCounts
+  pub five-granted : FiveGranted
+  pub six-granted : SixGranted
+  pub fullest-run : FullestRun

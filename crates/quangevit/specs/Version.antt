@@ -3,7 +3,7 @@
 use Prim.Native.Nat.{ℕ, _+_, _*_}
 
 abbrev pub edition : ℕ
-edition = 6
+edition = 7
 
 abbrev pub revision : ℕ
 revision = 0

@@ -3,7 +3,7 @@ use mathlib.Core.Path.{refl}
 use Rattle.frame.specs.Frame.{bytesOf}
 use Rattle.journal.specs.Journal.{recordOf}
 use Rattle.examples.specs.Reading.{openedBlank, ranWith, repliesIn, seenIn}
-use Rattle.repeating.specs.AtTheBox.{RepeatsOnX, DeclinedAgain, LastMoveOnly, FullJournal, GrantsNobody}
+use Rattle.repeating.specs.AtTheBox.{RepeatsOnX, DeclinedAgain, LastMoveOnly, HighCounts, GrantsNobody}
 use Rattle.repeating.specs.AtTheBox.{LastMoves}
 use Rattle.repeating.specs.InTheCab.{cabFrom, cabEvents, AgainUpward, AgainElsewhere}
 use Rattle.repeating.specs.OverTheRadio.{phaseIn, framesAmong, heardAtLast, LostAuthority, LostReport}
@@ -30,9 +30,9 @@ pub last-move-only : LastMoveOnly
 unfolding bytesOf openedBlank ranWith
 last-move-only = record { at-end = refl; on-its-way = refl; at-start = refl }
 
-pub full-journal : FullJournal
+pub high-counts : HighCounts
 unfolding bytesOf openedBlank ranWith repliesIn
-full-journal = record { verdicts = refl; replies = refl; statuses = refl; logged = (refl, refl) }
+high-counts = record { verdicts = refl; replies = refl; statuses = refl; logged = (refl, refl); above = refl }
 
 pub grants-nobody : GrantsNobody
 unfolding bytesOf openedBlank ranWith repliesIn

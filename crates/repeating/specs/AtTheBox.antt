@@ -10,7 +10,7 @@ use Rattle.rules.specs.declared.state.Status.{Status}
 use Rattle.rules.specs.declared.state.Status.the-variants.{Free, Asked, Running}
 use Rattle.rules.specs.declared.state.Last.{Last}
 use Rattle.rules.specs.declared.state.Last.the-variants.{Nothing, Done}
-use Rattle.rules.specs.State.{trainOf, stateWith, withTrain}
+use Rattle.rules.specs.State.{trainOf, withTrain, counting}
 use Rattle.assurance.specs.Types.{Message, State, Verdict, Sent, RefusedBy}
 use Rattle.assurance.specs.Run.{Ran}
 use Rattle.assurance.specs.Observer.{asked, authority}
@@ -92,27 +92,35 @@ pub record LastMoveOnly : Type 0 where
   pub at-start : verdictsOf (ran bookX (map bytesOf (am 0 0 1 ∷ am 0 1 0 ∷ am 0 0 0 ∷ [])))
       ≡ RefusedBy 12 ∷ RefusedBy 9 ∷ RefusedBy 9 ∷ []
 
--- ---- a full journal
+-- ---- high counts
 
 -- on Y train 0 has finished its first move and runs on, train 1 has asked, and train 2 is Free
 abbrev pub oneOfEach : State
 oneOfEach = ran bookY (map bytesOf (fa 0 0 1 ∷ am 0 0 1 ∷ fa 1 0 1 ∷ fa 0 1 2 ∷ [])) .state
 
--- so many records; three repeats, then a request and an arrival that are none
+-- so many records counted; three repeats
 abbrev pub repeatsAt : ℕ → Ran
-repeatsAt n =
-    let s = oneOfEach in
-    ranWithoutBits (stateWith s (s .fleet) (s .possessions) (s .given) n)
-    (fa 1 0 1 ∷ fa 0 1 2 ∷ am 0 0 1 ∷ fa 2 2 1 ∷ am 0 1 2 ∷ [])
+repeatsAt n = ranWithoutBits (counting oneOfEach n) (fa 1 0 1 ∷ fa 0 1 2 ∷ am 0 0 1 ∷ [])
 
-pub record FullJournal : Type 0 where
-  -- "both are answered before 13", with six records left and fewer, down to none
-  pub verdicts : map (λ n. verdictsOf (repeatsAt n)) (230 ∷ 231 ∷ 232 ∷ 233 ∷ 234 ∷ 235 ∷ 236 ∷ [])
-      ≡ replicate 7 (Sent 1 ∷ Sent 1 ∷ Sent 0 ∷ RefusedBy 13 ∷ RefusedBy 13 ∷ [])
-  pub replies : repliesIn (repeatsAt 236) ≡ (afe 1 0 1 ∷ []) ∷ (fe 0 1 2 ∷ []) ∷ [] ∷ [] ∷ [] ∷ []
+-- the same, then a request and an arrival that are none
+abbrev pub newAfterRepeatsAt : ℕ → Ran
+newAfterRepeatsAt n =
+    ranWithoutBits (counting oneOfEach n) (fa 1 0 1 ∷ fa 0 1 2 ∷ am 0 0 1 ∷ fa 2 2 1 ∷ am 0 1 2 ∷ [])
+
+pub record HighCounts : Type 0 where
+  -- "both are answered before 13", which card 7 removes: they are answered at every count that is not strange. The
+  -- request then finds the count that there was before them: with its AFE it leads from 227 to 229, where the arrival
+  -- is taken, and from 228 to 230, where it is 1.
+  pub verdicts : map (λ n. verdictsOf (newAfterRepeatsAt n)) (223 ∷ 224 ∷ 225 ∷ 226 ∷ 227 ∷ 228 ∷ 229 ∷ [])
+      ≡ replicate 5 (Sent 1 ∷ Sent 1 ∷ Sent 0 ∷ Sent 1 ∷ Sent 0 ∷ [])
+      ++ replicate 2 (Sent 1 ∷ Sent 1 ∷ Sent 0 ∷ Sent 1 ∷ RefusedBy 1 ∷ [])
+  pub replies : repliesIn (repeatsAt 229) ≡ (afe 1 0 1 ∷ []) ∷ (fe 0 1 2 ∷ []) ∷ [] ∷ []
   -- "neither is logged or changes the state"
-  pub statuses : statusesIn (repeatsAt 236 .state) (0 ∷ 1 ∷ 2 ∷ []) ≡ Running (record { 0 = 1 }) ∷ Asked 3 ∷ Free ∷ []
-  pub logged : (repeatsAt 236 .state .logged ≡ 236) × (repeatsAt 236 .journal ≡ replicate journalLength blank)
+  pub statuses : statusesIn (repeatsAt 229 .state) (0 ∷ 1 ∷ 2 ∷ []) ≡ Running (record { 0 = 1 }) ∷ Asked 3 ∷ Free ∷ []
+  pub logged : (repeatsAt 229 .state .logged ≡ 229) × (repeatsAt 229 .journal ≡ replicate journalLength blank)
+  -- 02, card 7: "A state whose journal count is above 229 becomes strange, refusal 1.", for a repeat as well
+  pub above : map (λ n. verdictsOf (newAfterRepeatsAt n)) (230 ∷ 231 ∷ 232 ∷ 233 ∷ 234 ∷ 235 ∷ 236 ∷ [])
+      ≡ replicate 7 (replicate 5 (RefusedBy 1))
 
 -- ---- an altered table
 

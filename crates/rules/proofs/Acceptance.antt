@@ -1,5 +1,5 @@
--- What the checks say of an accepted frame: it is new, or it repeats an earlier one. What a new one leaves: a valid
--- state of the same line, with at most seven records logged and counted; and nobody who can be granted.
+-- What the checks say of an accepted frame: it is new, or it repeats an earlier one. What a new one leaves: a
+-- consistent state of the same line, with at most seven records logged and counted; and nobody who can be granted.
 use mathlib.Core.Path.{_≡_, refl, sym, ap, subst, _∙_}
 use mathlib.Core.Logic.{_≢_, ⊎-elim}
 use mathlib.Core.Bool.{Bool, true, false, not, cond, _&&_, false≢true}
@@ -17,7 +17,7 @@ use Rattle.common.proofs.Tests.{by-cases, by-equality, not-passed, and-left, an
 use Rattle.common.proofs.Below.{count-le, count-some}
 use Rattle.common.proofs.Check.{passed-by, both-pass, accepts, refuses}
 use Rattle.line.specs.Refusal.{strangeState, shortStore, wrongEnd, unknownTrain, atItsEnd, wrongPost}
-use Rattle.line.specs.Refusal.{noAuthority, journalFull, sectionTaken, noLocalRun, twentyGiven}
+use Rattle.line.specs.Refusal.{noAuthority, sectionTaken, noLocalRun, twentyGiven}
 use Rattle.line.proofs.Travel.{next-other}
 use Rattle.frame.specs.Frame.{FE, readFrame}
 use Rattle.frame.specs.RoundTrip.{IsMessage}
@@ -32,12 +32,12 @@ use Rattle.rules.specs.State.{withStatus, arrivedNext, withTrain, withPo
 use Rattle.rules.specs.Valid.{mostGiven, valid}
 use Rattle.rules.specs.Granting.{grantable, Work, begun, sends, settled}
 use Rattle.rules.specs.Answer.{outLength, mostLogged, forBox, outerChecks, knows, moveChecks, gangByte}
-use Rattle.rules.specs.Answer.{requestChecks, arrivalChecks, askedAgain, again, ofNew, contentChecks, frameChecks}
+use Rattle.rules.specs.Answer.{arrivalChecks, askedAgain, again, ofNew, contentChecks, frameChecks}
 use Rattle.rules.specs.Answer.{taken, declined, repeated, anew, accepted, runsGranting}
 use Rattle.rules.specs.Answer.{verdictNumber, verdictFrames, Answer, answered, refused, answer, NumbersTold}
 use Rattle.rules.specs.Repeats.{toldAgain}
 use Rattle.rules.proofs.Trains.{free-idle, changed-line}
-use Rattle.rules.proofs.Validity.{Consistent, finished-move, valid-facts, is-valid}
+use Rattle.rules.proofs.Validity.{Consistent, finished-move, valid-facts, few-logged}
 use Rattle.rules.proofs.Changes.{valid-logged, valid-request, valid-arrival}
 use Rattle.rules.proofs.Oldest.{Nobody}
 use Rattle.rules.proofs.Possessions.{valid-possession, lent-nobody}
@@ -46,9 +46,12 @@ use Rattle.rules.proofs.Settling.{Settles, settled-settles, settled-val
 
 -- ---- the checks
 
--- the journal has room for a frame and its answers
+-- the journal has room for a frame and its answers: as it has in every valid state
 abbrev pub RoomLeft : State → Type 0
 RoomLeft s = s .logged + mostLogged ≤ journalLength
+
+pub room-left : (s : State) → valid s ≡ true → RoomLeft s
+room-left s e = omega (arith, few-logged s e)
 
 -- the move is the next one of a train that is short of its end
 pub record NextMove (s : State) (m : Move) : Type 0 where
@@ -63,7 +66,7 @@ pub record Section (s : State) (m : Move) : Type 0 where
   pub upper : m .to .0 ≡ m .from .0 + 1
   pub on : m .from .0 + 1 < s .posts
 
--- a message that repeats none and passes all checks of its content but 13
+-- a message that repeats none and passes all checks of its content
 pub data Taken (s : State) : Message → Type 0 where
   request : (m : Move) → NextMove s m → isFree (trainOf s (m .train .0) .status) ≡ true → Taken s (Fa m)
   arrival : (m : Move) → NextMove s m → isRunning (trainOf s (m .train .0) .status) ≡ true → Taken s (Am m)
@@ -80,13 +83,14 @@ pub data Repeats (s : State) : Message → List Message → Type 0 where
   arrived-before : (m : Move) → m .train .0 < s .trains
       → isLast (trainOf s (m .train .0) .last) (m .from .0) (m .to .0) ≡ true → Repeats s (Am m) []
 
--- what passes the checks of its content: a new message, for which the journal has room, or a repeat
+-- what passes the checks of its content: a new message or a repeat
 pub data Content (s : State) (a : Message) : Type 0 where
-  new : Taken s a → RoomLeft s → Content s a
+  new : Taken s a → Content s a
   old : (answers : List Message) → Repeats s a answers → Content s a
 
 pub record Passed (s : State) (table : List ℕ) (journal : List Record) (frame out : List ℕ) : Type 0 where
   pub valid-state : Consistent s
+  pub room : RoomLeft s
   pub long-table : tableLength ≤ length table
   pub long-journal : journalLength ≤ length journal
   pub long-out : outLength ≤ length out
@@ -121,33 +125,24 @@ module _ (s : State) where
     on = neighbours m posts .1;
   }
 
-  -- the checks of an FA and of an AM, by what it is answered by as a repeat
-  abbrev requestContent : Move → Option (List Message) → List Check
-  requestContent m answers =
-      check unknownTrain (knows s m) ∷ moveChecks (trainOf s (m .train .0)) m ++ ofNew answers (requestChecks s)
-
+  -- the checks of an AM, by what it is answered by as a repeat
   abbrev arrivalContent : Move → Option (List Message) → List Check
   arrivalContent m answers =
       let x = trainOf s (m .train .0) in
-      check unknownTrain (knows s m) ∷ ofNew answers (moveChecks x m ++ arrivalChecks s x)
+      check unknownTrain (knows s m) ∷ ofNew answers (moveChecks x m ++ arrivalChecks x)
 
-  -- what holds of the checks of each message for the box, new or a repeat, and of no check, holds of every message's
-  module _ (P : List Check → Type 0)
-      (fa : (m : Move) → P (requestContent m none)) (fa-again : (m : Move) → P (requestContent m (some [])))
+  -- what holds of the checks of each message for the box, an AM new or a repeat, and of no check, holds of every
+  -- message's
+  module _ (P : List Check → Type 0) (fa : (m : Move) → P (contentChecks s (Fa m)))
       (am : (m : Move) → P (arrivalContent m none)) (am-again : (m : Move) → P (arrivalContent m (some [])))
       (la : (m : Move) → P (contentChecks s (La m))) (lb : (m : Move) → P (contentChecks s (Lb m)))
       (others : P []) where
-    by-request : (m : Move) (w : Status) → P (requestContent m (askedAgain w m))
-    by-request m Free = fa m
-    by-request m (Asked n) = fa-again m
-    by-request m (Running k) = fa-again m
-
     by-arrival : (m : Move) (last : Bool) → P (arrivalContent m (cond last (some []) none))
     by-arrival m true = am-again m
     by-arrival m false = am m
 
     pub by-content : (a : Message) → P (contentChecks s a)
-    by-content (Fa m) = by-request m (trainOf s (m .train .0) .status)
+    by-content (Fa m) = fa m
     by-content (Am m) = by-arrival m (isLast (trainOf s (m .train .0) .last) (m .from .0) (m .to .0))
     by-content (La m) = la m
     by-content (Lb m) = lb m
@@ -156,20 +151,10 @@ module _ (s : State) where
     by-content (Le m) = others
     by-content (Refused n) = others
 
-  request-passed : (m : Move) (w : Status) → trainOf s (m .train .0) .status ≡ w
-      → refusal (requestContent m (askedAgain w m)) ≡ 0 → Content s (Fa m)
-  request-passed m Free free e =
-      let passed = passed-by (requestContent m none) refl e in
-      new (request m (next-move m (passed unknownTrain) (passed atItsEnd) (passed wrongPost)) (ap isFree free))
-      (leb-true _ _ (passed journalFull))
-  request-passed m (Asked n) asks e =
-      let passed = passed-by (requestContent m (some [])) refl e in
-      old (Afe m ∷ [])
-      (declined-before m (next-move m (passed unknownTrain) (passed atItsEnd) (passed wrongPost)) (ap isAsked asks))
-  request-passed m (Running k) runs e =
-      let passed = passed-by (requestContent m (some [])) refl e in
-      old (Fe m ∷ [])
-      (granted-before m (next-move m (passed unknownTrain) (passed atItsEnd) (passed wrongPost)) (ap isRunning runs))
+  request-passed : (m : Move) (w : Status) → trainOf s (m .train .0) .status ≡ w → NextMove s m → Content s (Fa m)
+  request-passed m Free free n = new (request m n (ap isFree free))
+  request-passed m (Asked k) asks n = old (Afe m ∷ []) (declined-before m n (ap isAsked asks))
+  request-passed m (Running k) runs n = old (Fe m ∷ []) (granted-before m n (ap isRunning runs))
 
   arrival-passed : (m : Move) (last : Bool)
       → isLast (trainOf s (m .train .0) .last) (m .from .0) (m .to .0) ≡ last
@@ -179,23 +164,21 @@ module _ (s : State) where
       old [] (arrived-before m (ltb-true _ _ (passed unknownTrain)) finished)
   arrival-passed m false other e =
       let passed = passed-by (arrivalContent m none) refl e in
-      new
-      (arrival m (next-move m (passed unknownTrain) (passed atItsEnd) (passed wrongPost)) (passed noAuthority))
-      (leb-true _ _ (passed journalFull))
+      new (arrival m (next-move m (passed unknownTrain) (passed atItsEnd) (passed wrongPost)) (passed noAuthority))
 
   content-passed : (a : Message) → forBox a ≡ true → refusal (contentChecks s a) ≡ 0 → Content s a
-  content-passed (Fa m) kind e = request-passed m _ refl e
+  content-passed (Fa m) kind e =
+      let passed = passed-by (contentChecks s (Fa m)) refl e in
+      request-passed m _ refl (next-move m (passed unknownTrain) (passed atItsEnd) (passed wrongPost))
   content-passed (Am m) kind e = arrival-passed m _ refl e
   content-passed (La m) kind e =
       let passed = passed-by (contentChecks s (La m)) refl e in
       new
       (lending m (of-section m (passed unknownTrain) (passed wrongPost))
       (eqb-true _ _ (passed sectionTaken)) (ltb-true _ _ (passed twentyGiven)))
-      (leb-true _ _ (passed journalFull))
   content-passed (Lb m) kind e =
       let passed = passed-by (contentChecks s (Lb m)) refl e in
       new (return m (of-section m (passed unknownTrain) (passed wrongPost)) (passed noLocalRun))
-      (leb-true _ _ (passed journalFull))
   content-passed (Fe m) kind e = absurd (false≢true kind)
   content-passed (Afe m) kind e = absurd (false≢true kind)
   content-passed (Le m) kind e = absurd (false≢true kind)
@@ -212,6 +195,7 @@ module _ (s : State) (table : List ℕ) (journal : List Record) (frame out : Lis
       let rest = and-right (leb tableLength (length table)) _ stores in
       record {
         valid-state = valid-facts s (passed strangeState);
+        room = room-left s (passed strangeState);
         long-table = leb-true _ _ (and-left (leb tableLength (length table)) _ stores);
         long-journal = leb-true _ _ (and-left (leb journalLength (length journal)) _ rest);
         long-out = leb-true _ _ (and-right (leb journalLength (length journal)) _ rest);
@@ -221,7 +205,7 @@ module _ (s : State) (table : List ℕ) (journal : List Record) (frame out : Lis
 -- ---- new messages are no repeats
 
 -- a Free train's FA is no repeat
-pub free-new : (w : Status) (m : Move) → isFree w ≡ true → askedAgain w m ≡ none
+free-new : (w : Status) (m : Move) → isFree w ≡ true → askedAgain w m ≡ none
 free-new Free m e = refl
 free-new (Asked n) m e = absurd (false≢true e)
 free-new (Running k) m e = absurd (false≢true e)
@@ -292,7 +276,7 @@ pub by-verdict : (s : State) (table : List ℕ) (journal : List Record) (frame o
     → P (refused s journal out n))
     → (Passed s table journal frame out → (answers : List Message) → Repeats s (readFrame frame) answers
     → P (toldAgain s journal out answers))
-    → (Passed s table journal frame out → Taken s (readFrame frame) → RoomLeft s
+    → (Passed s table journal frame out → Taken s (readFrame frame)
     → P (answered (s .logged) journal out (anew table s (readFrame frame))))
     → P (answer s table journal frame out)
 unfolding answer
@@ -307,8 +291,8 @@ by-verdict s table journal frame out P declines repeats takes =
   where
     by-content-of : Passed s table journal frame out → Content s (readFrame frame)
         → P (answered (s .logged) journal out (accepted table s (readFrame frame)))
-    by-content-of p (new t room) =
-        rw (accepted-anew table s (readFrame frame) (taken-new s (p .valid-state) (readFrame frame) t)) (takes p t room)
+    by-content-of p (new t) =
+        rw (accepted-anew table s (readFrame frame) (taken-new s (p .valid-state) (readFrame frame) t)) (takes p t)
     by-content-of p (old answers r) =
         rw (accepted-again table s (readFrame frame) (repeats-again r), told-again s journal out answers)
         (repeats p answers r)
@@ -323,7 +307,7 @@ refusal-leaves s table journal frame out n =
     (λ a. a .verdict ≡ RefusedBy n → a ≡ refused s journal out n)
     (λ k q e. let same : k ≡ n = cc in rw same)
     (λ p answers r e. absurd (let z : _≡_ {A = ℕ} 0 1 = cc in omega arith))
-    (λ p t room e. absurd (let z : _≡_ {A = ℕ} 0 1 = cc in omega arith))
+    (λ p t e. absurd (let z : _≡_ {A = ℕ} 0 1 = cc in omega arith))
 
 pub numbers-told : NumbersTold
 numbers-told s table journal frame out =
@@ -331,7 +315,7 @@ numbers-told s table journal frame out =
     (λ a. (a .number ≡ verdictNumber (a .verdict)) × (a .frames ≡ verdictFrames (a .verdict)))
     (λ n e. (refl, refl))
     (λ p answers r. (refl, refl))
-    (λ p t room. (refl, refl))
+    (λ p t. (refl, refl))
 
 -- ---- what is left
 
@@ -500,13 +484,6 @@ accepted-facts table s d a (lending m n free few) =
 accepted-facts table s d a (return m n held) =
     settled-accepted table s (Lb m) (λ e. omega (arith, e)) _
     (return-begins s d (m .from .0))
-
--- the state is valid, its count included
-pub accepted-valid : (table : List ℕ) (s : State) → Consistent s → (a : Message) → Taken s a → RoomLeft s
-    → valid (anew table s a .state) ≡ true
-accepted-valid table s d a t room =
-    let k = accepted-facts table s d a t in
-    is-valid _ (k .valid-state) (omega (arith, k .counted, k .few))
 
 -- ---- nobody is left
 

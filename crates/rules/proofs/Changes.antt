@@ -1,6 +1,6 @@
--- What keeps a state valid: one law for every change of one train's record, with or without a record logged, and its
--- four uses, a request, an arrival, a grant and a record logged alone. The change may count a train as a holder where
--- the old record was one, or where there is room.
+-- What keeps a state consistent: one law for every change of one train's record, with or without a record logged, and
+-- its four uses, a request, an arrival, a grant and a record logged alone. The change may count a train as a holder
+-- where the old record was one, or where there is room.
 use mathlib.Core.Path.{_≡_, refl, sym, subst, _∙_}
 use mathlib.Core.Logic.{_≢_}
 use mathlib.Core.Bool.{Bool, true, false, not, _&&_, _||_, or-false, or-true, false≢true, true≢false}
@@ -25,7 +25,7 @@ use Rattle.completion.specs.Table.{bitOf}
 use Rattle.rules.specs.Types.{Asked, Train, State}
 use Rattle.rules.specs.State.{isAsked, isRunning, askedAs, atEnd, nextOf, locatedAt, trackAt, trainOf, lineOf}
 use Rattle.rules.specs.State.{located, holdersOf, trackHeld, freeTrack, reached, withStatus, arrivedNext}
-use Rattle.rules.specs.State.{withTrain, oneLogged}
+use Rattle.rules.specs.State.{withTrain, counting, oneLogged}
 use Rattle.rules.specs.Granting.{grantable, granting}
 use Rattle.rules.proofs.Trains.{asked-idle, idle-ahead, in-fleet, changed, changed-own, changed-other}
 use Rattle.rules.proofs.Trains.{changed-each, changed-line, changed-count}
@@ -133,9 +133,9 @@ module _ (table : List ℕ) (s : State) (t : ℕ) where
 
 -- ---- its uses
 
--- one record more, and no train changed
-pub valid-logged : (s : State) → Consistent s → Consistent (oneLogged s)
-valid-logged s d = record {
+-- more records, and no train changed: no request's number leaves its range
+pub valid-counted : (s : State) (n : ℕ) → Consistent s → s .logged ≤ n → Consistent (counting s n)
+valid-counted s n d more = record {
   line = d .line;
   each = λ u k.
       let v = d .each u k in record {
@@ -152,6 +152,9 @@ valid-logged s d = record {
   distinct = d .distinct;
   few-given = d .few-given;
 }
+
+pub valid-logged : (s : State) → Consistent s → Consistent (oneLogged s)
+valid-logged s d = valid-counted s (s .logged + 1) d (omega arith)
 
 -- a Running train that becomes Free where it ran to holds no more than before, whether it is stabled there or not
 fewer-held : (c a b : Bool) → ofBool (not c && b) ≤ ofBool (a || b)

@@ -12,6 +12,7 @@ pub mod Acceptance
 pub mod Frames
 pub mod Refusals
 pub mod Repeats
+pub mod Counts
 pub mod Taking
 pub mod Starting
 pub mod OpeningCases

@@ -1,5 +1,5 @@
 -- Sections in the hands of gangs (02, card 4): what a state says of them when one is lent or given back, and that it
--- stays valid.
+-- stays consistent.
 use mathlib.Core.Path.{_≡_, subst, _∙_}
 use mathlib.Core.Logic.{_≢_}
 use mathlib.Core.Bool.{Bool, true, false, _&&_, and-false}

@@ -3,7 +3,7 @@ use mathlib.Core.Path.{_≡_, refl, sym, ap, subst}
 use mathlib.Core.Logic.{_≢_, _⊎_, ⊎-elim}
 use mathlib.Core.Bool.{Bool, true, false, not, _&&_, and-false, false≢true}
 use mathlib.Core.Option.{none}
-use mathlib.Core.List.{List, _∷_, _++_}
+use mathlib.Core.List.{List, [], _∷_, _++_}
 use Prim.Native.Nat.{ℕ, _+_, _≤_, _<_}
 use native.Mathlib.Omega.{arith}
 use lib.Dec.{leb, ltb, eqb}
@@ -20,13 +20,13 @@ use Rattle.journal.specs.Journal.{journalLength}
 use Rattle.completion.specs.Table.{tableLength}
 use Rattle.rules.specs.Types.{Move, Message, Fa, Fe, Afe, Am, La, Le, Lb, Refused}
 use Rattle.rules.specs.State.{isLast, nextOf}
-use Rattle.rules.specs.Answer.{outLength, forBox, knows, moveChecks, requestChecks, arrivalChecks}
+use Rattle.rules.specs.Answer.{outLength, forBox, knows, moveChecks, arrivalChecks}
 use Rattle.rules.specs.Answer.{again, ofNew, contentChecks, sectionChecks, lendingChecks, returnChecks}
 use Rattle.rules.specs.Answer.{frameChecks, accepted, Answer, answered, refused, answer}
 use Rattle.rules.specs.Refusals.{Handed, RefusedAs, Prepared, ofTrain, ofGang, Reads, named, NamesNext}
 use Rattle.rules.specs.Refusals.{NotFinished, NamesSection, Refusals}
 use Rattle.rules.proofs.Validity.{valid-facts}
-use Rattle.rules.proofs.Acceptance.{free-new, arrival-new}
+use Rattle.rules.proofs.Acceptance.{arrival-new}
 
 pub is-message : (a : Message) → forBox a ≡ true → IsMessage a
 unfolding IsMessage
@@ -133,9 +133,9 @@ module _ (h : Handed) where
         at : (b : Message) → ofTrain b ≡ true → knows (h .state) (moveIn b) ≡ true → NotFinished h b
             → ((cs : List Check) → Refuses (moveChecks (named h b) (moveIn b) ++ cs) n)
             → Refuses (contentChecks (h .state) b) n
-        at (Fa m) e k o f = pass k (f _)
+        at (Fa m) e k o f = pass k (f [])
         at (Am m) e k o f =
-            let onward = moveChecks (named h (Am m)) m ++ arrivalChecks (h .state) (named h (Am m)) in
+            let onward = moveChecks (named h (Am m)) m ++ arrivalChecks (named h (Am m)) in
             let rest : Refuses (ofNew (again (h .state) (Am m)) onward) n = rw (o m refl) (f _) in
             pass k rest
         at (Fe m) e k o f = absurd (false≢true e)
@@ -189,17 +189,17 @@ module _ (h : Handed) where
         (λ e. rw (ne-eqb (moveIn a .to .0) (moveIn a .from .0 + 1) e))
         (λ e. rw (le-ltb (moveIn a .to .0) (h .state .posts) e) (and-false (eqb (moveIn a .to .0) _)))
 
-  -- an FA that names its train's next move, by what it is answered by as a repeat
-  pub after-asking : {n : ℕ} (m : Move) → NamesNext h (Fa m)
-      → Refuses (ofNew (again (h .state) (Fa m)) (requestChecks (h .state))) n → Refuses checks n
-  after-asking m v r = after-kind (Fa m) (v .reads) refl (pass (lt-ltb _ _ (v .known)) (after-posts (Fa m) _ v r))
+  -- an FA that names its train's next move passes, new or a repeat
+  pub after-asking : (m : Move) → NamesNext h (Fa m) → Refuses checks 0
+  after-asking m v =
+      after-kind (Fa m) (v .reads) refl (pass (lt-ltb _ _ (v .known)) (after-posts (Fa m) [] v no-check))
 
   -- an AM that names it is no repeat
   next-new : (m : Move) → NamesNext h (Am m) → again (h .state) (Am m) ≡ none
   next-new m v = arrival-new (h .state) (valid-facts (h .state) (v .reads .prepared .valid-state)) m
       (record { known = v .known; short = v .short; from = v .from; to = v .to })
 
-  pub after-arriving : {n : ℕ} (m : Move) → NamesNext h (Am m) → Refuses (arrivalChecks (h .state) (named h (Am m))) n
+  pub after-arriving : {n : ℕ} (m : Move) → NamesNext h (Am m) → Refuses (arrivalChecks (named h (Am m))) n
       → Refuses checks n
   after-arriving m v r =
       after-kind (Am m) (v .reads) refl
@@ -243,10 +243,4 @@ refusals = record {
   section-taken = λ h m v e. by-number h (omega arith) (after-lending h m v (stop (ne-eqb _ _ e)));
   twenty = λ h m v e l. by-number h (omega arith) (after-lending h m v (pass (eq-eqb _ _ e) (stop (le-ltb _ _ l))));
   not-lent = λ h m v e. by-number h (omega arith) (after-return h m v (stop e));
-  full-request = λ h m v e l. by-number h (omega arith)
-      (after-asking h m v (rw (free-new (named h (Fa m) .status) m e) (stop (lt-leb _ _ l))));
-  full-arrival = λ h m v e l. by-number h (omega arith) (after-arriving h m v (pass e (stop (lt-leb _ _ l))));
-  full-lending = λ h m v e k l. by-number h (omega arith)
-      (after-lending h m v (pass (eq-eqb _ _ e) (pass (lt-ltb _ _ k) (stop (lt-leb _ _ l)))));
-  full-return = λ h m v e l. by-number h (omega arith) (after-return h m v (pass e (stop (lt-leb _ _ l))));
 }

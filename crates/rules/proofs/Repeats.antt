@@ -7,7 +7,7 @@ use mathlib.Core.List.{List}
 use Prim.Native.Nat.{ℕ, _≤_, _<_}
 use native.Mathlib.Omega.{arith}
 use borrow.Author.Tests.{eq-eqb}
-use Rattle.common.proofs.Check.{Refuses, none, clear, not-given, refusal-is, accepts}
+use Rattle.common.proofs.Check.{Refuses, clear, not-given, refusal-is, accepts}
 use Rattle.line.specs.Route.{nextPost}
 use Rattle.line.proofs.Travel.{Between, of-between, next-up, next-down}
 use Rattle.frame.specs.Frame.{readFrame}
@@ -16,7 +16,7 @@ use Rattle.rules.specs.State.{isNothing, isLast, trainOf}
 use Rattle.rules.specs.Answer.{again, accepted, answered, refused, answer}
 use Rattle.rules.specs.Refusals.{Handed, RefusedAs, NamesNext}
 use Rattle.rules.specs.Repeats.{AnsweredBy, CameBy, RepeatsAnswered}
-use Rattle.rules.proofs.Validity.{valid-facts, is-last, none-finished, one-finished}
+use Rattle.rules.proofs.Validity.{consistent-facts, is-last, none-finished, one-finished}
 use Rattle.rules.proofs.Acceptance.{NextMove, Repeats, declined-before, granted-before, repeats-again}
 use Rattle.rules.proofs.Acceptance.{by-content, accepted-again, told-again, by-verdict}
 use Rattle.rules.proofs.Refusals.{checks, after-asking, after-finish}
@@ -36,15 +36,15 @@ request-again : (h : Handed) (m : Move) {answers : List Message} → NamesNext h
     → (NextMove (h .state) m → Repeats (h .state) (Fa m) answers) → AnsweredBy h answers
 request-again h m v r =
     let e = repeats-again (r (record { known = v .known; short = v .short; from = v .from; to = v .to })) in
-    again-answered h (Fa m) (v .reads .message) e (after-asking h m v (rw e none))
+    again-answered h (Fa m) (v .reads .message) e (after-asking h m v)
 
 -- a number that no check has is given by none
-not-a-number : (h : Handed) (n : ℕ) → 0 < n → clear n (checks h) ≡ true → RefusedAs n h → ⊥
+pub not-a-number : (h : Handed) (n : ℕ) → 0 < n → clear n (checks h) ≡ true → RefusedAs n h → ⊥
 not-a-number h n positive c =
     by-verdict (h .state) (h .table) (h .journal) (h .frame) (h .out) (λ a. a .verdict ≡ RefusedBy n → ⊥)
     (λ k q e. let same : k ≡ n = cc in not-given n (checks h) positive c (q ∙ same))
     (λ p answers r e. let z : _≡_ {A = ℕ} 0 1 = cc in omega arith)
-    (λ p t room e. let z : _≡_ {A = ℕ} 0 1 = cc in omega arith)
+    (λ p t e. let z : _≡_ {A = ℕ} 0 1 = cc in omega arith)
 
 -- no move is finished: there is none
 no-last : (x : Last) → isNothing x ≡ true → x ≡ Nothing
@@ -83,12 +83,12 @@ repeats-answered = record {
       let last = named-last _ _ _ e in
       again-answered h (Am m) (v .message) (rw last) (after-finish h m v known last);
   ten-gone = λ h. not-a-number h 10 (omega arith) (by-content (h .state) (λ cs. clear 10 cs ≡ true)
-      (λ m. refl) (λ m. refl) (λ m. refl) (λ m. refl) (λ m. refl) (λ m. refl) refl (readFrame (h .frame)));
+      (λ m. refl) (λ m. refl) (λ m. refl) (λ m. refl) (λ m. refl) refl (readFrame (h .frame)));
   eleven-gone = λ h. not-a-number h 11 (omega arith) (by-content (h .state) (λ cs. clear 11 cs ≡ true)
-      (λ m. refl) (λ m. refl) (λ m. refl) (λ m. refl) (λ m. refl) (λ m. refl) refl (readFrame (h .frame)));
-  none-at-start = λ s t d k e. no-last _ (none-finished (trainOf s t) (valid-facts s d .each t k .finished) e);
+      (λ m. refl) (λ m. refl) (λ m. refl) (λ m. refl) (λ m. refl) refl (readFrame (h .frame)));
+  none-at-start = λ s t d k e. no-last _ (none-finished (trainOf s t) (consistent-facts s d .each t k .finished) e);
   one-past-start = λ s t d k h.
-      let v = valid-facts s d .each t k in (
+      let v = consistent-facts s d .each t k in (
         record { 0 = nextPost (trainOf s t .at .0) (trainOf s t .route .start .0) },
         trainOf s t .at,
         is-last _ _ _ (one-finished (trainOf s t) (v .finished) h),

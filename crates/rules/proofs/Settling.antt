@@ -1,5 +1,6 @@
 -- What the granting leaves of the work that it begins with: lines, routes and posts are the same, and each answer is
--- paid for by an Asked train. In a valid state with room in the journal for every Asked train it leaves a valid state.
+-- paid for by an Asked train. A consistent state stays consistent, and the records of all Asked trains are in the
+-- journal where there was room for them.
 use mathlib.Core.Path.{_≡_, refl, sym, ap, subst, _∙_}
 use mathlib.Core.Logic.{_≢_, ⊎-elim}
 use mathlib.Core.List.{List, [], _∷_, _++_, append-assoc, append-nil, map, map-append, List·Memᴰ}
@@ -131,7 +132,7 @@ granted-valid table w t d f = valid-grant (w .state) d t (f .known) table (f .ca
 pub settled-valid : (table : List ℕ) (w : Work) → Consistent (w .state) → Consistent (settled table w .state)
 settled-valid table w = grants-keep table (λ v. Consistent (v .state)) (granted-valid table) (w .state .trains) w
 
--- a valid state, and room for a record of each Asked train
+-- a consistent state, and room for a record of each Asked train
 pub record Roomy (w : Work) : Type 0 where
   pub valid-state : Consistent (w .state)
   pub room : w .state .logged + askedCount (w .state) ≤ journalLength

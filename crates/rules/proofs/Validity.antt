@@ -1,5 +1,5 @@
 -- Valid states as facts, both ways: `Consistent s` holds exactly where the test `consistent s` passes. It says all that
--- `valid s` asks but the range of the count, which no change of a record can break.
+-- `valid s` asks but the range of the count, which a frame that is logged may leave.
 use mathlib.Core.Path.{_≡_, refl, sym, subst, _∙_}
 use mathlib.Core.Logic.{_≢_, ⊎-elim}
 use mathlib.Core.Bool.{Bool, true, false, not, _&&_, _||_, false≢true, true≢false}

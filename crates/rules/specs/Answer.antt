@@ -10,7 +10,7 @@ use lib.ListN.{length}
 use Rattle.common.specs.Check.{Check, check, refusal, unlessRefused}
 use Rattle.common.specs.Part.{replaced}
 use Rattle.line.specs.Refusal.{strangeState, shortStore, wrongEnd, unknownTrain, atItsEnd, wrongPost}
-use Rattle.line.specs.Refusal.{noAuthority, journalFull, sectionTaken, noLocalRun, twentyGiven}
+use Rattle.line.specs.Refusal.{noAuthority, sectionTaken, noLocalRun, twentyGiven}
 use Rattle.frame.specs.Frame.{frameLength, moveIn, readChecks, readFrame, bytesOf}
 use Rattle.journal.specs.Journal.{journalLength, mostSent, batchLength, recordOf}
 use Rattle.completion.specs.Table.{tableLength}
@@ -60,17 +60,9 @@ moveChecks x m =
     ∷ check wrongPost (eqb (m .from .0) (x .at .0) && eqb (m .to .0) (nextOf x))
     ∷ []
 
--- 13: "fewer than 7 records left of 176", of 236 by card 4
-abbrev pub hasRoom : State → Bool
-hasRoom s = leb (s .logged + mostLogged) journalLength
-
--- "then 13" for FA
-abbrev pub requestChecks : State → List Check
-requestChecks s = check journalFull (hasRoom s) ∷ []
-
--- "then .. 12 for AM, then 13"
-abbrev pub arrivalChecks : State → Train → List Check
-arrivalChecks s x = check noAuthority (isRunning (x .status)) ∷ check journalFull (hasRoom s) ∷ []
+-- "then .. 12 for AM"
+abbrev pub arrivalChecks : Train → List Check
+arrivalChecks x = check noAuthority (isRunning (x .status)) ∷ []
 
 -- 02, card 4: LA and LB "have train byte 255 and name the two neighbouring posts, lower first": "a train byte not 255
 -- is 7 and posts not so named are 9"
@@ -83,17 +75,16 @@ sectionChecks s m =
     ∷ check wrongPost (eqb (m .to .0) (m .from .0 + 1) && ltb (m .to .0) (s .posts))
     ∷ []
 
--- "then for LA 24, section taken, and 26, twenty already given; .. then 13"
+-- "then for LA 24, section taken, and 26, twenty already given"
 abbrev pub lendingChecks : State → Move → List Check
 lendingChecks s m =
     check sectionTaken (sectionFree s (m .from .0))
     ∷ check twentyGiven (ltb (s .given) mostGiven)
-    ∷ check journalFull (hasRoom s)
     ∷ []
 
--- "for LB 25, no local run there; then 13"
+-- "for LB 25, no local run there"
 abbrev pub returnChecks : State → Move → List Check
-returnChecks s m = check noLocalRun (possessed s (m .from .0)) ∷ check journalFull (hasRoom s) ∷ []
+returnChecks s m = check noLocalRun (possessed s (m .from .0)) ∷ []
 
 -- ---- repeats: 02, card 6
 
@@ -124,15 +115,13 @@ abbrev pub ofNew : Option (List Message) → List Check → List Check
 ofNew none checks = checks
 ofNew (some answers) checks = []
 
--- of what the message says; any other message was refused by 6 or by its reading. An FA is known for a repeat after 9,
--- and an AM before 8: "The test for a finished move comes before 8." So "both are answered before 13".
+-- of what the message says; any other message was refused by 6 or by its reading. An FA that passes is new or a repeat.
+-- An AM is known for a repeat before 8: "The test for a finished move comes before 8."
 abbrev pub contentChecks : State → Message → List Check
-contentChecks s (Fa m) =
-    let x = trainOf s (m .train .0) in
-    check unknownTrain (knows s m) ∷ moveChecks x m ++ ofNew (again s (Fa m)) (requestChecks s)
+contentChecks s (Fa m) = check unknownTrain (knows s m) ∷ moveChecks (trainOf s (m .train .0)) m
 contentChecks s (Am m) =
     let x = trainOf s (m .train .0) in
-    check unknownTrain (knows s m) ∷ ofNew (again s (Am m)) (moveChecks x m ++ arrivalChecks s x)
+    check unknownTrain (knows s m) ∷ ofNew (again s (Am m)) (moveChecks x m ++ arrivalChecks x)
 contentChecks s (La m) = sectionChecks s m ++ lendingChecks s m
 contentChecks s (Lb m) = sectionChecks s m ++ returnChecks s m
 contentChecks s (Fe m) = []
@@ -141,7 +130,7 @@ contentChecks s (Le m) = []
 contentChecks s (Refused n) = []
 
 -- "Checks in order: 1, 2, 3, 4, 5, 6, 7, 8 (at its end), 9, then .. 12 for AM, then 13."; for LA and LB as card 4 says,
--- and a repeat ends them as card 6 says
+-- and an AM that is a repeat ends them as card 6 says. Card 7 removes 13.
 abbrev pub frameChecks : State → ℕ → ℕ → List ℕ → ℕ → List Check
 frameChecks s table records frame room =
     outerChecks s table records frame room ++ contentChecks s (readFrame frame)

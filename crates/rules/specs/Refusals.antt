@@ -1,8 +1,8 @@
 -- Which number refuses a frame, number by number: 01, "Declining by number", in the order of "Checks in order: 1, 2, 3,
 -- 4, 5, 6, 7, 8 (at its end), 9, then .. 12 for AM, then 13." 02, card 4: "for kinds 5 and 7, after 6, a train byte not
 -- 255 is 7 and posts not so named are 9; then for LA 24 .. and 26 ..; for LB 25 ..; then 13." Card 6: an AM of the last
--- finished move gets neither 8 nor 9, and "Refusals 10 and 11 go". Each is given whatever is wrong with what is checked
--- after it.
+-- finished move gets neither 8 nor 9, and "Refusals 10 and 11 go". Card 7 removes 13. Each is given whatever is wrong
+-- with what is checked after it.
 use mathlib.Core.Path.{_≡_}
 use mathlib.Core.Logic.{_≢_, _⊎_}
 use mathlib.Core.Bool.{Bool, true, false}
@@ -10,15 +10,15 @@ use mathlib.Core.List.{List}
 use Prim.Native.Nat.{ℕ, _+_, _≤_, _<_}
 use lib.ListN.{length}
 use Rattle.line.specs.Refusal.{strangeState, shortStore, wrongEnd, unknownTrain, atItsEnd, wrongPost}
-use Rattle.line.specs.Refusal.{noAuthority, journalFull, sectionTaken, noLocalRun, twentyGiven}
+use Rattle.line.specs.Refusal.{noAuthority, sectionTaken, noLocalRun, twentyGiven}
 use Rattle.frame.specs.Frame.{moveIn, readFrame}
 use Rattle.journal.specs.Journal.{journalLength}
 use Rattle.completion.specs.Table.{tableLength}
 use Rattle.rules.specs.Types.{Move, Message, Fa, Fe, Afe, Am, La, Le, Lb, Refused, Record, Train, State}
 use Rattle.rules.specs.Types.{RefusedBy}
-use Rattle.rules.specs.State.{isFree, isRunning, isLast, nextOf, trainOf, possessed, holdersOf}
+use Rattle.rules.specs.State.{isRunning, isLast, nextOf, trainOf, possessed, holdersOf}
 use Rattle.rules.specs.Valid.{mostGiven, valid}
-use Rattle.rules.specs.Answer.{outLength, mostLogged, gangByte, answer}
+use Rattle.rules.specs.Answer.{outLength, gangByte, Answer, answer}
 
 -- a frame, and what is handed in with it
 pub record Handed : Type 0 where
@@ -28,8 +28,11 @@ pub record Handed : Type 0 where
   pub frame : List ℕ
   pub out : List ℕ
 
+abbrev pub answerTo : Handed → Answer
+answerTo h = answer (h .state) (h .table) (h .journal) (h .frame) (h .out)
+
 abbrev pub RefusedAs : ℕ → Handed → Type 0
-RefusedAs n h = answer (h .state) (h .table) (h .journal) (h .frame) (h .out) .verdict ≡ RefusedBy n
+RefusedAs n h = answerTo h .verdict ≡ RefusedBy n
 
 -- 1 and 2 pass
 pub record Prepared (h : Handed) : Type 0 where
@@ -130,12 +133,3 @@ pub record Refusals : Type 0 where
   -- 25, "no local run there"
   pub not-lent : (h : Handed) (m : Move) → NamesSection h (Lb m) → possessed (h .state) (m .from .0) ≡ false
       → RefusedAs noLocalRun h
-  -- 13, journal full: "fewer than 7 records left of 176", 236 by card 4
-  pub full-request : (h : Handed) (m : Move) → NamesNext h (Fa m) → isFree (named h (Fa m) .status) ≡ true
-      → journalLength < h .state .logged + mostLogged → RefusedAs journalFull h
-  pub full-arrival : (h : Handed) (m : Move) → NamesNext h (Am m) → isRunning (named h (Am m) .status) ≡ true
-      → journalLength < h .state .logged + mostLogged → RefusedAs journalFull h
-  pub full-lending : (h : Handed) (m : Move) → NamesSection h (La m) → holdersOf (h .state) (m .from .0) ≡ 0
-      → h .state .given < mostGiven → journalLength < h .state .logged + mostLogged → RefusedAs journalFull h
-  pub full-return : (h : Handed) (m : Move) → NamesSection h (Lb m) → possessed (h .state) (m .from .0) ≡ true
-      → journalLength < h .state .logged + mostLogged → RefusedAs journalFull h

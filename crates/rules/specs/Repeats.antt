@@ -1,5 +1,5 @@
 -- Repeats over bad radio, 02, card 6: which frames are repeats, and all that their answer is, for every state that is
--- handed in, every table, right or altered, and every journal, full or not, and out buffer.
+-- handed in, every table, right or altered, and every journal and out buffer.
 use mathlib.Core.Path.{_≡_}
 use mathlib.Core.Logic.{_≢_}
 use mathlib.Core.Bool.{true}
@@ -10,9 +10,9 @@ use Rattle.common.specs.Part.{replaced}
 use Rattle.line.specs.Route.{nextPost, between}
 use Rattle.rules.specs.Types.{Message, Fa, Fe, Afe, Am, Move, Record, Nothing, Done, PostNo, State, Sent}
 use Rattle.rules.specs.State.{isAsked, isRunning, trainOf}
-use Rattle.rules.specs.Valid.{valid}
-use Rattle.rules.specs.Answer.{framesOf, Answer, answer}
-use Rattle.rules.specs.Refusals.{Handed, RefusedAs, ofTrain, Reads, named, NamesNext}
+use Rattle.rules.specs.Valid.{consistent}
+use Rattle.rules.specs.Answer.{framesOf, Answer}
+use Rattle.rules.specs.Refusals.{Handed, answerTo, RefusedAs, ofTrain, Reads, named, NamesNext}
 
 -- "neither is logged or changes the state": the answers' frames are written, and all else is as it was
 abbrev pub toldAgain : State → List Record → List ℕ → List Message → Answer
@@ -26,8 +26,7 @@ toldAgain s journal out answers = record {
 }
 
 abbrev pub AnsweredBy : Handed → List Message → Type 0
-AnsweredBy h answers =
-    answer (h .state) (h .table) (h .journal) (h .frame) (h .out) ≡ toldAgain (h .state) (h .journal) (h .out) answers
+AnsweredBy h answers = answerTo h ≡ toldAgain (h .state) (h .journal) (h .out) answers
 
 -- the train came to its post by the one-post move from p to q, towards its end
 pub record CameBy (start end at p q : ℕ) : Type 0 where
@@ -50,9 +49,9 @@ pub record RepeatsAnswered : Type 0 where
   pub ten-gone : (h : Handed) → RefusedAs 10 h → ⊥
   pub eleven-gone : (h : Handed) → RefusedAs 11 h → ⊥
   -- "in a sound state none at its start, else the one-post move towards its end that reached the present post"
-  pub none-at-start : (s : State) (t : ℕ) → valid s ≡ true → t < s .trains
+  pub none-at-start : (s : State) (t : ℕ) → consistent s ≡ true → t < s .trains
       → trainOf s t .at .0 ≡ trainOf s t .route .start .0 → trainOf s t .last ≡ Nothing
-  pub one-past-start : (s : State) (t : ℕ) → valid s ≡ true → t < s .trains
+  pub one-past-start : (s : State) (t : ℕ) → consistent s ≡ true → t < s .trains
       → let x = trainOf s t in
       x .at .0 ≢ x .route .start .0 → (p q : PostNo)
       × (x .last ≡ Done p q) × CameBy (x .route .start .0) (x .route .end .0) (x .at .0) (p .0) (q .0)

@@ -172,6 +172,9 @@ withTrain s t x = stateWith s (set (s .fleet) t x) (s .possessions) (s .given) (
 abbrev pub withPossession : State → ℕ → Bool → ℕ → State
 withPossession s i held given = stateWith s (s .fleet) (set (s .possessions) i held) given (s .logged)
 
--- one record more in the journal
+-- so many records counted in the journal, and one more
+abbrev pub counting : State → ℕ → State
+counting s n = stateWith s (s .fleet) (s .possessions) (s .given) n
+
 abbrev pub oneLogged : State → State
-oneLogged s = stateWith s (s .fleet) (s .possessions) (s .given) (s .logged + 1)
+oneLogged s = counting s (s .logged + 1)

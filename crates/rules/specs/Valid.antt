@@ -7,7 +7,6 @@ use Rattle.common.specs.Below.{allBelow}
 use Rattle.line.specs.Route.{nextPost, between}
 use Rattle.line.specs.Line.{inRange, wellFormed}
 use Rattle.line.specs.Holding.{isStabled, holdsPost, postHolders}
-use Rattle.journal.specs.Journal.{journalLength}
 use Rattle.rules.specs.Types.{Status, Free, Asked, Running, Train, State}
 use Rattle.rules.specs.State.{isFree, isNothing, isLast, atEnd, trackAt, trainOf, lineOf, located, holdersOf}
 use Rattle.rules.specs.State.{holdsTrack}
@@ -84,10 +83,10 @@ consistent s =
     && allBelow (s .trains) (λ t. awayValid (s .sidings) (trainOf s t))
     && allBelow (s .trains) (numberValid s)
 
--- "the journal count is at most 176"; 02, card 4: "The journal grows to 236 records, and refusals 1, 2 and 13 count
--- with that."
+-- "the journal count is at most 176"; 02, card 7: "A state whose journal count is above 229 becomes strange, refusal
+-- 1." With the records of one frame more, at most seven, they are the 236 that the journal has.
 abbrev pub mostCounted : ℕ
-mostCounted = journalLength
+mostCounted = 229
 
 unfoldable pub valid : State → Bool
 valid s = consistent s && leb (s .logged) mostCounted

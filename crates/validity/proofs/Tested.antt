@@ -18,7 +18,6 @@ use Rattle.line.specs.Line.{routesOnLine, wellFormed}
 use Rattle.line.specs.Holding.{holdsPost, postHolders}
 use Rattle.line.proofs.Travel.{between-of}
 use Rattle.line.proofs.WellFormed.{high, ranged, below-range, above-range}
-use Rattle.journal.specs.Journal.{journalLength}
 use Rattle.validity.specs.Types.{Status, Train, State, Holders}
 use Rattle.validity.specs.Holders.{Placed, Held}
 use Rattle.validity.specs.Tests.{countsValid, onLine, recordValid, recordsValid}
@@ -29,7 +28,7 @@ use Rattle.validity.proofs.Located.{placed-at}
 use Rattle.validity.proofs.HolderSets.{posts-counted, section-counted}
 use Rattle.validity.proofs.OwnTracks.{own-tracks}
 use Rattle.rules.specs.Valid.{lastValid, trainValid, sectionsValid, postsValid, trackValid, tracksValid, awayValid}
-use Rattle.rules.specs.Valid.{numberBelow, sameNumber, numberValid, mostGiven, consistent, valid}
+use Rattle.rules.specs.Valid.{numberBelow, sameNumber, numberValid, mostGiven, consistent, mostCounted, valid}
 
 -- ---- one train's record
 
@@ -226,10 +225,10 @@ module _ (s : State) where
 
   -- the count beside them
 
-  pub count-fails : journalLength < s .logged → false ≡ valid s
+  pub count-fails : mostCounted < s .logged → false ≡ valid s
   unfolding valid
-  count-fails h = sym (rw (lt-leb (s .logged) journalLength h) (and-false (consistent s)))
+  count-fails h = sym (rw (lt-leb (s .logged) mostCounted h) (and-false (consistent s)))
 
-  pub count-passes : s .logged ≤ journalLength → (b : Bool) → b ≡ consistent s → b ≡ valid s
+  pub count-passes : s .logged ≤ mostCounted → (b : Bool) → b ≡ consistent s → b ≡ valid s
   unfolding valid
-  count-passes h b e = e ∙ sym (rw (le-leb (s .logged) journalLength h) (and-true (consistent s)))
+  count-passes h b e = e ∙ sym (rw (le-leb (s .logged) mostCounted h) (and-true (consistent s)))

@@ -20,7 +20,6 @@ pub use possession::with_possession;
 pub use train::arrived;
 pub use train::at_end;
 pub use train::is_asked;
-pub use train::is_free;
 pub use train::is_last;
 pub use train::is_running;
 pub use train::next_move;

@@ -21,7 +21,6 @@ use crate::train::at_end;
 use crate::train::is_free;
 use crate::train::is_last;
 use crate::train::is_nothing;
-use journal::JOURNAL_LENGTH;
 use line::Route;
 use line::SectionNo;
 use line::TrainNo;
@@ -29,10 +28,13 @@ use rules::State;
 use rules::Status;
 use rules::Train;
 
+// 02, card 7: "A state whose journal count is above 229 becomes strange, refusal 1."
+const MOST_COUNTED: u8 = 229;
+
 pub fn valid(state: State) -> bool
     ensures { λ r. ⌜ r ≡ valid state ⌝ }
 {
-    if JOURNAL_LENGTH < state.logged as usize {
+    if MOST_COUNTED < state.logged {
         return false;
     }
     consistent(state)

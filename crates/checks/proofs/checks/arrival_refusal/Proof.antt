@@ -1,11 +1,11 @@
 -- `arrival_refusal` meets its contract: 7, then an AM of the last finished move passes, and any other goes by the
--- checks of the move, 12 and 13.
+-- checks of the move and 12.
 use mathlib.Core.Path.{sym, _∙_}
 use Prim.Native.Nat.{_<_}
 use borrow.Author.Needs.{needs}
 use borrow.Author.Tests.{not-true, not-false}
 use Rattle.checks.specs.Types.{Move, State}
-use Rattle.checks.proofs.Refusals.{no-train-arrives, am-again, am-refuses, no-authority, am-room}
+use Rattle.checks.proofs.Refusals.{no-train-arrives, am-again, am-refuses, no-authority, am-passes}
 use Rattle.checks.proofs.checks.arrival_refusal.Statement.{statement}
 use Rattle.checks.proofs.checks.arrival_refusal.Tie as tie
 
@@ -49,12 +49,12 @@ returns-4 c =
 
 returns-5 : tie.Need-returns-5
 returns-5 c =
-    let runs = c .before .before in
+    let runs = c .before in
     let e = runs .before .before .before in
     let r = e .before .before in
-    am-room (s r) (m r) (known r) _ (r .train-of .ensures) (sym (e .before .is-last .ensures) ∙ e .if2 .left) _
+    am-passes (s r) (m r) (known r) _ (r .train-of .ensures) (sym (e .before .is-last .ensures) ∙ e .if2 .left) _
     (runs .before .before .move-refusal .ensures) (runs .before .if3 .left)
-    (sym (runs .is-running .ensures) ∙ not-false _ (c .before .if4 .left)) (c .room-refusal .ensures)
+    (sym (runs .is-running .ensures) ∙ not-false _ (c .if4 .left))
 
 pub arrival-refusal-spec : {M : Type 1} → statement M
 arrival-refusal-spec =
@@ -68,5 +68,4 @@ arrival-refusal-spec =
     returns-3
     (λ c κs. search needs)
     returns-4
-    (λ c κs. search needs)
     returns-5)

@@ -1,10 +1,10 @@
--- `lending_refusal` meets its contract: the checks of the section, then 24, 26 and 13.
+-- `lending_refusal` meets its contract: the checks of the section, then 24 and 26.
 use mathlib.Core.Path.{_≡_, sym, _∙_}
 use mathlib.Core.Bool.{true}
 use borrow.Author.Needs.{needs}
 use borrow.Author.Tests.{not-true, not-false}
 use Rattle.checks.proofs.Refusals.{Sectioned, section-refuses, section-low, section-taken, twenty-given}
-use Rattle.checks.proofs.Refusals.{lending-room}
+use Rattle.checks.proofs.Refusals.{lending-passes}
 use Rattle.rules.specs.State.{sectionFree}
 use Rattle.rules.proofs.Validity.{Consistent, valid-facts}
 use Rattle.validity.proofs.Located.{consistent-placed}
@@ -61,9 +61,9 @@ returns-3 c =
 
 returns-4 : tie.Need-returns-4
 returns-4 c =
-    let f = c .before .before .before in
-    lending-room (sectioned (named f .before)) (named f .if1 .left) (section f .section .ensures) (free f)
-    (c .before .if3 .left) (c .room-refusal .ensures)
+    let f = c .before .before in
+    lending-passes (sectioned (named f .before)) (named f .if1 .left) (section f .section .ensures) (free f)
+    (c .if3 .left)
 
 pub lending-refusal-spec : {M : Type 1} → statement M
 lending-refusal-spec =
@@ -76,5 +76,4 @@ lending-refusal-spec =
     section-free-requires
     returns-2
     returns-3
-    (λ c κs. search needs)
     returns-4)

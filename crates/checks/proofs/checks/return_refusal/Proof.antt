@@ -1,8 +1,8 @@
--- `return_refusal` meets its contract: the checks of the section, then 25 and 13.
+-- `return_refusal` meets its contract: the checks of the section, then 25.
 use mathlib.Core.Path.{sym, _∙_}
 use borrow.Author.Needs.{needs}
 use borrow.Author.Tests.{not-true, not-false}
-use Rattle.checks.proofs.Refusals.{Sectioned, section-refuses, no-local-run, return-room}
+use Rattle.checks.proofs.Refusals.{Sectioned, section-refuses, no-local-run, return-passes}
 use Rattle.checks.proofs.checks.return_refusal.Statement.{statement}
 use Rattle.checks.proofs.checks.return_refusal.Tie as tie
 
@@ -23,10 +23,10 @@ returns-2 c =
 
 returns-3 : tie.Need-returns-3
 returns-3 c =
-    let p = c .before .before in
+    let p = c .before in
     let e = p .before .before in
-    return-room (sectioned (e .before)) (e .if1 .left) (p .before .section .ensures)
-    (sym (p .possessed .ensures) ∙ not-false _ (c .before .if2 .left)) (c .room-refusal .ensures)
+    return-passes (sectioned (e .before)) (e .if1 .left) (p .before .section .ensures)
+    (sym (p .possessed .ensures) ∙ not-false _ (c .if2 .left))
 
 pub return-refusal-spec : {M : Type 1} → statement M
 return-refusal-spec =
@@ -37,5 +37,4 @@ return-refusal-spec =
     (λ c κs. search needs)
     (λ c κs. search needs)
     returns-2
-    (λ c κs. search needs)
     returns-3)

@@ -102,7 +102,7 @@ accept-requires c κs =
     let p = passed (read (c .before)) in
     let t = step-taken (s r) (table r) (count r) (bytes r) (buffer r) _ (number r) (zero c) (fresh c) in
     subst⁻¹ (λ (a : Message). Acceptable (s r) a) (read (c .before) .read .ensures)
-    (taken-acceptable (s r) (p .valid-state) (t .1) (readFrame (bytes r)) (t .0))
+    (taken-acceptable (s r) (p .valid-state) (p .room) (readFrame (bytes r)) t)
 
 -- the work is done
 module _ (c : tie.After-accept) where

@@ -1,28 +1,25 @@
--- In a run from an accepted opening no frame is refused by 1 or by 13: before each frame the state is valid, and there
--- is room in the journal.
+-- In a run from an accepted opening no frame is refused by 1: before each frame the state is valid.
 use mathlib.Core.Path.{_≡_, refl, _∙_}
 use mathlib.Core.Logic.{_≢_, ⊎-elim}
 use mathlib.Core.Bool.{true}
 use mathlib.Core.List.{List, [], _∷_, List·Memᴰ, List·Memᴰ·not-nil, List·Memᴰ·cases-cons}
-use Prim.Native.Nat.{ℕ, _+_}
+use Prim.Native.Nat.{ℕ}
 use lib.ListN.{length}
 use native.Mathlib.Omega.{arith}
-use borrow.Author.Tests.{le-leb}
 use Rattle.common.specs.Check.{Check, refusal}
 use Rattle.common.proofs.Tests.{and-both}
 use Rattle.common.proofs.Check.{clear, not-given}
 use Rattle.frame.specs.Frame.{readFrame}
-use Rattle.line.specs.Refusal.{strangeState, journalFull}
+use Rattle.line.specs.Refusal.{strangeState}
 use Rattle.line.specs.Book.{lineIn}
-use Rattle.journal.specs.Journal.{journalLength}
-use Rattle.rules.specs.Answer.{mostLogged, hasRoom, frameChecks, answer}
+use Rattle.rules.specs.Answer.{frameChecks, answer}
 use Rattle.rules.specs.Opening.{opening}
 use Rattle.rules.proofs.Acceptance.{by-content, by-verdict}
 use Rattle.assurance.specs.Types.{Record, State, Verdict, RefusedBy}
 use Rattle.assurance.specs.Run.{Input, Exchange, run}
 use Rattle.assurance.specs.Observer.{Observer}
-use Rattle.conduct.specs.Homecoming.{NeverRefused}
-use Rattle.assurance.proofs.Exchanged.{Settled, room-settled, valid-settled, answer-kept}
+use Rattle.conduct.specs.Homecoming.{NeverStrange}
+use Rattle.assurance.proofs.Exchanged.{Settled, valid-settled, answer-kept}
 use Rattle.assurance.proofs.Opened.{opening-accepted, opened-line, opened-settled}
 
 module _ (table : List ℕ) where
@@ -34,22 +31,14 @@ module _ (table : List ℕ) where
     not-by n h =
         by-verdict s table j frame out (λ a. a .verdict ≢ RefusedBy n) (λ m q e. h (let z : m ≡ n = cc in q ∙ z))
         (λ p answers r e. let z : _≡_ {A = ℕ} 0 1 = cc in omega arith)
-        (λ p t room e. let z : _≡_ {A = ℕ} 0 1 = cc in omega arith)
+        (λ p t e. let z : _≡_ {A = ℕ} 0 1 = cc in omega arith)
 
     not-strange : answer s table j frame out .verdict ≢ RefusedBy strangeState
     not-strange =
         not-by strangeState (not-given strangeState checks (omega arith)
         (and-both _ _ (valid-settled k)
         (by-content s (λ cs. clear strangeState cs ≡ true) (λ m. refl) (λ m. refl) (λ m. refl) (λ m. refl) (λ m. refl)
-        (λ m. refl) refl (readFrame frame))))
-
-    not-full : answer s table j frame out .verdict ≢ RefusedBy journalFull
-    not-full =
-        let room : hasRoom s ≡ true = le-leb (s .logged + mostLogged) journalLength (room-settled k) in
-        not-by journalFull (not-given journalFull checks (omega arith)
-        (by-content s (λ cs. clear journalFull cs ≡ true) (λ m. and-both _ _ room refl) (λ m. refl)
-        (λ m. and-both _ _ room refl) (λ m. refl) (λ m. and-both _ _ room refl) (λ m. and-both _ _ room refl) refl
-        (readFrame frame)))
+        refl (readFrame frame))))
 
   -- what holds of the answer to each frame that finds a settled state holds of every exchange of a run from one
   each-exchange : (P : Verdict → Type 0)
@@ -77,10 +66,6 @@ module _ (book table : List ℕ) (journal : List Record) (inputs : List Input)
       rw (a .0) (each-exchange _ P (h _) inputs _ journal _
       (opened-settled (lineIn book) table journal (a .1) (opened-line book)))
 
-pub never-refused-in-runs : NeverRefused
-never-refused-in-runs = record {
-  strange = λ book table journal inputs e.
-      in-runs book table journal inputs e (λ v. v ≢ RefusedBy strangeState) not-strange;
-  full = λ book table journal inputs e.
-      in-runs book table journal inputs e (λ v. v ≢ RefusedBy journalFull) not-full;
-}
+pub never-strange : NeverStrange
+never-strange book table journal inputs e =
+    in-runs book table journal inputs e (λ v. v ≢ RefusedBy strangeState) not-strange

@@ -1,0 +1,2 @@
+-- The examples with high counts, evaluated.
+pub mod Evaluated
