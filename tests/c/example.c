@@ -2,8 +2,8 @@
  * The run of 01 from C: opens book X, answers eight frames that two drivers' units give, and prints
  * the journal. An authority and an arrival are lost on the way, and come when the driver presses
  * Again. Then one unit goes once through its flow, frames are repeated, books with sidings and with
- * several tracks are opened, gangs get a section, and running times are added up. Exit status 0
- * where all went as the paper says, else 1.
+ * several tracks are opened, gangs get a section, records are counted, and running times are added
+ * up. Exit status 0 where all went as the paper says, else 1.
  *
  *   rt staticlib quangevit
  *   cc -Wall -Wextra -I crates/quangevit tests/c/example.c target/staticlib/libquangevit.a -o example
@@ -248,11 +248,28 @@ static void local_runs(void) {
     expect(answer(la) == QUANGEVIT_SECTION_TAKEN, "the section of a train is given");
     expect(answer(FIRST_AM) == QUANGEVIT_ACCEPTED, "an arrival is refused");
     expect(answer(lb) == QUANGEVIT_NO_LOCAL_RUN, "a section comes back that nobody has");
-    for (given = 1; given < 20; given++) {
+    for (given = 1; given < QUANGEVIT_LOCAL_RUNS_MOST; given++) {
         expect_one(la, QUANGEVIT_LE);
         expect(answer(lb) == QUANGEVIT_ACCEPTED, "a section does not come back");
     }
     expect(answer(la) == QUANGEVIT_TWENTY_GIVEN, "a section is given the twenty-first time");
+    expect(state[QUANGEVIT_STATE_LOGGED_AT] == 4 + 3 * QUANGEVIT_LOCAL_RUNS_MOST,
+           "a move and twenty local runs log other than four records and sixty");
+}
+
+/*
+ * No box that was opened counts so much as 229 records. X with that count, which is the most of a
+ * sound state, is answered as ever; that leaves 231, and nothing more is answered.
+ */
+static void counts(void) {
+    const uint8_t *last = journal + QUANGEVIT_RECORD_BYTES * QUANGEVIT_LOGGED_MOST;
+    expect(open_book(BOOK_X, sizeof BOOK_X) == QUANGEVIT_ACCEPTED, "book X does not open");
+    state[QUANGEVIT_STATE_LOGGED_AT] = QUANGEVIT_LOGGED_MOST;
+    expect_one(FIRST_FA, QUANGEVIT_FE);
+    expect(memcmp(last, RUN, 2 * QUANGEVIT_RECORD_BYTES) == 0, "other records from 229 on");
+    expect(state[QUANGEVIT_STATE_LOGGED_AT] == QUANGEVIT_LOGGED_MOST + 2, "not 231 records");
+    expect(answer(FIRST_FA) == QUANGEVIT_STRANGE_STATE, "a state that counts 231 is answered");
+    expect(answer(FIRST_AM) == QUANGEVIT_STRANGE_STATE, "a state that counts 231 is answered");
 }
 
 /* The number of four bytes. */
@@ -326,6 +343,7 @@ int main(void) {
     sidings();
     tracks();
     local_runs();
+    counts();
     running_times();
     return off;
 }

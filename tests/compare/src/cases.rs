@@ -19,6 +19,7 @@ pub enum Subject {
     Repeats,
     LastMoves,
     Again,
+    JournalCounts,
 }
 
 /// The cases of which this is true.
@@ -28,7 +29,7 @@ pub fn shown<C: Case, const N: usize>(cases: [(bool, C); N]) -> Vec<C> {
 }
 
 /// The subjects in their order, each with the names of its cases.
-pub const SUBJECTS: [(&str, &[&str]); 9] = [
+pub const SUBJECTS: [(&str, &[&str]); 10] = [
     ("sidings", &SIDINGS),
     ("tracks", &TRACKS),
     ("codes", &CODES),
@@ -38,6 +39,7 @@ pub const SUBJECTS: [(&str, &[&str]); 9] = [
     ("repeats", &REPEATS),
     ("last moves", &LAST_MOVES),
     ("Again", &AGAIN),
+    ("the journal's count", &JOURNAL_COUNTS),
 ];
 
 /// What comes of sidings alone, in the order of the names.
@@ -167,8 +169,6 @@ pub enum LocalRunCase {
     TwentyGiven,
     NobodyThere,
     TrainThere,
-    LaFull,
-    LbFull,
     Given,
     Twentieth,
     BetweenTrains,
@@ -193,7 +193,7 @@ impl Case for LocalRunCase {
     }
 }
 
-const LOCAL_RUNS: [&str; 29] = [
+const LOCAL_RUNS: [&str; 27] = [
     "LA refused by 7, a train's number",
     "LB refused by 7, a train's number",
     "LA refused by 9, posts not so named",
@@ -207,8 +207,6 @@ const LOCAL_RUNS: [&str; 29] = [
     "LA refused by 26, twenty given",
     "LB refused by 25, nobody has the section",
     "LB refused by 25, a train has the section",
-    "LA refused by 13, journal full",
-    "LB refused by 13, journal full",
     "LA answered",
     "LA answered, the twentieth",
     "LA answered, trains at both its posts",
@@ -342,9 +340,6 @@ pub enum RepeatCase {
     ArrivedRunning,
     ArrivedHome,
     ArrivedPutAway,
-    DeclinedFull,
-    GrantedFull,
-    ArrivedFull,
     CouldGo,
     AnotherCouldGo,
     WouldBeDeclined,
@@ -362,8 +357,6 @@ pub enum RepeatCase {
     Anothers,
     UnreadPlace,
     NotReported,
-    NewRequestFull,
-    NewArrivalFull,
 }
 
 impl Case for RepeatCase {
@@ -374,7 +367,7 @@ impl Case for RepeatCase {
     }
 }
 
-const REPEATS: [&str; 29] = [
+const REPEATS: [&str; 24] = [
     "FA of an Asked train, AFE again",
     "FA of a Running train, FE again",
     "AM of the last move, Free",
@@ -382,9 +375,6 @@ const REPEATS: [&str; 29] = [
     "AM of the last move, Running",
     "AM of the last move, at the end",
     "AM of the last move, put away",
-    "AFE again, journal full",
-    "FE again, journal full",
-    "AM of the last move, journal full",
     "AFE again, the train could go",
     "a repeat, another train could go",
     "FE again, it would be declined now",
@@ -402,8 +392,6 @@ const REPEATS: [&str; 29] = [
     "refused, AM of another's last move",
     "7, AM of a last move in a place not read",
     "9, FA past an arrival not reported",
-    "13, FA of a Free train",
-    "13, AM of a Running train",
 ];
 
 /// What the last moves of a state show, in the order of the names. A strange state is sound but for the one last move.
@@ -498,4 +486,103 @@ const AGAIN: [&str; 15] = [
     "2, a short buffer where it is 21",
     "21, button 5",
     "21, a button above 5",
+];
+
+/// What the journal's count brings about, in the order of the names: frames answered near the most that a sound state
+/// counts, what they leave, states that are strange for their count alone, and runs from opened books.
+#[derive(Debug, Clone, Copy, PartialEq, Eq)]
+pub enum CountCase {
+    GrantedAtMost,
+    DeclinedAtMost,
+    ArrivedAtMost,
+    GivenAtMost,
+    BackAtMost,
+    DeclinedAgainAtMost,
+    GrantedAgainAtMost,
+    ArrivedAgainAtMost,
+    GrantedNear,
+    DeclinedNear,
+    ArrivedNear,
+    GivenNear,
+    BackNear,
+    DeclinedAgainNear,
+    GrantedAgainNear,
+    ArrivedAgainNear,
+    ShortAtMost,
+    LeavesMost,
+    LeavesOneMore,
+    LeavesMore,
+    LeavesAllToRequest,
+    LeavesAllAndDeclines,
+    LeavesAllToGang,
+    OneAbove,
+    AFrameAbove,
+    FarAbove,
+    AboveNew,
+    AboveRepeat,
+    AboveWrong,
+    AboveTorn,
+    AboveShortTable,
+    AboveShortJournal,
+    AboveShortOut,
+    LeftThenTrain,
+    LeftThenGang,
+    LeftThenRepeat,
+    LeftThenTorn,
+    RunToTheEnd,
+    RunAtItsMost,
+    RunRepeat,
+    RunRefused,
+}
+
+impl Case for CountCase {
+    const SUBJECT: Subject = Subject::JournalCounts;
+
+    fn place(self) -> usize {
+        self as usize
+    }
+}
+
+const JOURNAL_COUNTS: [&str; 41] = [
+    "FA granted at 229",
+    "FA declined at 229",
+    "AM at 229",
+    "LA answered at 229",
+    "LB answered at 229",
+    "AFE again at 229",
+    "FE again at 229",
+    "AM of the last move at 229",
+    "FA granted at 223 to 228",
+    "FA declined at 223 to 228",
+    "AM at 223 to 228",
+    "LA answered at 223 to 228",
+    "LB answered at 223 to 228",
+    "AFE again at 223 to 228",
+    "FE again at 223 to 228",
+    "AM of the last move at 223 to 228",
+    "2 at 229, a journal of 235 records",
+    "229 left",
+    "230 left",
+    "231 to 235 left",
+    "236 left, FA and six FE",
+    "236 left, FA, five FE and its AFE",
+    "236 left, LB and six FE",
+    "a strange state, 230",
+    "a strange state, 231 to 236",
+    "a strange state, 237 to 255",
+    "1 above 229, a new frame",
+    "1 above 229, a repeat",
+    "1 above 229, before 4 to 26",
+    "1 above 229, before 3",
+    "1 above 229, before 2 for the table",
+    "1 above 229, before 2 for the journal",
+    "1 above 229, before 2 for the out buffer",
+    "1 after more than 229 left, FA or AM",
+    "1 after more than 229 left, LA or LB",
+    "1 after more than 229 left, a repeat",
+    "1 after more than 229 left, a torn frame",
+    "228 in a run",
+    "a run at its most, a gang out",
+    "a repeat at 228 in a run",
+    "refused at 228 in a run",
 ];

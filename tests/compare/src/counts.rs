@@ -20,7 +20,7 @@ pub enum Entry {
 const ENTRIES: [(&str, &[u8]); 7] = [
     ("read_book", &[1, 4, 14, 15, 16, 17, 18, 23, 27]),
     ("open", &[1, 2, 4, 14, 15, 16, 17, 18, 19, 20, 23, 27]),
-    ("answer", &[1, 2, 3, 4, 5, 6, 7, 8, 9, 12, 13, 24, 25, 26]),
+    ("answer", &[1, 2, 3, 4, 5, 6, 7, 8, 9, 12, 24, 25, 26]),
     ("running_time", &[1, 4, 9, 14, 15, 16, 17, 18, 23, 27, 28]),
     ("make_unit", &[1, 18]),
     ("press", &[1, 2, 8, 21]),
@@ -42,11 +42,13 @@ const PHASES: [&str; 6] = [
 const OF_GANGS: [&str; 3] = ["LA", "LE", "LB"];
 
 /// Kinds of inputs that a run must have had, beside what must have come of inputs.
-const DUE_INPUTS: [&str; 23] = [
+const DUE_INPUTS: [&str; 26] = [
     "run: of a book of edition 1",
     "run: of a book of edition 2",
     "run: of a book of edition 3",
     "run: over bad radio, all home",
+    "run: each request declined at first",
+    "run: many go at once near the most",
     "radio: a frame to the box lost",
     "radio: a frame to the box twice",
     "radio: an answer lost",
@@ -55,6 +57,7 @@ const DUE_INPUTS: [&str; 23] = [
     "state: a track altered",
     "state: a gang or the number given altered",
     "state: a last move altered",
+    "state: a count above the most",
     "frame: as a crew sends it again",
     "frame: nearly as a crew sends it again",
     "frame: as a gang sends it",
@@ -68,7 +71,7 @@ const DUE_INPUTS: [&str; 23] = [
     "table: short",
 ];
 
-/// Refusal numbers 0 (none) to 28. Those that no entry point can give, 10 and 11, are not told.
+/// Refusal numbers 0 (none) to 28. Those that no entry point can give, 10, 11 and 13, are not told.
 const NUMBERS: usize = 29;
 
 const MOST_SENT: usize = OUT_BYTES / FRAME_BYTES;

@@ -23,8 +23,6 @@ pub fn of_frame(state: &[u8], frame: &[u8], reply: Reply) -> Vec<LocalRunCase> {
         (LB, 7) => vec![LocalRunCase::LbOfTrain],
         (LA, 9) => of_misnamed(&state, frame, LocalRunCase::LaMisnamed),
         (LB, 9) => of_misnamed(&state, frame, LocalRunCase::LbMisnamed),
-        (LA, 13) => vec![LocalRunCase::LaFull],
-        (LB, 13) => vec![LocalRunCase::LbFull],
         (LA, 24) => of_taken(&state, section),
         (LB, 25) if state.holders_of_section(section) > 0 => vec![LocalRunCase::TrainThere],
         (LB, 25) => vec![LocalRunCase::NobodyThere],
@@ -181,7 +179,7 @@ mod tests {
     use inputs::crews;
     use inputs::encoding::state_bytes;
     use inputs::frames::{frame, local_run, FA};
-    use inputs::sizes::{JOURNAL_RECORDS, OUT_BYTES, RECORDS_A_FRAME};
+    use inputs::sizes::{JOURNAL_RECORDS, OUT_BYTES};
     use model::Record;
     use LocalRunCase::*;
 
@@ -225,7 +223,7 @@ mod tests {
 
     #[test]
     fn what_comes_of_an_la_is_told() {
-        let cases: [(Change, &[LocalRunCase]); 9] = [
+        let cases: [(Change, &[LocalRunCase]); 8] = [
             (|_| (), &[Given]),
             (|s| bring(&mut s.train[1], 1), &[Given, BetweenTrains]),
             (|s| s.given = 18, &[Given]),
@@ -237,10 +235,6 @@ mod tests {
                 |s| (s.given, s.possessions[0]) = (20, true),
                 &[TakenByGang, TakenAfterTwenty],
             ),
-            (
-                |s| s.journal = (JOURNAL_RECORDS - RECORDS_A_FRAME + 1) as u8,
-                &[LaFull],
-            ),
         ];
         for (change, expected) in cases {
             assert_eq!(told(change, &LA_0), expected);
@@ -250,7 +244,7 @@ mod tests {
 
     #[test]
     fn what_comes_of_an_lb_is_told() {
-        let cases: [(Change, LocalRunCase); 6] = [
+        let cases: [(Change, LocalRunCase); 5] = [
             (|_| (), NobodyThere),
             (runs, TrainThere),
             (|s| s.possessions[0] = true, BackForNobody),
@@ -270,7 +264,6 @@ mod tests {
                 },
                 BackForSeveral,
             ),
-            (|s| (s.possessions[0], s.journal) = (true, 230), LbFull),
         ];
         for (change, expected) in cases {
             assert_eq!(told(change, &LB_0), [expected]);
@@ -317,7 +310,7 @@ mod tests {
         };
         assert_eq!(strange(doubled), Some(TrainAndGang));
         assert_eq!(strange(|s| s.given = 21), Some(PastTwenty));
-        assert_eq!(strange(|s| (s.given, s.journal) = (21, 237)), None);
+        assert_eq!(strange(|s| (s.given, s.journal) = (21, 230)), None);
         let mut bytes = state_bytes(&x_with(|_| ()));
         bytes[SECTIONS_AT + 2] = 2;
         assert_eq!(of_strange(&bytes), Some(OtherByteUnread));

@@ -14,9 +14,11 @@ mod codes;
 mod counts;
 mod desk;
 mod frames;
+mod journal_counts;
 mod last_moves;
 mod lent;
 mod local_runs;
+mod longest;
 mod model_ends;
 mod openings;
 mod pair;
@@ -26,6 +28,7 @@ mod radio;
 mod repeats;
 mod runs;
 mod sidings;
+mod state_counts;
 mod state_gangs;
 mod state_moves;
 mod state_tracks;
@@ -44,6 +47,8 @@ mod wrong_boxes;
 #[cfg(test)]
 mod wrong_codes;
 #[cfg(test)]
+mod wrong_counts;
+#[cfg(test)]
 mod wrong_last_moves;
 #[cfg(test)]
 mod wrong_local_runs;
@@ -58,6 +63,7 @@ mod wrong_tracks;
 
 use boundary::Proved;
 use inputs::random::Random;
+use lent::Lent;
 use model_ends::Model;
 use openings::Opened;
 use pair::{Compared, Pair};
@@ -70,6 +76,9 @@ const FRAMES_A_ROUND: u64 = 5_000;
 
 /// Opened books, and altered tables, that are kept for runs.
 const KEPT: usize = 24;
+
+/// Rounds for which an opened book of the longest journals is kept.
+const ROUNDS_OF_LONGEST: usize = 40;
 
 /// Runs for each question about a running time that comes between them.
 const RUNS_A_QUESTION: usize = 3;
@@ -127,23 +136,50 @@ fn all(pair: &mut Pair, options: &Options) -> Compared<()> {
     let random = &mut Random::new(options.seed);
     units::make_all(pair, random)?;
     units::press_and_hear_all(pair, random)?;
-    let mut opened = Vec::new();
-    let mut strange: Vec<_> = (0..KEPT).map(|_| tables::strange(random)).collect();
+    let mut kept = Kept::new(pair, random)?;
     while pair.counts.frames() < options.frames {
-        keep(&mut opened, openings::open_one(pair, random)?, random);
-        keep(&mut strange, tables::strange(random), random);
+        kept.renew(pair, random)?;
         openings::open_odd(pair, random, 4)?;
         openings::read_books(pair, random, 100)?;
         units::histories(pair, random, 100)?;
         let end = options.frames.min(pair.counts.frames() + FRAMES_A_ROUND);
         while pair.counts.frames() < end {
-            one_run(pair, &opened, &strange, random)?;
+            one_run(pair, &kept, random)?;
             if random.one_in(RUNS_A_QUESTION) {
                 questions::ask(pair, random)?;
             }
         }
     }
     Ok(())
+}
+
+/// What is kept for many runs: opened books, tables that no book gave, an opened book of the longest journals, and a
+/// table of ones.
+struct Kept {
+    opened: Vec<Opened>,
+    strange: Vec<runs::Strange>,
+    longest: Opened,
+    ones: Lent,
+}
+
+impl Kept {
+    fn new(pair: &mut Pair, random: &mut Random) -> Compared<Kept> {
+        Ok(Kept {
+            opened: vec![],
+            strange: (0..KEPT).map(|_| tables::strange(random)).collect(),
+            longest: longest::open(pair, random)?,
+            ones: Lent::new(&tables::ones(), random),
+        })
+    }
+
+    fn renew(&mut self, pair: &mut Pair, random: &mut Random) -> Compared<()> {
+        keep(&mut self.opened, openings::open_one(pair, random)?, random);
+        keep(&mut self.strange, tables::strange(random), random);
+        if random.one_in(ROUNDS_OF_LONGEST) {
+            self.longest = longest::open(pair, random)?;
+        }
+        Ok(())
+    }
 }
 
 /// Adds to what is kept, in the place of an older one once there are enough.
@@ -155,18 +191,15 @@ fn keep<T>(kept: &mut Vec<T>, new: T, random: &mut Random) {
     }
 }
 
-fn one_run(
-    pair: &mut Pair,
-    opened: &[Opened],
-    strange: &[runs::Strange],
-    random: &mut Random,
-) -> Compared<()> {
-    let opened = &opened[random.below(opened.len())];
-    let strange = &strange[random.below(strange.len())];
-    match random.below(48) {
-        0 | 1 => runs::whole(pair, opened, strange, Crews::ByFrames, random),
-        2 | 3 => runs::whole(pair, opened, strange, Crews::WithUnits(Radio::Good), random),
-        4 => runs::whole(pair, opened, strange, Crews::WithUnits(Radio::Bad), random),
+fn one_run(pair: &mut Pair, kept: &Kept, random: &mut Random) -> Compared<()> {
+    let opened = &kept.opened[random.below(kept.opened.len())];
+    let strange = &kept.strange[random.below(kept.strange.len())];
+    match random.below(96) {
+        0..=3 => runs::whole(pair, opened, strange, Crews::ByFrames, random),
+        4..=7 => runs::whole(pair, opened, strange, Crews::WithUnits(Radio::Good), random),
+        8 | 9 => runs::whole(pair, opened, strange, Crews::WithUnits(Radio::Bad), random),
+        10 | 11 => runs::many_at_once(pair, &kept.ones, random),
+        12 => longest::whole(pair, random.pick(&[opened, &kept.longest]), random),
         _ => runs::handed_in(pair, opened, strange, random),
     }
 }

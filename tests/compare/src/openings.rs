@@ -52,11 +52,20 @@ pub fn open_odd(pair: &mut Pair, random: &mut Random, count: usize) -> Compared<
 
 /// Opens well formed books until one is accepted.
 pub fn open_one(pair: &mut Pair, random: &mut Random) -> Compared<Opened> {
+    open_such(pair, random, books::well_formed)
+}
+
+/// Opens books that are made so until one is accepted.
+pub fn open_such(
+    pair: &mut Pair,
+    random: &mut Random,
+    make: fn(&mut Random) -> Vec<u8>,
+) -> Compared<Opened> {
     let mut state = Lent::random(STATE_BYTES, random);
     let mut table = table_to_fill(random);
     let journal = Lent::random(stores::journal(random), random);
     let edition = loop {
-        let book = Lent::new(&books::well_formed(random), random);
+        let book = Lent::new(&make(random), random);
         pair.counts.input("book: well formed");
         if pair.open(&book, &mut state, &mut table, &journal)?.refusal == 0 {
             break book.bytes()[2];

@@ -2,6 +2,7 @@
 
 use crate::checks::Asked;
 use crate::counts::{Counts, Entry};
+use crate::journal_counts::{self, Put};
 use crate::lent::{Lent, Side};
 use crate::questions::Question;
 use crate::{again, codes, last_moves, local_runs, repeats, sidings, timings, tracks};
@@ -109,20 +110,9 @@ impl Pair {
             ("out", out),
         ];
         let reply = self.settle(Entry::Answer, &[], results, &buffers, &[("table", table)])?;
-        self.count_fared(state, table, frame, reply);
-        match reply.refusal {
-            0 => {
-                let sent = &out.bytes()[..FRAME_BYTES * reply.sent];
-                self.counts.sent(reply.sent);
-                self.count_trains(state, journal);
-                // A repeat gives nobody an authority and declines none anew.
-                if state.kept() != state.bytes() {
-                    self.count_sent(state.bytes(), table.bytes(), sent);
-                }
-            }
-            1 => self.count_strange(state.bytes()),
-            _ => {}
-        }
+        let lent = [table, journal, frame, out].map(Lent::bytes);
+        let put = Put::new(state.kept(), lent);
+        self.count_answer(&put, state.bytes(), reply);
         Ok(reply)
     }
 
@@ -235,13 +225,33 @@ impl Pair {
         self.counts.cases(timings::of_order(asked));
     }
 
-    /// How a frame of a gang fared, and one that repeats another or nearly does.
-    fn count_fared(&mut self, state: &Lent, table: &Lent, frame: &Lent, reply: Reply) {
-        let (before, frame) = (state.kept(), frame.bytes());
+    /// Of a frame, with the state after it.
+    fn count_answer(&mut self, put: &Put, after: &[u8], reply: Reply) {
+        self.count_fared(put, after, reply);
+        match reply.refusal {
+            0 => {
+                let sent = &put.out[..FRAME_BYTES * reply.sent];
+                self.counts.sent(reply.sent);
+                self.count_trains(put, after);
+                // A repeat gives nobody an authority and declines none anew.
+                if put.state != after {
+                    self.count_sent(after, put.table, sent);
+                }
+            }
+            1 => self.count_strange(after),
+            _ => {}
+        }
+    }
+
+    /// How a frame of a gang fared, one that repeats another or nearly does, and one near the most that is counted.
+    fn count_fared(&mut self, put: &Put, after: &[u8], reply: Reply) {
+        let (before, frame) = (put.state, put.frame);
         self.counts
             .cases(local_runs::of_frame(before, frame, reply));
-        let cases = repeats::of_frame(before, table.bytes(), frame, reply);
-        self.counts.cases(cases);
+        self.counts
+            .cases(repeats::of_frame(before, put.table, frame, reply));
+        self.counts
+            .cases(journal_counts::of_frame(put, after, reply));
     }
 
     /// Of a new frame: what the frames sent tell of the state after it.
@@ -260,13 +270,13 @@ impl Pair {
     }
 
     /// Of an accepted frame: what the trains are about, and their tracks.
-    fn count_trains(&mut self, state: &Lent, journal: &Lent) {
-        for train in trains_in(state.bytes()) {
+    fn count_trains(&mut self, put: &Put, after: &[u8]) {
+        for train in trains_in(after) {
             self.counts.status(train[train_at::STATUS]);
         }
-        let cases = tracks::of_answer(state.kept(), state.bytes(), journal.bytes());
-        self.counts.cases(cases);
-        self.counts.cases(last_moves::of_answer(state.bytes()));
+        self.counts
+            .cases(tracks::of_answer(put.state, after, put.journal));
+        self.counts.cases(last_moves::of_answer(after));
     }
 
     fn count_phase(&mut self, reply: Reply, unit: &Lent) {

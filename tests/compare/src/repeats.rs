@@ -4,7 +4,6 @@ use crate::cases::{shown, RepeatCase};
 use crate::local_runs::{could_go, waits_for_gang};
 use crate::pair::Reply;
 use inputs::encoding::state_of;
-use inputs::sizes::{JOURNAL_RECORDS, RECORDS_A_FRAME};
 use model::{Message, Move, Standing, State, Train};
 
 /// Of an FA or AM that was put to a sound state, with its table, as it fared.
@@ -18,8 +17,6 @@ pub fn of_frame(state: &[u8], table: &[u8], frame: &[u8], reply: Reply) -> Vec<R
         (Message::Am(m), 7) => shown([(is_unread(&state, m), RepeatCase::UnreadPlace)]),
         (Message::Fa(m), 8 | 9) => of_wrong_request(&state, m, reply.refusal),
         (Message::Am(m), 8 | 9 | 12) => of_wrong_arrival(&state, m, reply.refusal),
-        (Message::Fa(_), 13) => vec![RepeatCase::NewRequestFull],
-        (Message::Am(_), 13) => vec![RepeatCase::NewArrivalFull],
         _ => vec![],
     }
 }
@@ -47,17 +44,11 @@ pub fn is_last(train: &Train, m: Move) -> bool {
     train.last == Some((m.from, m.to))
 }
 
-/// The journal has no room for a frame more.
-pub fn is_full(state: &State) -> bool {
-    JOURNAL_RECORDS - usize::from(state.journal) < RECORDS_A_FRAME
-}
-
 fn of_repeat(state: &State, table: &[u8], message: Message) -> Vec<RepeatCase> {
     let t = usize::from(message.movement().train);
-    let full = is_full(state);
     let mut cases = match message {
-        Message::Fa(m) => of_request(state, table, m, full),
-        _ => of_arrival(state, &state.train[t], full),
+        Message::Fa(m) => of_request(state, table, m),
+        _ => of_arrival(state, &state.train[t]),
     };
     let others = (0..usize::from(state.trains)).filter(|other| *other != t);
     if others.into_iter().any(|t| could_go(state, table, t)) {
@@ -67,12 +58,11 @@ fn of_repeat(state: &State, table: &[u8], message: Message) -> Vec<RepeatCase> {
 }
 
 /// Of an FA that is answered by its AFE or FE again.
-fn of_request(state: &State, table: &[u8], m: Move, full: bool) -> Vec<RepeatCase> {
+fn of_request(state: &State, table: &[u8], m: Move) -> Vec<RepeatCase> {
     let t = usize::from(m.train);
     if let Standing::Asked(_) = state.train[t].standing {
         return shown([
             (true, RepeatCase::Declined),
-            (full, RepeatCase::DeclinedFull),
             (could_go(state, table, t), RepeatCase::CouldGo),
             (waits_for_gang(state, table, m), RepeatCase::WaitsForGang),
         ]);
@@ -82,13 +72,12 @@ fn of_request(state: &State, table: &[u8], m: Move, full: bool) -> Vec<RepeatCas
     waiting.train[t].standing = Standing::Asked(0);
     shown([
         (true, RepeatCase::Granted),
-        (full, RepeatCase::GrantedFull),
         (!could_go(&waiting, table, t), RepeatCase::WouldBeDeclined),
     ])
 }
 
 /// Of an AM that is taken and not answered.
-fn of_arrival(state: &State, train: &Train, full: bool) -> Vec<RepeatCase> {
+fn of_arrival(state: &State, train: &Train) -> Vec<RepeatCase> {
     let home = train.at == train.end;
     let put_away = train.is_put_away(state.sidings);
     let runs = matches!(train.standing, Standing::Running(_));
@@ -99,7 +88,6 @@ fn of_arrival(state: &State, train: &Train, full: bool) -> Vec<RepeatCase> {
         (runs, RepeatCase::ArrivedRunning),
         (home, RepeatCase::ArrivedHome),
         (put_away, RepeatCase::ArrivedPutAway),
-        (full, RepeatCase::ArrivedFull),
     ])
 }
 
@@ -162,7 +150,7 @@ mod tests {
     use inputs::crews;
     use inputs::encoding::state_bytes;
     use inputs::frames::{frame, AFE, AM, FA};
-    use inputs::sizes::{FRAME_BYTES, OUT_BYTES, TABLE_BYTES};
+    use inputs::sizes::{FRAME_BYTES, JOURNAL_RECORDS, OUT_BYTES, TABLE_BYTES};
     use model::Record;
     use RepeatCase::*;
 
@@ -223,12 +211,6 @@ mod tests {
         assert_eq!(told(runs, ASK), [Granted]);
         assert_eq!(fared(runs, ASK, 0, OUT_BYTES), [Granted, WouldBeDeclined]);
         assert_eq!(fared(runs, ASK, 255, OUT_BYTES - 1), [ShortStore]);
-        let full: Change = |s| (s.train[0].standing, s.journal) = (Standing::Asked(0), 230);
-        assert_eq!(fared(full, ASK, 0, OUT_BYTES), [Declined, DeclinedFull]);
-        let full: Change = |s| (s.train[0].standing, s.journal) = (Standing::Running(1), 230);
-        assert_eq!(told(full, ASK), [Granted, GrantedFull]);
-        let full: Change = |s| s.journal = 230;
-        assert_eq!(told(full, ASK), [NewRequestFull]);
         let gang: Change = |s| {
             asked(s);
             s.possessions[0] = true;
@@ -246,11 +228,6 @@ mod tests {
     fn what_comes_of_a_repeated_arrival_is_told() {
         let arrived = frame(AM, 0, 1, 2);
         assert_eq!(told(at_post_2, arrived), [ArrivedFree]);
-        let full: Change = |s| {
-            at_post_2(s);
-            s.journal = 236;
-        };
-        assert_eq!(told(full, arrived), [ArrivedFree, ArrivedFull]);
         let waits: Change = |s| {
             at_post_2(s);
             asked(s);
@@ -267,11 +244,6 @@ mod tests {
         );
         let at_the_end: Change = |s| bring(&mut s.train[1], 0);
         assert_eq!(told(at_the_end, frame(AM, 1, 1, 0)), [ArrivedHome]);
-        let full: Change = |s| {
-            runs(s);
-            s.journal = 230;
-        };
-        assert_eq!(told(full, frame(AM, 0, 0, 1)), [NewArrivalFull]);
     }
 
     #[test]

@@ -6,8 +6,10 @@ use crate::lent::Lent;
 use crate::openings::Opened;
 use crate::pair::{Compared, Pair};
 use crate::radio::{Radio, TO_THE_BOX, TO_THE_UNITS};
-use crate::{frames, states, stores};
-use inputs::encoding::{is_home, state_of, train_at, trains_in, AGAIN, ASKED, NO_BUTTON, PHASE_AT};
+use crate::{frames, state_counts, states, stores};
+use inputs::encoding::{
+    is_home, state_bytes, state_of, train_at, trains_in, AGAIN, ASKED, NO_BUTTON, PHASE_AT,
+};
 use inputs::random::Random;
 use inputs::sizes::{FRAME_BYTES, UNIT_BYTES};
 
@@ -15,7 +17,7 @@ use inputs::sizes::{FRAME_BYTES, UNIT_BYTES};
 pub type Strange = (&'static str, Lent);
 
 /// Frames of one whole run: enough for six trains to get home, with refused frames among them.
-const LONGEST_RUN: usize = 400;
+pub const LONGEST_RUN: usize = 400;
 
 /// How the frames of a whole run come about.
 #[derive(Clone, Copy)]
@@ -35,7 +37,7 @@ pub fn whole(
     random: &mut Random,
 ) -> Compared<()> {
     let table = choose_table(pair, opened, strange, 8, random);
-    let mut desk = Desk::new(&opened.state, stores::journal(random), random);
+    let mut desk = Desk::opened(&opened.state, stores::journal(random), random);
     let mut units = match crews {
         Crews::ByFrames => vec![],
         Crews::WithUnits(_) => make_units(pair, &opened.state, random)?,
@@ -106,6 +108,19 @@ pub fn handed_in(
     pair.unchanged(table)
 }
 
+/// A frame at which many trains go at once, near the most that a sound state counts, and some after it. The table is of
+/// ones.
+pub fn many_at_once(pair: &mut Pair, ones: &Lent, random: &mut Random) -> Compared<()> {
+    pair.counts.input("run: many go at once near the most");
+    let (state, frame) = state_counts::many_waiting(random);
+    let mut desk = Desk::new(&state_bytes(&state), stores::journal(random), random);
+    desk.put(pair, ones, &frame, random)?;
+    for _ in 0..random.below(4) {
+        put_any(pair, &mut desk, ones, random)?;
+    }
+    pair.unchanged(ones)
+}
+
 /// The book's own table so many times for each altered one.
 fn choose_table<'a>(
     pair: &mut Pair,
@@ -123,7 +138,12 @@ fn choose_table<'a>(
     table
 }
 
-fn put_any(pair: &mut Pair, desk: &mut Desk, table: &Lent, random: &mut Random) -> Compared<()> {
+pub fn put_any(
+    pair: &mut Pair,
+    desk: &mut Desk,
+    table: &Lent,
+    random: &mut Random,
+) -> Compared<()> {
     let (kind, frame) = frames::to_box(desk.state(), random);
     pair.counts.input(kind);
     desk.put(pair, table, &frame, random)?;

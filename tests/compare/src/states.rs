@@ -1,11 +1,9 @@
 //! States handed in: valid by construction, nearly valid, and such that no box ever had.
 
-use crate::{state_gangs, state_moves, state_tracks};
+use crate::{state_counts, state_gangs, state_moves, state_tracks};
 use inputs::encoding::{state_bytes, state_of, train_at, FREE, RUNNING};
 use inputs::random::Random;
-use inputs::sizes::{
-    FLEET_AT, GIVEN_AT, JOURNAL_RECORDS, RECORDS_A_FRAME, SECTIONS_AT, STATE_BYTES, TRAIN_BYTES,
-};
+use inputs::sizes::{FLEET_AT, GIVEN_AT, SECTIONS_AT, STATE_BYTES, TRAIN_BYTES};
 use model::{Standing, State, Train};
 
 /// A state of some kind. `opened` is the first state of a book, for states of its line.
@@ -38,7 +36,7 @@ fn altered_bytes(mut bytes: Vec<u8>, random: &mut Random) -> (&'static str, Vec<
 
 /// A state with one thing changed. It may still be valid.
 fn altered(state: State, random: &mut Random) -> (&'static str, State) {
-    match random.below(8) {
+    match random.below(10) {
         0 | 1 => (
             "state: a track altered",
             state_tracks::altered(state, random),
@@ -46,6 +44,10 @@ fn altered(state: State, random: &mut Random) -> (&'static str, State) {
         6 | 7 => (
             "state: a last move altered",
             state_moves::altered(state, random),
+        ),
+        8 | 9 => (
+            "state: a count above the most",
+            state_counts::altered(state, random),
         ),
         2 => (
             "state: a gang or the number given altered",
@@ -85,7 +87,7 @@ pub fn valid(opened: &[u8], random: &mut Random) -> State {
     let numbers = give_standings(&mut state, random);
     state_gangs::give(&mut state, random);
     state_moves::give(&mut state);
-    give_count(&mut state, numbers, random);
+    state_counts::give(&mut state, numbers, random);
     state_tracks::give(&mut state, |unheld| random.pick(unheld));
     if random.one_in(2) {
         fill_unread(&mut state, random);
@@ -154,7 +156,7 @@ fn one_more(state: &State, random: &mut Random) -> Option<Train> {
 }
 
 /// Six trains before six sections and room for all: many can be granted at once.
-fn crowd(random: &mut Random) -> State {
+pub fn crowd(random: &mut Random) -> State {
     let mut state = State {
         posts: 8,
         tracks: [4; 8],
@@ -221,30 +223,6 @@ fn give_standings(state: &mut State, random: &mut Random) -> usize {
         }
     }
     asked
-}
-
-/// A journal count, often near the full journal, and distinct FA numbers below it.
-fn give_count(state: &mut State, asked: usize, random: &mut Random) {
-    let (full, a_frame) = (JOURNAL_RECORDS as u8, RECORDS_A_FRAME as u8);
-    let least = asked as u8;
-    state.journal = match random.below(8) {
-        0 | 1 => random.between(full - 2 * a_frame, full),
-        2 => least,
-        // The highest count at which a frame is taken.
-        3 => full - a_frame,
-        _ => random.between(least, full),
-    };
-    let mut taken = Vec::new();
-    let count = state.journal;
-    for train in trains_of(state) {
-        if let Standing::Asked(number) = &mut train.standing {
-            *number = random.between(0, count - 1);
-            while taken.contains(number) {
-                *number = (*number + 1) % count;
-            }
-            taken.push(*number);
-        }
-    }
 }
 
 /// Anything in the places that are not read.

@@ -7,7 +7,7 @@ use inputs::sizes::TABLE_BYTES;
 /// A table that no book gave.
 pub fn strange(random: &mut Random) -> (&'static str, Lent) {
     let (kind, mut bytes) = match random.below(6) {
-        0 => ("table: all ones", vec![255; TABLE_BYTES]),
+        0 => ("table: all ones", ones()),
         1 => ("table: all zero", vec![0; TABLE_BYTES]),
         2 => ("table: random bits", random.bytes(TABLE_BYTES)),
         3 => ("table: few bits", thinned(random)),
@@ -19,6 +19,10 @@ pub fn strange(random: &mut Random) -> (&'static str, Lent) {
     };
     add_tail(&mut bytes, random);
     (kind, Lent::new(&bytes, random))
+}
+
+pub fn ones() -> Vec<u8> {
+    vec![255; TABLE_BYTES]
 }
 
 /// The table with some of its bits flipped, from one in two to one in 256.

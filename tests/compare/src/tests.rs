@@ -7,6 +7,7 @@ use crate::model_ends::Model;
 use crate::pair::{Pair, Reply};
 use crate::questions::Question;
 use crate::state_moves::bring;
+use crate::wrong_boxes::ENOUGH;
 use crate::{all, codes, sidings, state_tracks, states, tracks, Options};
 use boundary::Ends;
 use inputs::books::{book, book_2, book_3, X};
@@ -197,7 +198,7 @@ fn what_is_never_reached_fails() {
     assert!(all(&mut pair, &no_frame).is_ok());
     let failings = pair.counts.failings();
     for due in [
-        "answer never answered 13",
+        "answer never answered 12",
         "answer never answered 26",
         "read_book never answered 27",
         "open never answered 27",
@@ -211,8 +212,10 @@ fn what_is_never_reached_fails() {
         "case of local runs: LB, several trains granted never reached",
         "case of running times: over 8,388,607 metres never reached",
         "case of the order of checks for them: 23 before 27 never reached",
-        "case of repeats: FE again, journal full never reached",
+        "case of repeats: FE again, it would be declined now never reached",
         "case of last moves: a strange state, backwards never reached",
+        "case of the journal's count: 236 left, LB and six FE never reached",
+        "case of the journal's count: 228 in a run never reached",
         "input: run: of a book of edition 3 never reached",
         "input: run: over bad radio, all home never reached",
         "input: table: all ones never reached",
@@ -229,10 +232,32 @@ fn what_is_never_reached_fails() {
     }
 }
 
-/// "Refusals 10 and 11 go": a box that gives one fails, also where both sides agree.
+/// The names of what is due for the journal's count have one of these.
+const OF_COUNTS: [&str; 3] = [
+    "count",
+    "run: many go at once near the most",
+    "run: each request declined at first",
+];
+
+/// Within the frames of a wrong box each case of the journal's count is reached, and each kind of input for it.
+#[test]
+fn counts_near_the_most_and_above_it_are_reached() {
+    let missing = |failings: &[String], words: &str| {
+        let missing = failings.iter().find(|failing| failing.contains(words));
+        missing.cloned()
+    };
+    let mut pair = Pair::new(Box::new(Model), Box::new(Model));
+    assert!(all(&mut pair, &ENOUGH).is_ok());
+    for words in OF_COUNTS {
+        assert!(missing(&Counts::new().failings(), words).is_some());
+        assert_eq!(missing(&pair.counts.failings(), words), None);
+    }
+}
+
+/// "Refusals 10 and 11 go", and 13 is removed: a box that gives one fails, also where both sides agree.
 #[test]
 fn numbers_that_are_gone_fail() {
-    for number in [10, 11] {
+    for number in [10, 11, 13] {
         let mut counts = Counts::new();
         let answered = format!("answer answered {number}");
         let due = format!("answer never answered {number}");
@@ -321,7 +346,7 @@ fn the_one_wrong_track_of_a_strange_state_is_told() {
         }),
         // Two wrong tracks, and a state that right tracks would not make sound.
         (None, |s| (s.train[0].track, s.train[1].track) = (0, 0)),
-        (None, |s| (s.train[0].track, s.journal) = (0, 237)),
+        (None, |s| (s.train[0].track, s.journal) = (0, 230)),
     ];
     for (number, (case, change)) in changes.into_iter().enumerate() {
         let mut state = x_with_both_at_post_1();

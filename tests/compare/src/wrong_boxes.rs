@@ -1,6 +1,7 @@
 //! Boxes and units that are wrong, each the model with one fault. The comparison finds every one.
 
 use crate::counts::Entry;
+use crate::journal_counts::Put;
 use crate::model_ends::{tell, Model, Time};
 use crate::pair::Pair;
 use crate::questions::Question;
@@ -8,7 +9,7 @@ use crate::{all, Options};
 use boundary::Ends;
 use inputs::encoding::{put_records, records_of, state_bytes, state_of, unit_bytes, unit_of};
 use inputs::frames::KIND_AT;
-use inputs::sizes::{FRAME_BYTES, RECORD_BYTES, TIME_BYTES};
+use inputs::sizes::{FRAME_BYTES, JOURNAL_BYTES, RECORD_BYTES, TIME_BYTES};
 use model::table::bit;
 use model::{write_frame, Message, Record, State, Unit};
 
@@ -65,6 +66,10 @@ pub enum Fault {
     /// With the number that answers a frame in a sound state, 0 where it is accepted. One that the model refuses stays
     /// refused.
     Numbers(fn(&State, &[u8], u8) -> u8),
+    /// With the number that refuses a frame, by all that is lent. One that the model accepts stays accepted.
+    Refuses(fn(&Put, u8) -> u8),
+    /// It takes a journal that is too short for one that is long enough.
+    Stretches(fn(&Put) -> bool),
     /// It answers a frame in a sound state as if that were another, and mends what comes of it.
     AsIf(fn(State, &[u8]) -> State, fn(Answered)),
     /// With all that comes of a frame that is read.
@@ -109,6 +114,10 @@ impl Ends for Wrong {
         let (mut bytes, mut frame) = (state.to_vec(), frame.to_vec());
         match self.0 {
             Fault::Replies(fault) => return replies(fault, [state, journal, out], table, &frame),
+            Fault::Refuses(fault) => return refuses(fault, [state, journal, out], table, &frame),
+            Fault::Stretches(fault) => {
+                return stretches(fault, [state, journal, out], table, &frame);
+            }
             Fault::Reads(fault) => fault(&mut bytes, &mut frame),
             _ => {}
         }
@@ -246,6 +255,31 @@ fn replies(fault: fn(&mut Replied), lent: [&mut [u8]; 3], table: &[u8], frame: &
     write_frames(&replied.sent, out)
 }
 
+/// Answers a frame as the model does, but for the number that refuses it.
+fn refuses(fault: fn(&Put, u8) -> u8, lent: [&mut [u8]; 3], table: &[u8], frame: &[u8]) -> u32 {
+    let [state, journal, out] = lent;
+    let result = Model.answer(state, table, journal, frame, out);
+    let put = Put::new(state, [table, journal, frame, out]);
+    match result as u8 {
+        0 => result,
+        number => fault(&put, number).into(),
+    }
+}
+
+/// Answers a frame as the model does with a longer journal, where the fault says so.
+fn stretches(fault: fn(&Put) -> bool, lent: [&mut [u8]; 3], table: &[u8], frame: &[u8]) -> u32 {
+    let [state, journal, out] = lent;
+    let put = Put::new(state, [table, journal, frame, out]);
+    if journal.len() >= JOURNAL_BYTES || !fault(&put) {
+        return Model.answer(state, table, journal, frame, out);
+    }
+    let mut longer = journal.to_vec();
+    longer.resize(JOURNAL_BYTES, 0);
+    let result = Model.answer(state, table, &mut longer, frame, out);
+    journal.copy_from_slice(&longer[..journal.len()]);
+    result
+}
+
 /// Presses a button as the model does, but for the fault.
 fn presses(fault: fn(&mut Pressed), unit: &mut [u8], button: u8, frame: &mut [u8]) -> u32 {
     let Some(before) = unit_of(unit).filter(model::unit::sound) else {
@@ -300,7 +334,7 @@ fn looked_up(table: &[u8], other: fn(u64) -> u64) -> Vec<u8> {
 }
 
 /// Frames within which each must be found.
-const ENOUGH: Options = Options {
+pub const ENOUGH: Options = Options {
     seed: 3,
     frames: 200_000,
 };
@@ -311,6 +345,11 @@ pub fn every_is_found(faults: &[(&str, Fault)]) {
         assert!(all(&mut pair, &ENOUGH).is_err(), "not found: {name}");
         println!("{name}: after {} frames", pair.counts.frames());
     }
+}
+
+/// The same wrong box on both sides.
+pub fn both_with(fault: Fault) -> Pair {
+    Pair::new(Box::new(Wrong(fault)), Box::new(Wrong(fault)))
 }
 
 /// It is the fault that is found: without one, each way of going wrong agrees with the model.
@@ -324,6 +363,8 @@ fn a_box_without_a_fault_is_not_found() {
         (Fault::Numbers(|_, _, number| number), ENOUGH.frames),
         (Fault::AsIf(|s, _| s, |_| ()), ENOUGH.frames),
         (Fault::Replies(|_| ()), ENOUGH.frames),
+        (Fault::Refuses(|_, number| number), ENOUGH.frames),
+        (Fault::Stretches(|_| false), ENOUGH.frames),
         (Fault::Presses(|_| ()), ENOUGH.frames),
         (Fault::Heard(|_, _| 0), ENOUGH.frames),
         (Fault::ReadsBook(Entry::Open, |_| ()), ENOUGH.frames),

@@ -1,12 +1,13 @@
 //! Boxes and units that are wrong with track gangs.
 
 use crate::cases::LocalRunCase;
+use crate::journal_counts::MOST;
 use crate::local_runs::{could_go, of_strange, stands_at};
 use crate::wrong_boxes::{every_is_found, Answered, Fault};
 use inputs::encoding::state_bytes;
 use inputs::frames::{FROM_AT, GANG, KIND_AT, LA, LB, LE, TO_AT, TRAIN_AT};
 use inputs::sizes::{FRAME_BYTES, STATE_BYTES, TRAINS_AT};
-use inputs::sizes::{GIVEN_AT, JOURNAL_RECORDS, LOCAL_RUNS, RECORDS_A_FRAME, SECTIONS_AT};
+use inputs::sizes::{GIVEN_AT, LOCAL_RUNS, SECTIONS_AT};
 use model::{Message, Move, Standing, State, Train, UnitState};
 
 // ---- what a frame says
@@ -129,9 +130,6 @@ fn sections(state: &mut [u8]) -> &mut [u8] {
 fn is_of_gang(frame: &[u8]) -> bool {
     frame.len() == FRAME_BYTES && matches!(frame[KIND_AT], LA | LB)
 }
-
-/// Count at which the journal has room for one frame more.
-const LAST_COUNT: u8 = (JOURNAL_RECORDS - RECORDS_A_FRAME) as u8;
 
 const OF_TRAINS: [(&str, Fault); 9] = [
     (
@@ -331,30 +329,30 @@ const OF_NUMBERS: [(&str, Fault); 10] = [
         }),
     ),
     (
-        "13 before 24, 25 and 26",
+        "13 at 229 before 24, 25 and 26",
         Fault::Numbers(|s, _, number| match number {
-            24..=26 if s.journal > LAST_COUNT => 13,
+            24..=26 if s.journal == MOST => 13,
             _ => number,
         }),
     ),
     (
-        "13 before 7 and 9 for a gang",
+        "13 at 229 before 7 and 9 for a gang",
         Fault::Numbers(|s, f, number| match number {
-            7 | 9 if s.journal > LAST_COUNT && of_gang(f).is_some() => 13,
+            7 | 9 if s.journal == MOST && of_gang(f).is_some() => 13,
             _ => number,
         }),
     ),
     (
         "an LA needs room for eight records",
         Fault::Numbers(|s, f, number| match is_given(f, number) {
-            Some(_) if s.journal == LAST_COUNT => 13,
+            Some(_) if s.journal == MOST => 13,
             _ => number,
         }),
     ),
     (
         "an LB needs room for eight records",
         Fault::Numbers(|s, f, number| match named(f, LB) {
-            Some(_) if number == 0 && s.journal == LAST_COUNT => 13,
+            Some(_) if number == 0 && s.journal == MOST => 13,
             _ => number,
         }),
     ),

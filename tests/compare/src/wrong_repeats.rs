@@ -1,7 +1,8 @@
 //! Boxes that are wrong with repeated requests and arrivals.
 
+use crate::journal_counts::MOST;
 use crate::local_runs::could_go;
-use crate::repeats::{is_earlier, is_full, is_last, repeats};
+use crate::repeats::{is_earlier, is_last, repeats};
 use crate::wrong_boxes::{every_is_found, messages_in, Fault, Replied};
 use inputs::sizes::{JOURNAL_RECORDS, OUT_BYTES};
 use model::{Message, Move, Record, Standing, State, Train, Verdict};
@@ -229,19 +230,20 @@ const OF_REQUESTS: [(&str, Fault); 20] = [
         }),
     ),
     (
-        "13 before a repeated FA",
+        "a repeated FA is 13 at 229",
         Fault::Replies(|r| {
-            if requested(r).is_some() && is_full(r.before) {
+            if requested(r).is_some() && r.before.journal == MOST {
                 r.number = 13;
             }
         }),
     ),
     (
-        "an FA of a Free train is answered where the journal is full",
-        Fault::Replies(|r| {
-            if let (Message::Fa(m), 13) = (r.message, r.number) {
+        "an FA of a Free train is declined and not logged at 229",
+        Fault::Replies(|r| match (r.message, r.number) {
+            (Message::Fa(m), 0) if r.before.journal == MOST && requested(r).is_none() => {
                 answer(r, &[Message::Afe(m)]);
             }
+            _ => {}
         }),
     ),
     (
@@ -359,19 +361,18 @@ const OF_ARRIVALS: [(&str, Fault); 21] = [
         Fault::Replies(|r| refuse_where(r, 12, |train| is_asked(train.standing))),
     ),
     (
-        "13 before a repeated AM",
+        "a repeated AM is 13 at 229",
         Fault::Replies(|r| {
-            if arrived(r).is_some() && is_full(r.before) {
+            if arrived(r).is_some() && r.before.journal == MOST {
                 r.number = 13;
             }
         }),
     ),
     (
-        "an AM of a Running train is taken where the journal is full",
-        Fault::Replies(|r| {
-            if matches!((r.message, r.number), (Message::Am(_), 13)) {
-                answer(r, &[]);
-            }
+        "an AM of a Running train is taken and not logged at 229",
+        Fault::Replies(|r| match (r.message, r.number) {
+            (Message::Am(_), 0) if r.before.journal == MOST => answer(r, &[]),
+            _ => {}
         }),
     ),
     (

@@ -1,11 +1,9 @@
 //! Stored inputs with track gangs: their frames refused, and runs in which trains wait for them.
 
-use crate::stored::{end_to_end, on, Frame, Input, ASK};
+use crate::stored::{on, Frame, Input, ASK};
 use inputs::books::{book, X};
-use inputs::crews;
-use inputs::frames::{frame, local_run, AFE, AM, FA, FROM_AT, GANG, KIND_AT, LA, LB, LE, TO_AT};
-use inputs::sizes::{FRAME_BYTES, JOURNAL_RECORDS, LOCAL_RUNS, OUT_BYTES};
-use model::{Record, Standing, State, Train, Verdict};
+use inputs::frames::{frame, local_run, AM, FA, GANG, LA, LB, LE};
+use inputs::sizes::LOCAL_RUNS;
 
 /// The frames for the two sections of X.
 const LA_0: Frame = local_run(LA, 0);
@@ -28,7 +26,6 @@ pub fn all() -> Vec<Input> {
     ];
     let mut inputs = on_x.map(|(name, frames)| on(&X, name, &frames)).to_vec();
     inputs.push(elder_held_up());
-    inputs.extend(longest_journal());
     inputs
 }
 
@@ -133,89 +130,4 @@ fn elder_held_up() -> Input {
         frame(AM, 1, 1, 0),
     ];
     on(&book, "run-gang-holds-up-an-elder", &frames)
-}
-
-/// The longest journal: each of the 42 requests is declined at first, and all local runs are given and come back. One
-/// more is 26.
-fn longest_journal() -> Option<Input> {
-    let book = end_to_end();
-    let mut run = Run::of(&book)?;
-    run.bring_all_home();
-    while run.state.given < LOCAL_RUNS {
-        run.put(&[LA_0, LB_0]);
-    }
-    run.put(&[LA_0]);
-    Some(on(&book, "run-longest-journal", &run.frames))
-}
-
-/// A run under way, by the model.
-struct Run {
-    state: State,
-    table: Vec<u8>,
-    frames: Vec<Frame>,
-}
-
-impl Run {
-    fn of(book: &[u8]) -> Option<Run> {
-        let crews::Opened { state, table } = crews::open(book)?;
-        Some(Run {
-            state,
-            table,
-            frames: vec![],
-        })
-    }
-
-    /// Every request is declined: at best since others are under way, else since a gang has the section.
-    fn bring_all_home(&mut self) {
-        loop {
-            let requests = self.next_frames(FA, |train| train.standing == Standing::Free);
-            let arrivals =
-                self.next_frames(AM, |train| matches!(train.standing, Standing::Running(_)));
-            let declined = requests.iter().find(|request| self.is_declined(request));
-            match (declined, arrivals.first(), requests.first()) {
-                (Some(request), _, _) => self.put(&[*request]),
-                (None, Some(arrival), _) => self.put(&[*arrival]),
-                (None, None, Some(request)) => {
-                    let section = request[FROM_AT].min(request[TO_AT]);
-                    self.put(&[local_run(LA, section), *request, local_run(LB, section)]);
-                }
-                (None, None, None) => return,
-            }
-        }
-    }
-
-    /// The frames of a kind for the next moves of these trains.
-    fn next_frames(&self, kind: u8, sends: fn(&Train) -> bool) -> Vec<Frame> {
-        let trains = self.state.present().iter().enumerate();
-        let of_train = |(t, train): (usize, &Train)| {
-            let to = train.next().filter(|_| sends(train))?;
-            Some(frame(kind, t as u8, train.at, to))
-        };
-        trains.filter_map(of_train).collect()
-    }
-
-    fn is_declined(&self, request: &Frame) -> bool {
-        let (_, sent) = self.answer(request);
-        let last = sent.chunks_exact(FRAME_BYTES).last();
-        last.is_some_and(|last| last[KIND_AT] == AFE)
-    }
-
-    fn put(&mut self, frames: &[Frame]) {
-        for frame in frames {
-            self.state = self.answer(frame).0;
-            self.frames.push(*frame);
-        }
-    }
-
-    /// The state after a frame, and what is sent.
-    fn answer(&self, frame: &Frame) -> (State, Vec<u8>) {
-        let mut journal = [Record::BLANK; JOURNAL_RECORDS];
-        let mut out = [0; OUT_BYTES];
-        let answered = model::answer(&self.state, &self.table, &mut journal, frame, &mut out);
-        let sent = match answered.1 {
-            Verdict::Refused(_) => 0,
-            Verdict::Sent(frames) => FRAME_BYTES * frames,
-        };
-        (answered.0, out[..sent].to_vec())
-    }
 }

@@ -6,6 +6,7 @@
 //! Inputs are a book and frames as the program reads them. Random ones have fixed seeds.
 
 mod gangs;
+mod journals;
 mod positions;
 mod repeats;
 mod stored;

@@ -1,6 +1,6 @@
 //! Every stored input by name: refused books, refused frames, torn tails, and whole runs.
 
-use crate::{gangs, positions, repeats};
+use crate::{gangs, journals, positions, repeats};
 use inputs::books::{book, book_2, X, Y};
 use inputs::crews::{self, Senders};
 use inputs::frames::{frame, AFE, AM, FA, FE, LA};
@@ -131,6 +131,7 @@ pub fn all() -> Vec<Input> {
     inputs.extend(tracks());
     inputs.extend(frames());
     inputs.extend(gangs::all());
+    inputs.extend(journals::all());
     inputs.extend(positions::all());
     inputs.extend(repeats::all());
     inputs.extend(tails());

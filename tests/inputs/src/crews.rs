@@ -1,9 +1,9 @@
 //! Runs as crews make them, alone, with track gangs or over bad radio, with the answers of the model.
 
-use crate::frames::{frame, local_run, AM, FA, LA, LB};
+use crate::frames::{frame, local_run, AFE, AM, FA, KIND_AT, LA, LB};
 use crate::random::Random;
 use crate::sizes::{FRAME_BYTES, JOURNAL_RECORDS, OUT_BYTES, TABLE_BYTES};
-use model::{Record, Standing, State, Verdict};
+use model::{Record, Standing, State, Train, Verdict};
 
 const JOURNAL: [Record; JOURNAL_RECORDS] = [Record::BLANK; JOURNAL_RECORDS];
 
@@ -17,6 +17,42 @@ pub fn open(book: &[u8]) -> Option<Opened> {
     let mut table = vec![0; TABLE_BYTES];
     let (state, refusal) = model::open(book, &mut table, &JOURNAL);
     (refusal == 0).then_some(Opened { state, table })
+}
+
+/// The state after a frame, and what is sent.
+pub fn answer(state: &State, table: &[u8], frame: &[u8]) -> (State, Vec<u8>) {
+    let (mut journal, mut out) = (JOURNAL, [0; OUT_BYTES]);
+    let (after, verdict) = model::answer(state, table, &mut journal, frame, &mut out);
+    let sent = match verdict {
+        Verdict::Refused(_) => 0,
+        Verdict::Sent(frames) => FRAME_BYTES * frames,
+    };
+    (after, out[..sent].to_vec())
+}
+
+/// The request would get its AFE.
+pub fn is_declined(state: &State, table: &[u8], request: &[u8]) -> bool {
+    let (_, sent) = answer(state, table, request);
+    let last = sent.chunks_exact(FRAME_BYTES).last();
+    last.is_some_and(|last| last[KIND_AT] == AFE)
+}
+
+/// The frames of a kind for the next moves of these trains.
+pub fn next_frames(state: &State, kind: u8, sends: fn(&Train) -> bool) -> Vec<[u8; FRAME_BYTES]> {
+    let trains = state.present().iter().enumerate();
+    let of_train = |(t, train): (usize, &Train)| {
+        let to = train.next().filter(|_| sends(train))?;
+        Some(frame(kind, t as u8, train.at, to))
+    };
+    trains.filter_map(of_train).collect()
+}
+
+pub fn is_free(train: &Train) -> bool {
+    train.standing == Standing::Free
+}
+
+pub fn is_under_way(train: &Train) -> bool {
+    matches!(train.standing, Standing::Running(_))
 }
 
 /// A frame with the state that it meets and what comes of it.
@@ -120,8 +156,26 @@ fn all_home(state: &State) -> bool {
 #[cfg(test)]
 mod tests {
     use super::*;
-    use crate::books::book;
-    use crate::frames::{AFE, FE, KIND_AT};
+    use crate::books::{book, X};
+    use crate::frames::FE;
+
+    #[test]
+    fn next_moves_and_whether_they_are_declined() {
+        let Opened { mut state, table } = open(&X).unwrap();
+        let [first, second] = [frame(FA, 0, 0, 1), frame(FA, 1, 2, 1)];
+        assert_eq!(next_frames(&state, FA, is_free), [first, second]);
+        assert!(next_frames(&state, AM, is_under_way).is_empty());
+        assert!(!is_declined(&state, &table, &first));
+        state = answer(&state, &table, &local_run(LA, 0)).0;
+        assert!(is_declined(&state, &table, &first));
+        assert!(!is_declined(&state, &table, &second));
+        state = answer(&state, &table, &second).0;
+        assert_eq!(next_frames(&state, FA, is_free), [first]);
+        let arrival = frame(AM, 1, 2, 1);
+        assert_eq!(next_frames(&state, AM, is_under_way), [arrival]);
+        // Refused, since the train is not there.
+        assert!(!is_declined(&state, &table, &frame(FA, 2, 0, 1)));
+    }
 
     /// The frames of some runs, long enough for twenty gangs.
     fn turns(senders: Senders) -> Vec<Turn> {

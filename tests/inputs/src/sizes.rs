@@ -1,7 +1,8 @@
 //! Sizes, each said once: the model's are the paper's, the others are those of the C interface.
 
 pub use model::{
-    FRAME_BYTES, JOURNAL_RECORDS, LOCAL_RUNS, LONGEST_BOOK, OUT_BYTES, RECORDS_A_FRAME, TABLE_BYTES,
+    FRAME_BYTES, JOURNAL_RECORDS, LOCAL_RUNS, LONGEST_BOOK, MOST_COUNTED, OUT_BYTES,
+    RECORDS_A_FRAME, TABLE_BYTES,
 };
 
 pub const RECORD_BYTES: usize = 5;

@@ -1,8 +1,8 @@
 //! The dispatcher: its state, what makes a state sound, the opening of a
-//! book, and the answer to a frame (refusals 1 to 9, 12, 13, 19, 20, 24 to 26).
+//! book, and the answer to a frame (refusals 1 to 9, 12, 19, 20, 24 to 26).
 
 use crate::frame::{read_frame, write_frame, Message, Move, FRAME_BYTES, GANG};
-use crate::journal::{log, Record, JOURNAL_RECORDS, RECORDS_A_FRAME};
+use crate::journal::{log, Record, JOURNAL_RECORDS, MOST_COUNTED};
 use crate::line::{has_siding, on_the_line, read_book, Line};
 use crate::table::{bit, code, fill, lawful, TABLE_BYTES};
 
@@ -199,7 +199,7 @@ pub fn sound(state: &State) -> bool {
         && (1..=6).contains(&state.trains)
         && on_the_line(state.sidings, state.posts)
         && state.given <= LOCAL_RUNS
-        && usize::from(state.journal) <= JOURNAL_RECORDS;
+        && usize::from(state.journal) <= MOST_COUNTED;
     if !ranges {
         return false;
     }
@@ -309,18 +309,12 @@ enum Accepted {
 
 /// The checks from 3 on of a frame put to a sound state: what passes is an FA
 /// or an AM of one of its trains, or an LA or an LB for one of its sections.
-/// Repeats are answered before 13.
 fn accept(state: &State, frame: &[u8]) -> Result<Accepted, u8> {
     let message = read_frame(frame)?;
-    let accepted = match message {
-        Message::Fe(_) | Message::Afe(_) | Message::Le(_) => return Err(6),
-        Message::Fa(_) | Message::Am(_) => check_train(state, message)?,
-        Message::La(_) | Message::Lb(_) => check_gang(state, message)?,
-    };
-    let full = JOURNAL_RECORDS - usize::from(state.journal) < RECORDS_A_FRAME;
-    match accepted {
-        Accepted::New(_) if full => Err(13),
-        _ => Ok(accepted),
+    match message {
+        Message::Fe(_) | Message::Afe(_) | Message::Le(_) => Err(6),
+        Message::Fa(_) | Message::Am(_) => check_train(state, message),
+        Message::La(_) | Message::Lb(_) => check_gang(state, message),
     }
 }
 
@@ -473,8 +467,10 @@ fn send(messages: &[Message], out: &mut [u8]) -> Verdict {
 
 /// The dispatcher's answer to a frame. Refused: state and buffers as before.
 /// Otherwise the new state and the number of frames at the head of `out`; the
-/// frame and its answers are logged at the journal's count. A repeat is answered
-/// with state and journal as before.
+/// frame and its answers are logged at the journal's count. The count of a sound
+/// state leaves room for all of them. Near 229 the new state may be strange, by
+/// its count alone; after an opened book it never is. A repeat is answered with
+/// state and journal as before.
 pub fn answer(
     state: &State,
     table: &[u8],

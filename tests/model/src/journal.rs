@@ -9,6 +9,11 @@ pub const JOURNAL_RECORDS: usize = 236;
 /// Records that a frame adds at the most: its own and six answers.
 pub const RECORDS_A_FRAME: usize = 7;
 
+/// The highest count of a sound state: it leaves room for all that one frame
+/// adds. After an opened book the count is 228 at the most: 42 moves of four
+/// records, and 20 local runs of three.
+pub const MOST_COUNTED: usize = JOURNAL_RECORDS - RECORDS_A_FRAME;
+
 /// One record. A lent journal can hold any bytes past its count.
 #[derive(Debug, Clone, Copy, PartialEq, Eq)]
 pub struct Record {

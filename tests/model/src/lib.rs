@@ -18,7 +18,7 @@ pub mod unit;
 
 pub use dispatcher::{answer, open, sound, Standing, State, Train, Verdict, LOCAL_RUNS, OUT_BYTES};
 pub use frame::{read_frame, write_frame, Message, Move, FRAME_BYTES, GANG};
-pub use journal::{Record, JOURNAL_RECORDS, RECORDS_A_FRAME};
+pub use journal::{Record, JOURNAL_RECORDS, MOST_COUNTED, RECORDS_A_FRAME};
 pub use line::{read_book, read_book_with_positions, Line, LONGEST_BOOK};
 pub use table::{fill, TABLE_BYTES};
 pub use timing::running_time;

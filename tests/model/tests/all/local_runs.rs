@@ -6,20 +6,20 @@ use crate::tally::Tally;
 use model::*;
 
 /// What a gang says, or is told, of a section.
-fn gang(kind: u8, section: u8) -> [u8; FRAME_BYTES] {
+pub fn gang(kind: u8, section: u8) -> [u8; FRAME_BYTES] {
     frame(kind, GANG, section, section + 1)
 }
 
 /// What came of a frame: the frames sent, or the refusal.
-type Came = Result<Vec<[u8; 4]>, u8>;
+pub type Came = Result<Vec<[u8; 4]>, u8>;
 
 /// The section is given: one LE, and nothing else.
-fn given(section: u8) -> Came {
+pub fn given(section: u8) -> Came {
     Ok(vec![[LE, GANG, section, section + 1]])
 }
 
 /// Local runs are asked for and given back at once, so many times.
-fn come_and_go(b: &mut Box, section: u8, times: u8) {
+pub fn come_and_go(b: &mut Box, section: u8, times: u8) {
     for _ in 0..times {
         assert_eq!(b.put(&gang(LA, section)), given(section));
         assert_eq!(b.put(&gang(LB, section)), Ok(vec![]));
@@ -371,7 +371,7 @@ fn the_same_granting_as_after_an_arrival() {
     assert!(granted[..3].iter().all(|n| *n > 20), "{granted:?}");
 }
 
-/// Six that wait all go: 42 bytes, and the last seven of 236 records.
+/// Six that wait all go: 42 bytes, and the last seven of 236 records. Then the state is strange.
 #[test]
 fn six_go_when_a_gang_is_back() {
     let trains: Vec<_> = (0..6)
@@ -386,11 +386,14 @@ fn six_go_when_a_gang_is_back() {
         assert_eq!(b.put(&gang(LB, section)), Ok(sent));
         assert_eq!(b.state.journal, 236);
         assert_eq!(b.journal[229], record(LB, 255, section, section + 1));
-        assert!(sound(&b.state));
+        assert_eq!(b.journal[235], authority(0, 0, 1, 2));
+        assert!(!sound(&b.state));
+        assert_eq!(b.put(&frame(AM, 0, 0, 1)), Err(1));
     }
 }
 
-// "The journal grows to 236 records, and refusals 1, 2 and 13 count with that."
+// "The journal grows to 236 records, and refusals 1, 2 and 13 count with that." Card 7 takes 13 away,
+// and a count above 229 is 1.
 
 /// A line of four posts with a gang on section 1 and so many records.
 fn with_records(count: u8, runs: u8) -> Box {
@@ -400,15 +403,11 @@ fn with_records(count: u8, runs: u8) -> Box {
     boxed(s, vec![255; TABLE_BYTES])
 }
 
-/// 13 from count 230 on, after all other checks; 1 above 236.
+/// 1 from count 230 on, before all other checks; up to 229 each of them as ever.
 #[test]
-fn full_for_gangs_from_230_records_on() {
+fn strange_for_gangs_from_230_records_on() {
     for count in 0..=255u8 {
-        let full = match count {
-            0..=229 => 0,
-            230..=236 => 13,
-            _ => 1,
-        };
+        let strange = count > 229;
         for (f, number) in [
             (gang(LA, 0), 0),
             (gang(LB, 1), 0),
@@ -421,15 +420,12 @@ fn full_for_gangs_from_230_records_on() {
             (frame(LB, 255, 2, 1), 9),
             (frame(8, 255, 0, 1), 5),
         ] {
-            let due = match (full, number) {
-                (1, _) | (_, 0) => full,
-                _ => number,
-            };
+            let due = if strange { 1 } else { number };
             let came = with_records(count, 19).put(&f);
             assert_eq!(came.err().unwrap_or(0), due, "{f:?} at {count}");
         }
         let came = with_records(count, 20).put(&gang(LA, 0));
-        assert_eq!(came, Err(if full == 1 { 1 } else { 26 }));
+        assert_eq!(came, Err(if strange { 1 } else { 26 }));
     }
 }
 
@@ -441,8 +437,15 @@ fn the_last_records() {
     assert_eq!(b.state.journal, 231);
     assert_eq!(b.journal[229], record(LA, 255, 0, 1));
     assert_eq!(b.journal[230], record(LE, 255, 0, 1));
-    assert_eq!(b.put(&gang(LB, 0)), Err(13));
-    assert_eq!(b.put(&frame(FA, 0, 0, 1)), Err(13));
+    assert_eq!(b.put(&gang(LB, 0)), Err(1));
+    assert_eq!(b.put(&frame(FA, 0, 0, 1)), Err(1));
+    // One before it the LB is taken too, with its one record.
+    let mut b = with_records(228, 19);
+    assert_eq!(b.put(&gang(LB, 1)), Ok(vec![]));
+    assert_eq!(b.put(&gang(LA, 0)), given(0));
+    assert_eq!(b.state.journal, 231);
+    assert_eq!(b.journal[228], record(LB, 255, 1, 2));
+    assert_eq!(b.put(&gang(LB, 0)), Err(1));
 }
 
 /// 2: a journal of 235 records, an out buffer of 41 bytes, a table of 32,767. After 1, before all
@@ -468,63 +471,11 @@ fn short_stores() {
     assert_eq!(open(&X, &mut table, &[OLD; 236]).1, 0);
 }
 
-/// A list that fills a journal as far as any can: 42 moves, each declined, granted and reported,
-/// and twenty local runs. 13 is never met, and nothing is left to be said.
-#[test]
-fn the_fullest_journal() {
-    let routes = [(0, 7), (0, 7), (0, 7), (7, 0), (7, 0), (7, 0)];
-    let mut b = Box::open(&book_of(&[4; 8], Some(255), &routes));
-    for section in 0..7 {
-        all_move_once(&mut b, section);
-    }
-    assert_eq!(b.state.journal, 168 + 3 * 7);
-    come_and_go(&mut b, 6, 13);
-    assert_eq!((b.state.journal, b.state.given), (228, 20));
-    assert!(b.state.present().iter().all(|t| t.at == t.end));
-    for section in 0..7 {
-        assert_eq!(b.put(&gang(LA, section)), Err(26));
-        assert_eq!(b.put(&gang(LB, section)), Err(25));
-    }
-    for train in 0..6 {
-        assert_eq!(b.put(&frame(FA, train, 0, 1)), Err(8));
-        assert_eq!(b.put(&frame(AM, train, 0, 1)), Err(8));
-        // What can still be said is the last arrival once more.
-        let (from, to) = if train < 3 { (6, 7) } else { (1, 0) };
-        assert!(put_repeat(&mut b, &frame(AM, train, from, to)).is_empty());
-    }
-}
-
-/// All six trains ask in vain, by a table without bits; then, by one with all, a gang on the
-/// section comes and goes, and they move one post each.
-fn all_move_once(b: &mut Box, section: u8) {
-    let move_of = |b: &Box, t: u8| {
-        let train = b.state.train[usize::from(t)];
-        (train.at, train.next().unwrap())
-    };
-    b.table.fill(0);
-    for t in 0..6 {
-        let (from, to) = move_of(b, t);
-        let declined = vec![[AFE, t, from, to]];
-        assert_eq!(b.put(&frame(FA, t, from, to)), Ok(declined));
-    }
-    b.table.fill(255);
-    assert_eq!(b.put(&gang(LA, section)), given(section));
-    assert!(!b.put(&gang(LB, section)).unwrap().is_empty());
-    let runs = |b: &Box, t: u8| {
-        let standing = b.state.train[usize::from(t)].standing;
-        matches!(standing, Standing::Running(_))
-    };
-    while let Some(t) = (0..6).find(|t| runs(b, *t)) {
-        let (from, to) = move_of(b, t);
-        assert!(b.put(&frame(AM, t, from, to)).is_ok());
-    }
-}
-
 // "LE at the dispatcher is 6."
 
 #[test]
 fn given_at_the_dispatcher_is_6() {
-    for mut b in [Box::open(&X), with_records(236, 20), after_twenty()] {
+    for mut b in [Box::open(&X), with_records(229, 20), after_twenty()] {
         for train in [0, 1, 6, 254, 255] {
             for (from, to) in [(0, 1), (1, 2), (1, 0), (0, 0), (7, 8), (255, 0), (9, 9)] {
                 assert_eq!(b.put(&frame(LE, train, from, to)), Err(6));
@@ -663,6 +614,7 @@ fn the_tally_counts_every_gang() {
 
 // "Checks: for kinds 5 and 7, after 6, a train byte not 255 is 7 and posts not so named are 9; then
 // for LA 24, section taken, and 26, twenty already given; for LB 25, no local run there; then 13."
+// Card 7 takes 13 away.
 
 /// The refusal of a frame put to a state, or 0.
 fn number_of(state: &State, f: &[u8]) -> u8 {

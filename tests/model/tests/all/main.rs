@@ -1,6 +1,7 @@
 //! The tests of the model, by subject.
 
 mod common;
+mod counts;
 mod examples;
 mod local_runs;
 mod repeats;

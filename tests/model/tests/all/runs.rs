@@ -3,6 +3,7 @@
 //! Crews and track gangs send the frames, crews some of them again.
 
 use crate::common::*;
+use crate::counts::check_count;
 use crate::tally::{Has, Tally};
 use model::*;
 
@@ -164,6 +165,7 @@ impl Run {
             self.tally.check_standstill();
         }
         assert!(sound(&self.state));
+        check_count(&self.state, &self.journal);
         self.check_free_tracks();
         self.check_gangs();
 
@@ -330,7 +332,8 @@ fn demand_three() {
         crowded += u32::from(run.tally.crowded());
         stuck += u32::from(run.stuck > 0);
     }
-    // The runs meet every refusal that a run can meet, and no other: never 13.
+    // The runs meet every refusal that a run can meet, and no other: never 13, which is gone, and
+    // never 1, however many records there are.
     for (number, n) in refused.iter().enumerate() {
         let meets = matches!(number, 2..=9 | 12 | 24..=26);
         assert_eq!(*n > 0, meets, "refusal {number}: {n}");

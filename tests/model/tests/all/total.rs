@@ -1,4 +1,4 @@
-//! Any input gets an answer: garbage states, units, books, frames, stores.
+//! Any input gets an answer: garbage states, units, books, frames, stores. No answer is 13.
 
 use crate::common::*;
 use model::*;
@@ -82,6 +82,10 @@ fn near(rng: &mut Rng) -> State {
         *gang = rng.chance(15);
     }
     s.given = rng.within(0, 21);
+    // Counts on both sides of 229 more often than by chance.
+    if rng.chance(20) {
+        s.journal = rng.within(220, 238);
+    }
     s
 }
 
@@ -135,6 +139,11 @@ fn in_siding(t: &Train, sidings: u8) -> bool {
 
 /// Soundness once more, by the paper's words and in another way.
 fn sound_again(s: &State) -> bool {
+    sound_but_for_its_count(s) && s.journal < 230
+}
+
+/// The same for a state of any count.
+pub fn sound_but_for_its_count(s: &State) -> bool {
     held_soundly(s) && on_right_tracks(s) && with_right_moves(s)
 }
 
@@ -156,15 +165,14 @@ fn with_right_moves(s: &State) -> bool {
     })
 }
 
-/// The numbers of the state itself are in their ranges.
+/// The numbers of the state itself are in their ranges, its count aside.
 fn ranges(s: &State) -> bool {
     let line = s.posts >= 2 && s.posts <= 8 && s.trains >= 1 && s.trains <= 6;
-    let kept = s.journal <= 236 && s.given <= 20;
-    line && kept && u32::from(s.sidings) < 2u32.pow(s.posts.into())
+    line && s.given <= 20 && u32::from(s.sidings) < 2u32.pow(s.posts.into())
 }
 
-/// All but the tracks' numbers: each post with the six-bit set of its holders,
-/// each section likewise, with a seventh bit for a gang.
+/// All but the tracks' numbers, the last moves and the count: each post with the six-bit set of its
+/// holders, each section likewise, with a seventh bit for a gang.
 fn held_soundly(s: &State) -> bool {
     if !ranges(s) {
         return false;
@@ -198,8 +206,8 @@ fn held_soundly(s: &State) -> bool {
         && numbers.iter().all(|n| *n < s.journal && distinct(n))
 }
 
-/// Of a state that is sound but for the tracks' numbers: each track that is held, with its post, is
-/// one of that post and is held once; one put away has none.
+/// Of a state that is held soundly: each track that is held, with its post, is one of that post and
+/// is held once; one put away has none.
 fn on_right_tracks(s: &State) -> bool {
     let mut held = HashSet::new();
     let mut take = |post: u8, track: u8| {
@@ -291,27 +299,45 @@ fn put_some_frame(s: &State, table: &[u8], rng: &mut Rng) -> Came {
         Verdict::Refused(n) => {
             assert_eq!(after, *s);
             assert_eq!(n == 1, !sound(s));
-            assert!(matches!(n, 1..=9 | 12 | 13 | 24..=26), "{n}");
+            assert!(matches!(n, 1..=9 | 12 | 24..=26), "{n}");
             assert!(out.iter().all(|b| *b == 0xCC));
             assert!(journal.iter().all(|r| *r == OLD));
             Err(n)
         }
         Verdict::Sent(n) => {
-            assert!(sound(s) && sound(&after), "{s:?} {after:?}");
-            let due = repeat_due(s, &f);
-            let is_repeat = due.is_some();
-            if let Some(due) = due {
-                assert_eq!((after, n), (*s, due.len()));
-                assert_eq!(out[..FRAME_BYTES * n], *due.as_flattened());
-                assert!(out[FRAME_BYTES * n..].iter().all(|b| *b == 0xCC));
-                assert!(journal.iter().all(|r| *r == OLD));
-            } else {
-                assert_eq!(usize::from(after.journal), usize::from(s.journal) + 1 + n);
-                assert_eq!((after.possessions, after.given), gangs_due(s, &f));
-            }
-            Ok((f[3], is_repeat))
+            let (sent, rest) = out.split_at(FRAME_BYTES * n);
+            assert!(rest.iter().all(|b| *b == 0xCC));
+            Ok((f[3], check_taken(s, &after, &f, sent, &journal)))
         }
     }
+}
+
+/// Checks what came of a frame that was accepted, and says whether it was a repeat. The state is left
+/// sound, or strange by its count alone.
+fn check_taken(s: &State, after: &State, f: &[u8], sent: &[u8], journal: &[Record]) -> bool {
+    assert!(sound(s) && sound_but_for_its_count(after));
+    assert_eq!(sound(after), after.journal < 230);
+    let due = repeat_due(s, f);
+    match &due {
+        Some(due) => {
+            assert_eq!((after, sent), (s, due.as_flattened()));
+            assert!(journal.iter().all(|r| *r == OLD));
+        }
+        None => {
+            assert_eq!(logged(s, after, journal), [f, sent].concat());
+            assert_eq!((after.possessions, after.given), gangs_due(s, f));
+        }
+    }
+    due.is_some()
+}
+
+/// The records between the counts, as frames; all others are as they were.
+fn logged(before: &State, after: &State, journal: &[Record]) -> Vec<u8> {
+    let (from, to) = (usize::from(before.journal), usize::from(after.journal));
+    let others = journal[..from].iter().chain(&journal[to..]);
+    assert!(others.clone().all(|r| *r == OLD));
+    let as_frame = |r: &Record| frame(r.kind, r.train, r.from, r.to);
+    journal[from..to].iter().flat_map(as_frame).collect()
 }
 
 /// What the states showed of gangs.
@@ -346,21 +372,39 @@ impl Gangs {
 struct Repeats {
     /// Not sound for a last finished move alone.
     other_move: u32,
-    /// FAs and AMs that were taken as repeats, and those of them with a full journal.
+    /// FAs and AMs that were taken as repeats.
     asked: u32,
     arrived: u32,
-    full: u32,
 }
 
 impl Repeats {
     fn count(&mut self, s: &State, came: Came) {
-        let strange = held_soundly(s) && on_right_tracks(s) && !sound(s);
+        let strange = held_soundly(s) && on_right_tracks(s) && s.journal < 230 && !sound(s);
         self.other_move += u32::from(strange);
         self.asked += u32::from(came == Ok((FA, true)));
         self.arrived += u32::from(came == Ok((AM, true)));
-        let full = s.journal >= 230;
-        assert!(!full || !matches!(came, Ok((_, false))));
-        self.full += u32::from(full && came.is_ok());
+    }
+}
+
+/// What the states showed of counts.
+#[derive(Debug, Default)]
+struct Counts {
+    /// Not sound for the count alone.
+    above: u32,
+    /// New frames and repeats that were taken at 223 to 229, from where a frame may leave a count
+    /// above 229.
+    new: u32,
+    again: u32,
+}
+
+impl Counts {
+    fn count(&mut self, s: &State, came: Came) {
+        let above = sound_but_for_its_count(s) && s.journal > 229;
+        assert!(!above || came == Err(1));
+        self.above += u32::from(above);
+        let high = (223..=229).contains(&s.journal);
+        self.new += u32::from(high && matches!(came, Ok((_, false))));
+        self.again += u32::from(high && matches!(came, Ok((_, true))));
     }
 }
 
@@ -371,6 +415,7 @@ fn states_of_all_sorts() {
     let (mut good, mut strange, mut answered, mut crowded, mut off_track) = (0, 0, 0, 0, 0);
     let mut gangs = Gangs::default();
     let mut repeats = Repeats::default();
+    let mut counts = Counts::default();
     for round in 0..80_000 {
         let s = match round % 4 {
             0 => garbage(&mut rng),
@@ -382,6 +427,7 @@ fn states_of_all_sorts() {
         answered += u32::from(came.is_ok());
         gangs.count(&s, came);
         repeats.count(&s, came);
+        counts.count(&s, came);
         good += u32::from(sound(&s));
         crowded += u32::from(sound(&s) && !held_soundly(&State { sidings: 0, ..s }));
         off_track += u32::from(held_soundly(&s) && !on_right_tracks(&s));
@@ -393,8 +439,10 @@ fn states_of_all_sorts() {
     assert!(gangs.out > 500 && gangs.unread > 500, "{gangs:?}");
     assert!(gangs.in_the_way > 500, "{gangs:?}");
     assert!(gangs.asked > 300 && gangs.back > 300, "{gangs:?}");
-    assert!(repeats.other_move > 500 && repeats.full > 20, "{repeats:?}");
+    assert!(repeats.other_move > 500, "{repeats:?}");
     assert!(repeats.asked > 200 && repeats.arrived > 200, "{repeats:?}");
+    assert!(counts.above > 500, "{counts:?}");
+    assert!(counts.new > 100 && counts.again > 50, "{counts:?}");
 }
 
 #[test]
@@ -410,6 +458,7 @@ fn units_of_all_sorts() {
         };
         let button = BUTTONS[rng.below(5) as usize];
         let (after, refusal, sent) = unit::press(&u, button);
+        assert!(matches!(refusal, 0 | 1 | 8 | 21), "{refusal}");
         assert_eq!(refusal == 1, !unit::sound(&u));
         assert!(button != Button::Again || (after == u && sent.is_some() == (refusal == 0)));
         assert!(refusal == 0 || (after == u && sent.is_none()));
@@ -417,6 +466,7 @@ fn units_of_all_sorts() {
         let f = frame(rng.within(0, 8), number(&mut rng), u.at, number(&mut rng));
         let f = &f[..FRAME_BYTES - usize::from(!rng.chance(95))];
         let (after, refusal) = unit::hear(&u, f);
+        assert!(matches!(refusal, 0 | 1 | 3..=6 | 22), "{refusal}");
         assert_eq!(refusal == 1, !unit::sound(&u));
         assert!(refusal == 0 || after == u);
         assert!(refusal != 0 || unit::sound(&after));
@@ -504,8 +554,9 @@ fn books_of_all_sorts() {
             Err(n) => assert_eq!(refusal, n),
         }
     }
-    for n in [0, 4, 14, 15, 16, 17, 18, 19, 20, 23, 27] {
-        assert!(met[n] > 0, "{n}");
+    for (n, times) in met.iter().enumerate() {
+        let meets = matches!(n, 0 | 4 | 14..=20 | 23 | 27);
+        assert_eq!(*times > 0, meets, "{n}: {met:?}");
     }
 }
 
@@ -599,8 +650,10 @@ fn questions_of_all_sorts() {
             assert_eq!(read_book(&b).err().unwrap_or(0), refusal_due(&b), "{b:?}");
         }
     }
-    for n in [0, 4, 9, 14, 15, 16, 17, 18, 23, 27, 28] {
-        assert!(met[n] > 50, "{n}: {met:?}");
+    for (n, times) in met.iter().enumerate() {
+        let meets = matches!(n, 0 | 4 | 9 | 14..=18 | 23 | 27 | 28);
+        assert_eq!(*times > 50, meets, "{n}: {met:?}");
+        assert!(meets || *times == 0, "{n}: {met:?}");
     }
 }
 

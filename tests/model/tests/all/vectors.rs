@@ -393,59 +393,65 @@ fn the_largest_code() {
     assert_eq!(b.put(&frame(FA, 5, 1, 0)), Ok(vec![[AFE, 5, 1, 0]]));
 }
 
-/// Six FEs, or five and an AFE, and 229 records before them.
-#[test]
-fn six_frames_out() {
-    let mut trains: Vec<(u8, u8, Standing)> = (0..6)
+/// Five trains that wait, the last the longest, a sixth, and 229 records.
+fn five_wait_and(sixth: (u8, u8, Standing)) -> Box {
+    let mut trains: Vec<_> = (0..5)
         .map(|t| (t, t + 1, Standing::Asked(100 - t)))
         .collect();
-    trains[5].2 = Standing::Free;
-    let mut b = boxed(state(&[4; 8], &trains, 229), vec![255; TABLE_BYTES]);
+    trains.push(sixth);
+    boxed(state(&[4; 8], &trains, 229), vec![255; TABLE_BYTES])
+}
+
+/// At 229 records five that wait go and a sixth asks: six FEs, or five and an AFE, and 236 records.
+/// It arrives: five FEs and 235 records. All are written, and the state is strange then.
+#[test]
+fn six_frames_out() {
+    let order = |sent: &[[u8; 4]]| sent.iter().map(|f| f[1]).collect::<Vec<u8>>();
+    let mut b = five_wait_and((5, 6, Standing::Free));
     let sent = b.put(&frame(FA, 5, 5, 6)).unwrap();
-    let order: Vec<u8> = sent.iter().map(|f| f[1]).collect();
-    assert_eq!(order, [4, 3, 2, 1, 0, 5]);
+    assert_eq!(order(&sent), [4, 3, 2, 1, 0, 5]);
     assert!(sent.iter().all(|f| f[0] == FE));
     assert_eq!(b.state.journal, 236);
     assert_eq!(b.journal[228], Record::BLANK);
     assert_eq!(b.journal[229], record(FA, 5, 5, 6));
     assert_eq!(b.journal[235], authority(5, 5, 6, 1));
-    assert!(sound(&b.state));
+    assert!(!sound(&b.state));
 
-    trains[5] = (1, 0, Standing::Free);
-    let mut b = boxed(state(&[4; 8], &trains, 229), vec![255; TABLE_BYTES]);
+    let mut b = five_wait_and((1, 0, Standing::Free));
     let sent = b.put(&frame(FA, 5, 1, 0)).unwrap();
-    let order: Vec<u8> = sent.iter().map(|f| f[1]).collect();
-    assert_eq!(order, [4, 3, 2, 1, 0, 5]);
+    assert_eq!(order(&sent), [4, 3, 2, 1, 0, 5]);
     assert_eq!(sent[5][0], AFE);
     assert_eq!(b.state.journal, 236);
+    assert_eq!(b.journal[235], record(AFE, 5, 1, 0));
+    assert_eq!(b.put(&frame(FA, 5, 1, 0)), Err(1));
 
-    // An AM with five waiting.
-    trains[5] = (6, 7, Standing::Running(1));
-    let mut b = boxed(state(&[4; 8], &trains, 229), vec![255; TABLE_BYTES]);
-    assert_eq!(b.put(&frame(AM, 5, 6, 7)).unwrap().len(), 5);
+    let mut b = five_wait_and((6, 7, Standing::Running(1)));
+    let sent = b.put(&frame(AM, 5, 6, 7)).unwrap();
+    assert_eq!(order(&sent), [4, 3, 2, 1, 0]);
+    assert!(sent.iter().all(|f| f[0] == FE));
     assert_eq!(b.state.journal, 235);
+    assert_eq!(b.journal[234], authority(0, 0, 1, 2));
+    assert_eq!(b.journal[235], Record::BLANK);
+    assert_eq!(b.put(&frame(AM, 0, 0, 1)), Err(1));
 }
 
-/// 13 from count 230 on, last of all checks, also for AM; a repeat does not meet it.
+/// 1 from count 230 on, first of all checks, for a new frame, for one that is refused by another
+/// number, and for a repeat.
 #[test]
-fn full_from_230_records_on() {
+fn strange_from_230_records_on() {
     for count in 0..=255u8 {
         let trains = [(0, 1, Standing::Free), (2, 1, Standing::Running(4))];
         for length in [236, 300] {
             let mut b = boxed(state(&[4; 3], &trains, count), vec![255; TABLE_BYTES]);
             b.journal = vec![OLD; length];
-            let full = match count {
-                0..=229 => 0,
-                230..=236 => 13,
-                _ => 1,
-            };
+            let strange = u8::from(count > 229);
             for (kind, train, from) in [(FA, 0, 0), (AM, 1, 2)] {
                 let mut x = boxed(b.state, b.table.clone());
                 x.journal = b.journal.clone();
                 let got = x.put(&frame(kind, train, from, 1));
-                assert_eq!(got.err().unwrap_or(0), full, "count {count}");
+                assert_eq!(got.err().unwrap_or(0), strange, "count {count}");
             }
-            let other = |came| if full == 1 { Err(1) } else { came };
+            let other = |came| if strange == 1 { Err(1) } else { came };
             assert_eq!(b.put(&frame(AM, 0, 0, 1)), other(Err(12)));
             let again = vec![[FE, 1, 2, 1]];
             assert_eq!(b.put(&frame(FA, 1, 2, 1)), other(Ok(again)));
@@ -484,7 +490,7 @@ fn strange_then_short_then_torn() {
 type Change = fn(&mut State);
 
 /// Whether the opened X is still sound with this change.
-const CHANGES: [(bool, Change); 34] = [
+const CHANGES: [(bool, Change); 37] = [
     (true, |_| ()),
     (false, |s| s.posts = 1),
     (false, |s| s.posts = 2), // train 1 starts at post 2
@@ -511,8 +517,10 @@ const CHANGES: [(bool, Change); 34] = [
     // The last finished move goes with the present post.
     (false, |s| s.train[0].at = 1),
     (false, |s| s.train[0].last = Some((0, 1))),
-    (true, |s| s.journal = 236),
-    (false, |s| s.journal = 237),
+    (true, |s| s.journal = 229),
+    (false, |s| s.journal = 230),
+    (false, |s| s.journal = 236),
+    (false, |s| s.journal = 255),
     // FA numbers.
     (false, |s| s.train[0].standing = Standing::Asked(0)),
     (true, |s| {
@@ -526,8 +534,12 @@ const CHANGES: [(bool, Change); 34] = [
         s.journal = 2;
     }),
     (false, |s| {
-        s.train[0].standing = Standing::Asked(236);
-        s.journal = 236;
+        s.train[0].standing = Standing::Asked(229);
+        s.journal = 229;
+    }),
+    (true, |s| {
+        s.train[0].standing = Standing::Asked(228);
+        s.journal = 229;
     }),
     // Running: tracks at both posts, one holder of a section.
     (true, |s| s.train[0].standing = Standing::Running(1)),
@@ -779,9 +791,10 @@ fn journal_functions() {
     assert_eq!(journal::log(&mut journal, 5, r), 6);
     assert_eq!(journal[5], r);
     assert_eq!(journal::log(&mut journal, 235, r), 236);
-    for full in [236, 237, 254, 255] {
+    assert_eq!(journal[235], r);
+    for past in [236, 237, 254, 255] {
         let before = journal.clone();
-        assert_eq!(journal::log(&mut journal, full, r), full);
+        assert_eq!(journal::log(&mut journal, past, r), past);
         assert_eq!(journal, before);
     }
     assert_eq!(journal::log(&mut [], 0, r), 0);
