@@ -28,6 +28,7 @@ use Rattle.rules.specs.State.{stateWith}
 use Rattle.rules.proofs.Trains.{changed, changed-own, changed-other, changed-each, changed-line}
 use Rattle.rules.proofs.Validity.{Consistent}
 use Rattle.assurance.specs.Types.{Line, Message, Fa, Fe, Afe, Am, La, Le, Lb, Refused, Record, State}
+use Rattle.assurance.specs.Run.{likeAmong}
 use Rattle.assurance.specs.Observer.{Claim, nothing, asked, authority, Seen, Observer}
 use Rattle.assurance.specs.WholeList.{Requested, isFeOf}
 use Rattle.assurance.proofs.Logging.{later-set, requested-later}
@@ -53,7 +54,7 @@ seenOf x = record { post = x .at .0; claim = claimOf (x .status) (x .at .0) (nex
 
 -- train t's FE records among the first n of a journal
 abbrev pub given : ℕ → List Record → ℕ → ℕ
-given n j t = countBelow n (λ i. isFeOf t (recordAt j i))
+given n j t = likeAmong (isFeOf t) n j
 
 -- train t's record x, where the journal j has n records and the observer has y
 pub record Agrees (n : ℕ) (j : List Record) (y : Seen) (t : ℕ) (x : Train) : Type 0 where

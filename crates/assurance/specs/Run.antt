@@ -28,9 +28,12 @@ pub record Ran : Type 0 where
   pub journal : List Record
   pub exchanges : List Exchange
 
--- how many records below the journal count are of a sort
+-- how many of a journal's first n records are of a sort, and how many of those of a run
+abbrev pub likeAmong : (Record → Bool) → ℕ → List Record → ℕ
+likeAmong like n journal = countBelow n (λ i. like (recordAt journal i))
+
 abbrev pub recordsLike : (Record → Bool) → Ran → ℕ
-recordsLike like r = countBelow (r .state .logged) (λ i. like (recordAt (r .journal) i))
+recordsLike like r = likeAmong like (r .state .logged) (r .journal)
 
 -- the records of a journal from number m on and below n
 abbrev pub recordsBetween : ℕ → ℕ → List Record → List Record

@@ -113,8 +113,11 @@ abbrev pub frameWith : ℕ → ℕ → ℕ → ℕ → ℕ → ℕ → List ℕ
 frameWith size version kind t p q = 0 ∷ size ∷ version ∷ kind ∷ t ∷ p ∷ q ∷ []
 
 -- book X, opened, with a made-up journal count
+abbrev pub countedOnX : ℕ → State
+countedOnX n = counting (openedBlank bookX .state) n
+
 abbrev pub ranWithRecords : ℕ → List (List ℕ) → Ran
-ranWithRecords n frames = ranFrom (counting (openedBlank bookX .state) n) (openedBlank bookX .table) frames
+ranWithRecords n frames = ranFrom (countedOnX n) (openedBlank bookX .table) frames
 
 -- the verdict on a frame of a torn length, by the lengths of table, journal and out buffer
 abbrev pub shortStores : State → ℕ → ℕ → ℕ → Verdict

@@ -16,7 +16,7 @@ use Rattle.rules.specs.Answer.{anew, answer}
 use Rattle.rules.proofs.Validity.{Consistent}
 use Rattle.rules.proofs.Acceptance.{Taken, by-verdict, accepted-facts}
 use Rattle.assurance.specs.Types.{Message, Record, State}
-use Rattle.assurance.specs.Run.{Input, run}
+use Rattle.assurance.specs.Run.{Input, likeAmong, run}
 use Rattle.assurance.specs.Observer.{Observer}
 use Rattle.assurance.proofs.Exchanged.{Settled, answer-kept}
 
@@ -41,10 +41,7 @@ module _ (like : Record → Bool) where
 
   -- ---- in the first n places of a journal
 
-  abbrev pub countFirst : ℕ → List Record → ℕ
-  countFirst n j = countBelow n (λ i. like (recordAt j i))
-
-  count-places : (n : ℕ) (j : List Record) → n ≤ length j → countFirst n j ≡ countIn (take n j)
+  count-places : (n : ℕ) (j : List Record) → n ≤ length j → likeAmong like n j ≡ countIn (take n j)
   unfolding countBelow countIn
   count-places zero j h = refl
   count-places (suc n) j h =
@@ -52,7 +49,7 @@ module _ (like : Record → Bool) where
       (omega (arith, count-places n j (omega arith)))
 
   count-replaced : (j : List Record) (n : ℕ) (b : List Record) → n + length b ≤ length j
-      → countFirst (n + length b) (replaced j n b) ≡ countFirst n j + countIn b
+      → likeAmong like (n + length b) (replaced j n b) ≡ likeAmong like n j + countIn b
   unfolding replaced
   count-replaced j n b h =
       let whole : length (take n j ++ b) ≡ n + length b = rw (length-append, length-take-le n j (omega arith)) in
@@ -67,10 +64,10 @@ module _ (like : Record → Bool) where
       → (n : ℕ) → P s n → let w = anew table s a in P (w .state) (n + countIn (w .logged))) where
     -- a refused frame and a repeat leave state and journal
     answer-keeps : (s : State) (j : List Record) (o : Observer) → Settled table s j o → (frame out : List ℕ)
-        → P s (countFirst (s .logged) j)
-        → let a = answer s table j frame out in P (a .state) (countFirst (a .state .logged) (a .journal))
+        → P s (likeAmong like (s .logged) j)
+        → let a = answer s table j frame out in P (a .state) (likeAmong like (a .state .logged) (a .journal))
     answer-keeps s j o k frame out h =
-        by-verdict s table j frame out (λ a. P (a .state) (countFirst (a .state .logged) (a .journal)))
+        by-verdict s table j frame out (λ a. P (a .state) (likeAmong like (a .state .logged) (a .journal)))
         (λ n e. h)
         (λ p answers r. h)
         (λ p t.
@@ -80,8 +77,8 @@ module _ (like : Record → Bool) where
         (keeps s (p .valid-state) (k .kept .seven) (readFrame frame) t _ h))
 
     pub run-keeps : (is : List Input) (s : State) (j : List Record) (o : Observer) → Settled table s j o
-        → P s (countFirst (s .logged) j)
-        → let r = run table s j is in P (r .state) (countFirst (r .state .logged) (r .journal))
+        → P s (likeAmong like (s .logged) j)
+        → let r = run table s j is in P (r .state) (likeAmong like (r .state .logged) (r .journal))
     unfolding run
     run-keeps [] s j o k h = h
     run-keeps (i ∷ is) s j o k h =

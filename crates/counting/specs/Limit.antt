@@ -9,17 +9,13 @@ use Rattle.line.specs.Book.{route}
 use Rattle.frame.specs.Frame.{bytesOf}
 use Rattle.journal.specs.Journal.{journalLength, recordOf, recordOn}
 use Rattle.rules.specs.declared.state.Status.the-variants.{Running}
-use Rattle.rules.specs.State.{noTrain, withStatus, counting}
+use Rattle.rules.specs.State.{noTrain, withStatus}
 use Rattle.rules.specs.Opening.{fresh}
 use Rattle.assurance.specs.Types.{Record, State, Sent, RefusedBy}
 use Rattle.assurance.specs.Run.{Input, Ran}
 use Rattle.examples.specs.Reading.{fa, fe, afe, am, la, le, lb, openedBlank, ranWith, verdictsOf, repliesIn}
 use Rattle.examples.specs.Examples.{bookX}
-use Rattle.cases.specs.Further.{lentByte, lentRecord, lending, frameWith}
-
--- X, opened, with so many records counted
-abbrev pub countedOnX : ℕ → State
-countedOnX n = counting (openedBlank bookX .state) n
+use Rattle.cases.specs.Further.{lentByte, lentRecord, lending, frameWith, countedOnX}
 
 -- a journal of so many records, no two alike
 abbrev pub lentRecords : ℕ → List Record
@@ -100,6 +96,6 @@ pub record StrangeCounts : Type 0 where
   pub stores : map (λ n. verdictsOf (ranWithoutStores (countedOnX n) framesOfAllSorts)) strangeCounts
       ≡ replicate 3 (replicate 11 (RefusedBy 1))
   pub short : verdictsOf (ranWithoutStores (countedOnX 229) framesOfAllSorts) ≡ replicate 11 (RefusedBy 2)
-  -- 235 records are too few for 229 and the seven that one frame may add: 2, as before
+  -- 235 records are too few for 229 and the seven that one frame may add: 2
   pub short-journal : verdictsOf (ranOnX (countedOnX 229) (lentRecords (journalLength - 1)) (bytesOf (fa 0 0 1) ∷ []))
       ≡ RefusedBy 2 ∷ []

@@ -98,14 +98,16 @@ pub record LastMoveOnly : Type 0 where
 abbrev pub oneOfEach : State
 oneOfEach = ran bookY (map bytesOf (fa 0 0 1 ∷ am 0 0 1 ∷ fa 1 0 1 ∷ fa 0 1 2 ∷ [])) .state
 
--- so many records counted; three repeats
-abbrev pub repeatsAt : ℕ → Ran
-repeatsAt n = ranWithoutBits (counting oneOfEach n) (fa 1 0 1 ∷ fa 0 1 2 ∷ am 0 0 1 ∷ [])
+-- a repeat of each
+abbrev pub threeRepeats : List Message
+threeRepeats = fa 1 0 1 ∷ fa 0 1 2 ∷ am 0 0 1 ∷ []
 
--- the same, then a request and an arrival that are none
+-- they come where so many records are counted; and then a request and an arrival that are none
+abbrev pub repeatsAt : ℕ → Ran
+repeatsAt n = ranWithoutBits (counting oneOfEach n) threeRepeats
+
 abbrev pub newAfterRepeatsAt : ℕ → Ran
-newAfterRepeatsAt n =
-    ranWithoutBits (counting oneOfEach n) (fa 1 0 1 ∷ fa 0 1 2 ∷ am 0 0 1 ∷ fa 2 2 1 ∷ am 0 1 2 ∷ [])
+newAfterRepeatsAt n = ranWithoutBits (counting oneOfEach n) (threeRepeats ++ fa 2 2 1 ∷ am 0 1 2 ∷ [])
 
 pub record HighCounts : Type 0 where
   -- "both are answered before 13", which card 7 removes: they are answered at every count that is not strange. The
