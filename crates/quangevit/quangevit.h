@@ -1,6 +1,7 @@
 /*
  * quangevit.h: the two ends of single-line train dispatching (Zugleitbetrieb), the dispatcher's box
- * and the driver's unit, over byte buffers, and the running time between two posts, for planners.
+ * and the driver's unit, over byte buffers, the running time between two posts, for planners, and
+ * the place of a cab on its line.
  * Link libquangevit.a (`rt staticlib quangevit` builds it).
  *
  * Every store is a buffer that the caller lends: a pointer, then its length in bytes. A pointer is
@@ -20,7 +21,9 @@
  * that changes, allocates nothing, and from outside needs memcpy and memset as C defines them,
  * nothing else. The stack that a call needs is in QUANGEVIT_STACK_..: its parameters, its return
  * address and the longest chain of calls in its machine code (tests/c/stack counts them), rounded
- * up, without what memcpy or memset needs for itself.
+ * up, without what memcpy or memset needs for itself. quangevit_locate compares floats: MXCSR is as
+ * a program finds it at its start, with the exceptions masked and denormal numbers not taken for
+ * zero. Linking with -ffast-math would change that (DAZ).
  *
  * The answer of a call: the low byte is the number of the refusal, 0 where nothing was refused;
  * the next byte is the number of frames written (quangevit_answer, quangevit_press). Take it apart
@@ -36,16 +39,16 @@
 extern "C" {
 #endif
 
-/* 100 times the edition (what the ends answer) plus the revision: 700 is version 7.00. */
-#define QUANGEVIT_VERSION 700
+/* 100 times the edition (what the ends answer) plus the revision: 800 is version 8.00. */
+#define QUANGEVIT_VERSION 800
 
 #define QUANGEVIT_REFUSAL(answer) ((answer) & 255u)
 #define QUANGEVIT_SENT(answer) ((answer) >> 8)
 
 /*
- * Sizes of buffers, in bytes. Line, state, unit and time have exactly this length; table, journal
- * and out at least this length; a frame that is heard or answered has exactly this length, and the
- * buffer that a press is lent for its frame at least this length.
+ * Sizes of buffers, in bytes. Line, state, unit, time and place have exactly this length; table,
+ * journal and out at least this length; a frame that is heard or answered has exactly this length,
+ * and the buffer that a press is lent for its frame at least this length.
  */
 #define QUANGEVIT_LINE_BYTES 23
 #define QUANGEVIT_STATE_BYTES 74
@@ -55,6 +58,7 @@ extern "C" {
 #define QUANGEVIT_FRAME_BYTES 7
 #define QUANGEVIT_UNIT_BYTES 5
 #define QUANGEVIT_TIME_BYTES 8
+#define QUANGEVIT_PLACE_BYTES 3
 #define QUANGEVIT_BOOK_MOST_BYTES 58 /* the longest book */
 
 #define QUANGEVIT_POSTS_MOST 8
@@ -68,6 +72,7 @@ extern "C" {
 #define QUANGEVIT_STACK_READ_BOOK 512
 #define QUANGEVIT_STACK_OPEN 896
 #define QUANGEVIT_STACK_RUNNING_TIME 640
+#define QUANGEVIT_STACK_LOCATE 640
 #define QUANGEVIT_STACK_ANSWER 1536
 #define QUANGEVIT_STACK_UNIT 128 /* each call of a unit, and quangevit_version */
 
@@ -86,7 +91,8 @@ extern "C" {
  *
  * A position is in metres along the line, four bytes, high byte first. The first post's is 0, every
  * other one's above that of the post before it, and none above 8,388,607. They serve the running
- * time alone: neither the line nor the state has them, and no answer to a frame depends on them.
+ * time and place reports alone: neither the line nor the state has them, and no answer to a frame
+ * depends on them.
  */
 
 /*
@@ -210,6 +216,30 @@ enum quangevit_kind {
  */
 enum quangevit_time_at { QUANGEVIT_TIME_SECONDS_AT = 0, QUANGEVIT_TIME_REST_AT = 4 };
 
+/* The kinds of a place report: missing, a post number, or a number of metres from the first post. */
+enum quangevit_report {
+    QUANGEVIT_REPORT_MISSING = 0,
+    QUANGEVIT_REPORT_POST = 1,
+    QUANGEVIT_REPORT_METRES = 2
+};
+
+/*
+ * Place: its sort, the number of the post or the section, and the nearest post. At a post that is the
+ * post itself; a section has the number of its lower post. For nothing all three are 0. Look at the
+ * sort first: 0 is also the number of a post and of a section.
+ */
+enum quangevit_place_at {
+    QUANGEVIT_PLACE_SORT_AT = 0,
+    QUANGEVIT_PLACE_NUMBER_AT = 1,
+    QUANGEVIT_PLACE_NEAREST_AT = 2
+};
+
+enum quangevit_place {
+    QUANGEVIT_PLACE_NOTHING = 0,
+    QUANGEVIT_PLACE_POST = 1,
+    QUANGEVIT_PLACE_SECTION = 2
+};
+
 /* Unit: the five bytes of a driver's unit. Five bytes with another phase encode no unit. */
 enum quangevit_unit_at {
     QUANGEVIT_UNIT_TRAIN_AT = 0,
@@ -239,18 +269,18 @@ enum quangevit_button {
 enum quangevit_refusal {
     QUANGEVIT_ACCEPTED = 0,
     QUANGEVIT_STRANGE_STATE = 1,    /* the bytes encode no state or unit, or it is not sound; or a
-                                       line, state, unit or time buffer has another length */
+                                       line, state, unit, time or place buffer has another length */
     QUANGEVIT_SHORT_STORE = 2,      /* table, journal, out buffer or a press's frame too short */
     QUANGEVIT_TORN_FRAME = 3,       /* frame not 7 bytes, or its length bytes not 0 and 5 */
     QUANGEVIT_OTHER_EDITION = 4,    /* version byte of a frame not 1, of a book not 1 to 3; for a
-                                       running time, of a book not 3 */
-    QUANGEVIT_UNKNOWN_KIND = 5,     /* kind not 1 to 7 */
+                                       running time or a place report, of a book not 3 */
+    QUANGEVIT_UNKNOWN_KIND = 5,     /* kind of a frame not 1 to 7, of a place report not 0 to 2 */
     QUANGEVIT_WRONG_END = 6,        /* FE, AFE, LE at the dispatcher; FA, AM at a unit */
     QUANGEVIT_UNKNOWN_TRAIN = 7,    /* no train of this number; LA, LB: train byte not 255 */
     QUANGEVIT_AT_ITS_END = 8,       /* no next post */
     QUANGEVIT_WRONG_POST = 9,       /* from or to not present and next post; LA, LB: not two
-                                       neighbouring posts of the line, lower first; running time: a
-                                       post not on the line */
+                                       neighbouring posts of the line, lower first; running time and
+                                       place report: a post not on the line */
     QUANGEVIT_NO_AUTHORITY = 12,    /* AM of a train not Running */
     QUANGEVIT_TORN_BOOK = 14,       /* length wrong, or the book ends too early */
     QUANGEVIT_POSTS = 15,           /* posts not 2 to 8 */
@@ -266,7 +296,8 @@ enum quangevit_refusal {
     QUANGEVIT_NO_LOCAL_RUN = 25,    /* LB: no gang has the section */
     QUANGEVIT_TWENTY_GIVEN = 26,    /* LA: twenty local runs were given */
     QUANGEVIT_POSITIONS = 27,       /* positions not from 0, not rising, or above 8,388,607 */
-    QUANGEVIT_SPEED = 28            /* speed not 1 to 160 */
+    QUANGEVIT_SPEED = 28,           /* speed not 1 to 160 */
+    QUANGEVIT_NO_PLACE = 29         /* metres not a finite number, below zero or past the last post */
 };
 
 /* The version of the library that is linked: QUANGEVIT_VERSION where it fits this header. */
@@ -322,6 +353,25 @@ uint32_t quangevit_answer(uint8_t *state, size_t state_len, const uint8_t *table
  */
 uint32_t quangevit_running_time(const uint8_t *book, size_t book_len, uint8_t from, uint8_t to,
                                 uint32_t speed, uint8_t *time, size_t time_len);
+
+/* ---- for cabs that know where they are */
+
+/*
+ * The place that a report puts a cab at, by the positions of a book. The kind, QUANGEVIT_REPORT_..,
+ * says whether the post number or the metres is the report; the other one is not looked at, nor
+ * either where the report is missing. A post number gives that post, and a missing report nothing.
+ *
+ * A number of metres gives the post whose position it equals, else the section that it lies in, and
+ * also the nearest post, the lower at equal distance. All go by the exact value of the float,
+ * whatever its bits: the next number after a post's position lies past it. Minus zero is zero.
+ *
+ * Checks, in this order: 1, a place buffer that is not 3 bytes; 5, a kind above 2; those of
+ * quangevit_read_book from 14 on, where a version other than 3 is 4; 9, a post number not below P;
+ * 29, metres that are not a finite number, below zero or past the last post. A refusal changes
+ * nothing. No train is placed, no unit is asked, and nothing is granted or reported by it.
+ */
+uint32_t quangevit_locate(const uint8_t *book, size_t book_len, uint8_t kind, uint8_t post,
+                          float metres, uint8_t *place, size_t place_len);
 
 /* ---- the driver's end */
 

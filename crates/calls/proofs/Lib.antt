@@ -2,6 +2,8 @@
 pub mod UnitSteps
 pub mod BoxSteps
 pub mod PlanningSteps
+pub mod PlaceSteps
 pub mod HandedOn
 pub mod CallRuns
 pub mod TimeTold
+pub mod PlaceTold

@@ -1,11 +1,14 @@
-// A unit read from bytes and written to them, a journal and a running time written. Which bytes these
-// are is said in `encoding`.
+// A unit read from bytes and written to them, a journal, a running time and a place written. Which
+// bytes these are is said in `encoding`.
 mod journal_bytes;
+mod place_bytes;
 mod time_bytes;
 mod unit_bytes;
 
 pub use journal_bytes::RECORD_LENGTH;
 pub use journal_bytes::append;
+pub use place_bytes::PLACE_LENGTH;
+pub use place_bytes::put_place;
 pub use time_bytes::TIME_LENGTH;
 pub use time_bytes::put_time;
 pub use unit_bytes::UNIT_LENGTH;

@@ -1,6 +1,7 @@
 -- The round trips of `specs/RoundTrip`: each part that is read at its place stands there, and each that stands there is
 -- read.
 use mathlib.Core.Path.{_≡_, refl, sym, ap, _∙_}
+use mathlib.Core.Logic.{_≢_}
 use mathlib.Core.Bool.{Bool, true, false}
 use mathlib.Core.List.{List}
 use Prim.Native.Nat.{ℕ, zero, suc, _+_, _*_, _^_, _≤_, _<_}
@@ -22,6 +23,7 @@ use Rattle.driver.specs.State.{phaseNo}
 use Rattle.rules.specs.State.{noTrain, trainOf}
 use Rattle.encoding.specs.Types.{Phase, Standing, Asked, Declined, Granted, UnderWay, Arrived, Unit}
 use Rattle.encoding.specs.Types.{Status, Free, AskedAs, Running, Last, Nothing, Done, Train, State, Record, Time}
+use Rattle.encoding.specs.Types.{Place, AtPost, InSection, Nowhere, NotPlaced}
 use Rattle.encoding.specs.Parts.{headBytes}
 use Rattle.encoding.specs.UnitBytes.{unitBytes, encodesUnit, phaseOf, unitIn}
 use Rattle.encoding.specs.StateBytes.{statusNo, detail, lastNo, lastFrom, lastTo, trainBytes, stateParts}
@@ -32,6 +34,7 @@ use Rattle.encoding.specs.StateBytes.{statusOf, lastOf, trainIn, tracksI
 use Rattle.encoding.specs.JournalBytes.{recordLength, recordBytes, recordIn, recordCount, recordsIn}
 use Rattle.encoding.specs.JournalBytes.{journalParts, withRecords}
 use Rattle.encoding.specs.TimeBytes.{timeLength, timeBytes, secondsIn, restIn}
+use Rattle.encoding.specs.PlaceBytes.{placeLength, placeBytes, placeIn}
 use Rattle.encoding.specs.RoundTrip.{Shaped, BytesReadBack}
 use Rattle.encoding.proofs.Parts.{At, bytes-at, within, joined-at, at-joined, whole-at}
 use Rattle.encoding.proofs.Parts.{length-each, each-at}
@@ -261,6 +264,20 @@ time-back : (t : Time) → t .seconds < 2 ^ 32 → t .rest < 2 ^ 32
 unfolding timeBytes
 time-back t s r = (long-word-back (t .seconds) s, long-word-back (t .rest) r)
 
+-- ---- places
+
+place-length : (a : Place) → length (placeBytes a) ≡ placeLength
+place-length (AtPost p) = refl
+place-length (InSection i q) = refl
+place-length Nowhere = refl
+place-length (NotPlaced n) = refl
+
+place-back : (a : Place) → ((n : ℕ) → a ≢ NotPlaced n) → placeIn (placeBytes a) ≡ a
+place-back (AtPost p) h = refl
+place-back (InSection i q) h = refl
+place-back Nowhere h = refl
+place-back (NotPlaced n) h = absurd (h n refl)
+
 pub round-trip : BytesReadBack
 round-trip = record {
   unit-encoded = unit-encoded;
@@ -273,4 +290,7 @@ round-trip = record {
   journal-back = records-back;
   time-length = time-length;
   time-back = time-back;
+  place-length = place-length;
+  place-back = place-back;
+  own-nearest = λ p. refl;
 }

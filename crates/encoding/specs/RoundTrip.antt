@@ -1,15 +1,18 @@
 -- The claims on the layouts: what is written reads back, and only what is written is read. They hold for any list of
 -- numbers, bytes or not.
 use mathlib.Core.Path.{_≡_}
+use mathlib.Core.Logic.{_≢_}
 use mathlib.Core.Bool.{true}
 use mathlib.Core.List.{List}
 use Prim.Native.Nat.{ℕ, _^_, _<_}
 use lib.ListN.{length}
-use Rattle.encoding.specs.Types.{Unit, State, Record, Time}
+use Rattle.place.specs.Locating.{at}
+use Rattle.encoding.specs.Types.{Unit, State, Record, Time, Place, NotPlaced}
 use Rattle.encoding.specs.UnitBytes.{unitBytes, encodesUnit, unitIn}
 use Rattle.encoding.specs.StateBytes.{stateBytes, encodesState, stateIn}
 use Rattle.encoding.specs.JournalBytes.{recordCount, recordsIn, withRecords}
 use Rattle.encoding.specs.TimeBytes.{timeLength, timeBytes, secondsIn, restIn}
+use Rattle.encoding.specs.PlaceBytes.{placeLength, placeBytes, placeIn, nearestIn}
 
 -- a state whose lists have the lengths that its declared type gives them
 pub record Shaped (s : State) : Type 0 where
@@ -35,3 +38,7 @@ pub record BytesReadBack : Type 0 where
   pub time-length : (t : Time) → length (timeBytes t) ≡ timeLength
   pub time-back : (t : Time) → t .seconds < 2 ^ 32 → t .rest < 2 ^ 32
       → (secondsIn (timeBytes t) ≡ t .seconds) × (restIn (timeBytes t) ≡ t .rest)
+  -- a place is three bytes, which say it, and at a post that this is the nearest
+  pub place-length : (a : Place) → length (placeBytes a) ≡ placeLength
+  pub place-back : (a : Place) → ((n : ℕ) → a ≢ NotPlaced n) → placeIn (placeBytes a) ≡ a
+  pub own-nearest : (p : ℕ) → nearestIn (placeBytes (at p)) ≡ p

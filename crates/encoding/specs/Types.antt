@@ -8,6 +8,9 @@ pub use Rattle.driver.specs.declared.state.Unit.{Unit}
 pub use Rattle.line.specs.declared.route.Route.{Route}
 pub use Rattle.line.specs.declared.line.Line.{Line}
 pub use Rattle.timing.specs.declared.timing.Time.{Time}
+pub use Rattle.place.specs.declared.report.Place.{Place}
+pub use Rattle.place.specs.declared.report.Place.the-variants.{At as AtPost, In as InSection}
+pub use Rattle.place.specs.declared.report.Place.the-variants.{Nothing as Nowhere, Refused as NotPlaced}
 pub use Rattle.journal.specs.declared.record.Record.{Record}
 pub use Rattle.journal.specs.declared.batch.Batch.{Batch}
 pub use Rattle.rules.specs.declared.state.Status.{Status}

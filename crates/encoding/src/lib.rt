@@ -1,5 +1,5 @@
-// Which bytes stand for a unit, a line, a state, a journal and a running time. The places of a line and
-// of a state are numbered here; specs/ has the definitions that the contracts of `placing`,
+// Which bytes stand for a unit, a line, a state, a journal, a running time and a place. The places of a
+// line and of a state are numbered here; specs/ has the definitions that the contracts of `placing`,
 // `decoding`, `storing` and `codec` cite, and the claims over them.
 mod places;
 

@@ -40,6 +40,12 @@ module _ (n : ℕ) (ps : List ℕ) where
         (λ e. rw (same, e) step)
         (λ e. let before = rising p q (omega arith) (omega arith) in rw same (omega arith))
 
+    -- a later post is no nearer to the first
+    pub no-nearer : (p q : ℕ) → p ≤ q → q < n → metresAt ps p ≤ metresAt ps q
+    no-nearer p q h k = by-equality p q
+        (λ e. rw e (omega arith))
+        (λ e. let above = rising p q (omega arith) k in omega arith)
+
   -- the three together
   pub in-order-parts : metresAt ps 0 ≡ 0
       → ((p : ℕ) → p < n - 1 → metresAt ps p < metresAt ps (p + 1))

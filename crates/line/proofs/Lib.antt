@@ -8,3 +8,4 @@ pub mod Reading
 pub mod Claims
 pub mod Sidings
 pub mod Positions
+pub mod Positioned

@@ -2,14 +2,14 @@
 use mathlib.Core.Path.{_≡_, refl, sym, ap, _∙_}
 use mathlib.Core.Logic.{_≢_}
 use mathlib.Core.Bool.{Bool, true, false, true≢false}
-use mathlib.Core.List.{List}
+use mathlib.Core.List.{List, _++_}
 use Prim.Native.Nat.{ℕ, zero, suc, _<_}
 use native.Mathlib.Omega.{arith}
 use lib.Dec.{ltb}
 use borrow.Author.Tests.{ltb-true}
-use Rattle.common.specs.Check.{refusal, unlessRefused}
+use Rattle.common.specs.Check.{Check, refusal, unlessRefused}
 use Rattle.common.proofs.Tests.{by-equality}
-use Rattle.common.proofs.Check.{clear, not-given, accepts, number-told}
+use Rattle.common.proofs.Check.{clear, first-part, not-given, accepts, refuses, number-told}
 use Rattle.line.specs.Sorts.{Line, Outcome, Read, Refused, Reading}
 use Rattle.line.specs.Book.{positionsOf, lineIn, bookChecksFrom, acceptedBook, refusedBy, readFrom}
 use Rattle.line.specs.Book.{outcomeNumber}
@@ -60,3 +60,16 @@ module _ (least : ℕ) (b : List ℕ) where
       let whole : readFrom least b ≡ found = accepts found refusedBy e in
       absurd (true≢false (sym (ap (λ (r : Reading). isRead (r .outcome)) whole) ∙ ap isRead stopped)))
       (λ h. omega arith)
+
+  -- an answer whose checks begin with the book's: what the book is refused by, it is, by the number and by the outcome
+  module _ {A : Type 0} (cs : List Check) (x : A) (f : ℕ → A) where
+    pub refused-book : (n : ℕ) → refusal (bookChecksFrom least b) ≡ n → 0 < n
+        → f n ≡ unlessRefused (refusal (bookChecksFrom least b ++ cs)) x f
+    refused-book n e h = rw (first-part (bookChecksFrom least b) cs (rw e h), e) (sym (refuses x f h))
+
+    pub book-refused : (r : Reading) → r ≡ readFrom least b → (k : ℕ) → r .outcome ≡ Refused k
+        → (n : ℕ) → n ≡ outcomeNumber (r .outcome) → f n ≡ unlessRefused (refusal (bookChecksFrom least b ++ cs)) x f
+    book-refused r e k stopped n is =
+        let own : n ≡ refusal (bookChecksFrom least b)
+        = is ∙ ap (λ (z : Reading). outcomeNumber (z .outcome)) e ∙ read-number in
+        refused-book n (sym own) (rw own (refused-some k (rw e at stopped)))

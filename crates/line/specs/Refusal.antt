@@ -76,3 +76,6 @@ positions = 27
 
 abbrev pub speed : ℕ
 speed = 28
+
+abbrev pub noPlace : ℕ
+noPlace = 29

@@ -3,6 +3,7 @@ use Rattle.line.proofs.Claims.{line-book}
 use Rattle.line.proofs.Sidings.{sidings}
 use Rattle.line.proofs.Positions.{positions}
 use Rattle.timing.proofs.Claims.{running-time}
+use Rattle.place.proofs.Claims.{place-reports}
 use Rattle.tracks.proofs.Choice.{track-rule}
 use Rattle.frame.proofs.RoundTrip.{round-trip as frames-read-back}
 use Rattle.journal.proofs.Records.{logged-as-sent}
@@ -39,6 +40,7 @@ use Rattle.encoding.proofs.RoundTrip.{round-trip as bytes-read-back}
 use Rattle.calls.proofs.HandedOn.{handed-on}
 use Rattle.calls.proofs.CallRuns.{call-runs}
 use Rattle.calls.proofs.TimeTold.{time-told}
+use Rattle.calls.proofs.PlaceTold.{place-told}
 use Rattle.console.proofs.Transcript.{transcribes}
 use Rattle.examples.proofs.Examples.{examples, printed-run}
 use Rattle.examples.proofs.Books.{books}
@@ -49,6 +51,7 @@ use Rattle.possessions.proofs.Gangs.{gang-on-x, named, beside-trains, other-sec
 use Rattle.possessions.proofs.Gangs.{gang-states, gangs-seen}
 use Rattle.distances.proofs.Evaluated.{position-bytes, opened-with-positions, times, time-refusals}
 use Rattle.distances.proofs.Evaluated.{answered-all-the-same}
+use Rattle.places.proofs.Evaluated.{places, other-reports, place-refusals}
 use Rattle.repeating.proofs.Evaluated.{repeats-on-x, declined-again, last-move-only, high-counts, grants-nobody}
 use Rattle.repeating.proofs.Evaluated.{last-moves, again-upward, again-elsewhere, lost-authority, lost-report}
 use Rattle.counting.proofs.Evaluated.{last-answered, strange-counts, five-granted, six-granted, fullest-run}
@@ -60,6 +63,7 @@ parts = record {
   sidings = sidings;
   positions = positions;
   running-time = running-time;
+  place-reports = place-reports;
   tracks = track-rule;
   frames = frames-read-back;
   records = logged-as-sent;
@@ -116,6 +120,7 @@ in-use = record {
   handed-on = handed-on;
   runs = call-runs;
   time-told = time-told;
+  place-told = place-told;
   transcript = transcribes;
 }
 
@@ -152,6 +157,9 @@ evaluated = record {
   times = times;
   time-refusals = time-refusals;
   answered-all-the-same = answered-all-the-same;
+  places = places;
+  other-reports = other-reports;
+  place-refusals = place-refusals;
   repeats-on-x = repeats-on-x;
   declined-again = declined-again;
   last-move-only = last-move-only;

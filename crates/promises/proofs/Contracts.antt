@@ -2,6 +2,8 @@
 use Rattle.book.proofs.read.Met.{met as read-book-met}
 use Rattle.book.proofs.read_positioned.Met.{met as read-positioned-met}
 use Rattle.timing.proofs.running_time.Met.{met as running-time-met}
+use Rattle.locating.proofs.locate.Met.{met as locate-met}
+use Rattle.place.proofs.place_refusal.Met.{met as place-refusal-met}
 use Rattle.framing.proofs.read.Met.{met as read-frame-met}
 use Rattle.framing.proofs.write.Met.{met as write-frame-met}
 use Rattle.framing.proofs.place.Met.{met as place-frame-met}
@@ -35,6 +37,7 @@ use Rattle.quangevit.proofs.quangevit_read_book.Met.{met as call-read-book-met}
 use Rattle.quangevit.proofs.quangevit_open.Met.{met as call-open-met}
 use Rattle.quangevit.proofs.quangevit_answer.Met.{met as call-answer-met}
 use Rattle.quangevit.proofs.quangevit_running_time.Met.{met as call-running-time-met}
+use Rattle.quangevit.proofs.quangevit_locate.Met.{met as call-locate-met}
 use Rattle.quangevit.proofs.quangevit_make_unit.Met.{met as call-make-unit-met}
 use Rattle.quangevit.proofs.quangevit_press.Met.{met as call-press-met}
 use Rattle.quangevit.proofs.quangevit_hear.Met.{met as call-hear-met}
@@ -52,6 +55,8 @@ functions = record {
   read-book = read-book-met;
   read-positioned = read-positioned-met;
   running-time = running-time-met;
+  locate = locate-met;
+  place-refusal = place-refusal-met;
   read-frame = read-frame-met;
   write-frame = write-frame-met;
   place-frame = place-frame-met;
@@ -93,6 +98,7 @@ calls-in-c = record {
   open-box = call-open-met;
   answer = call-answer-met;
   running-time = call-running-time-met;
+  locate = call-locate-met;
   make-unit = call-make-unit-met;
   press = call-press-met;
   hear = call-hear-met;

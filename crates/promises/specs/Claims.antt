@@ -1,6 +1,7 @@
 -- Each claim over the definitions that the contracts cite, by name. It is stated in the file that its `use` line names.
 use Rattle.line.specs.Claims.{LineBook, Sidings, Positions}
 use Rattle.timing.specs.Claims.{RunningTime}
+use Rattle.place.specs.Claims.{PlaceReports}
 use Rattle.tracks.specs.Tracks.{TrackRule}
 use Rattle.frame.specs.RoundTrip.{FramesReadBack}
 use Rattle.journal.specs.Journal.{LoggedAsSent, OnlyAppended}
@@ -32,6 +33,7 @@ use Rattle.encoding.specs.RoundTrip.{BytesReadBack}
 use Rattle.calls.specs.HandedOn.{HandedOn}
 use Rattle.calls.specs.CallRuns.{CallRuns}
 use Rattle.calls.specs.PlanningCalls.{TimeTold}
+use Rattle.calls.specs.PlaceCalls.{PlaceTold}
 use Rattle.console.specs.Transcript.{Transcribes}
 use Rattle.examples.specs.Examples.{Examples, PrintedRun}
 use Rattle.examples.specs.Books.{Books}
@@ -42,6 +44,7 @@ use Rattle.possessions.specs.Gangs.{GangOnX, Named, BesideTrains, OtherSection,
 use Rattle.possessions.specs.Gangs.{GangStates, GangsSeen}
 use Rattle.distances.specs.Positions.{PositionBytes, OpenedWithPositions}
 use Rattle.distances.specs.Times.{Times, TimeRefusals, AnsweredAllTheSame}
+use Rattle.places.specs.Places.{Places, OtherReports, PlaceRefusals}
 use Rattle.repeating.specs.AtTheBox.{RepeatsOnX, DeclinedAgain, LastMoveOnly, HighCounts, GrantsNobody, LastMoves}
 use Rattle.repeating.specs.InTheCab.{AgainUpward, AgainElsewhere}
 use Rattle.repeating.specs.OverTheRadio.{LostAuthority, LostReport}
@@ -59,6 +62,8 @@ pub record Parts : Type 0 where
   pub positions : Positions
   -- whole seconds and the rest, for each question that is accepted; by which number any other is refused
   pub running-time : RunningTime
+  -- the post or the section of each place report, and the nearest of all posts, by the exact number of metres
+  pub place-reports : PlaceReports
   -- which track a train gets: the smallest that is not held, or the largest
   pub tracks : TrackRule
   -- demand 2: frames read back as written, and only such frames are read
@@ -141,6 +146,7 @@ pub record InUse : Type 0 where
   pub handed-on : HandedOn
   pub runs : CallRuns
   pub time-told : TimeTold
+  pub place-told : PlaceTold
   pub transcript : Transcribes
 
 -- the paper's examples A to L and its printed run, and further ones: what the definitions say, evaluated
@@ -176,6 +182,9 @@ pub record Evaluated : Type 0 where
   pub times : Times
   pub time-refusals : TimeRefusals
   pub answered-all-the-same : AnsweredAllTheSame
+  pub places : Places
+  pub other-reports : OtherReports
+  pub place-refusals : PlaceRefusals
   pub repeats-on-x : RepeatsOnX
   pub declined-again : DeclinedAgain
   pub last-move-only : LastMoveOnly

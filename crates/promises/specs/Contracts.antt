@@ -3,6 +3,8 @@
 use Rattle.book.proofs.read.Statement.{statement as ReadBook}
 use Rattle.book.proofs.read_positioned.Statement.{statement as ReadPositioned}
 use Rattle.timing.proofs.running_time.Statement.{statement as RunningTime}
+use Rattle.locating.proofs.locate.Statement.{statement as Locate}
+use Rattle.place.proofs.place_refusal.Statement.{statement as PlaceRefusal}
 use Rattle.framing.proofs.read.Statement.{statement as ReadFrame}
 use Rattle.framing.proofs.write.Statement.{statement as WriteFrame}
 use Rattle.framing.proofs.place.Statement.{statement as PlaceFrame}
@@ -36,6 +38,7 @@ use Rattle.quangevit.proofs.quangevit_read_book.Statement.{statement as CallRea
 use Rattle.quangevit.proofs.quangevit_open.Statement.{statement as CallOpen}
 use Rattle.quangevit.proofs.quangevit_answer.Statement.{statement as CallAnswer}
 use Rattle.quangevit.proofs.quangevit_running_time.Statement.{statement as CallRunningTime}
+use Rattle.quangevit.proofs.quangevit_locate.Statement.{statement as CallLocate}
 use Rattle.quangevit.proofs.quangevit_make_unit.Statement.{statement as CallMakeUnit}
 use Rattle.quangevit.proofs.quangevit_press.Statement.{statement as CallPress}
 use Rattle.quangevit.proofs.quangevit_hear.Statement.{statement as CallHear}
@@ -47,11 +50,13 @@ use Rattle.intake.proofs.printed.Statement.{statement as Printed}
 use Rattle.printout.proofs.run_text.Statement.{statement as RunText}
 use Rattle.printout.proofs.book_text.Statement.{statement as BookText}
 
--- the parts: a book, a running time, frames, the table, the journal
+-- the parts: a book, a running time, a place report, frames, the table, the journal
 pub record Functions (M : Type 1) : Type 2 where
   pub read-book : ReadBook M
   pub read-positioned : ReadPositioned M
   pub running-time : RunningTime M
+  pub locate : Locate M
+  pub place-refusal : PlaceRefusal M
   pub read-frame : ReadFrame M
   pub write-frame : WriteFrame M
   pub place-frame : PlaceFrame M
@@ -91,6 +96,7 @@ pub record CallsInC (M : Type 1) : Type 2 where
   pub open-box : CallOpen M
   pub answer : CallAnswer M
   pub running-time : CallRunningTime M
+  pub locate : CallLocate M
   pub make-unit : CallMakeUnit M
   pub press : CallPress M
   pub hear : CallHear M

@@ -3,7 +3,7 @@
 use Prim.Native.Nat.{ℕ, _+_, _*_}
 
 abbrev pub edition : ℕ
-edition = 7
+edition = 8
 
 abbrev pub revision : ℕ
 revision = 0

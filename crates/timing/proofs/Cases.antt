@@ -1,5 +1,5 @@
 -- The answer in the order in which the code tests the question: a law for each case.
-use mathlib.Core.Path.{_≡_, refl, sym, ap, _∙_}
+use mathlib.Core.Path.{_≡_, refl}
 use mathlib.Core.Bool.{true, false, _&&_, and-false}
 use mathlib.Core.List.{List}
 use Prim.Native.Nat.{ℕ, _≤_, _<_}
@@ -8,55 +8,33 @@ use lib.Dec.{ltb}
 use borrow.Author.Tests.{lt-ltb, le-ltb}
 use Rattle.common.specs.Check.{refusal}
 use Rattle.common.proofs.Tests.{and-both}
-use Rattle.common.proofs.Check.{Refuses, none, stop, pass, pass-all, first-part, accepted-by, refused-by}
-use Rattle.common.proofs.Check.{refuses}
+use Rattle.common.proofs.Check.{Refuses, none, stop, pass, pass-all, accepted-by, refused-by}
 use Rattle.line.specs.Refusal as number
 use Rattle.line.specs.declared.line.Line.{Line}
 use Rattle.line.specs.declared.line.Outcome.the-variants.{Refused}
 use Rattle.line.specs.declared.line.Reading.{Reading}
 use Rattle.line.specs.Line.{inRange}
 use Rattle.line.specs.Route.{distance}
-use Rattle.line.specs.Positions.{metresAt, mostMetres, positionsInOrder}
-use Rattle.line.specs.Book.{lastEdition, firstEdition, editionOf, postsOf, bookChecksFrom, acceptedBook}
+use Rattle.line.specs.Positions.{metresAt, mostMetres}
+use Rattle.line.specs.Book.{lastEdition, postsOf, bookChecksFrom, acceptedBook}
 use Rattle.line.specs.Book.{readPositioned, outcomeNumber}
-use Rattle.line.specs.Claims.{ReadAs}
-use Rattle.line.proofs.WellFormed.{high, ranged, below-range, above-range, well-formed}
+use Rattle.line.proofs.WellFormed.{ranged, below-range, above-range}
 use Rattle.line.proofs.InOrder.{bounded}
-use Rattle.line.proofs.Bytes.{positioned-last}
-use Rattle.line.proofs.Reading.{read-number, read-line, refused-some}
-use Rattle.line.proofs.Claims.{line-book}
+use Rattle.line.proofs.Reading as reading
+use Rattle.line.proofs.Positioned.{book-passed, posts-same, positions-same, in-order}
 use Rattle.timing.specs.Timing.{mostSpeed, metres, timed, questionChecks, timeChecks, noTime, runningTime}
 
 -- ---- a book that is read
 
 module _ (b : List ℕ) (l : Line) (ps : List ℕ) (is-read : readPositioned b ≡ acceptedBook l ps) where
-  pub book-passed : refusal (bookChecksFrom lastEdition b) ≡ 0
-  book-passed = read-line lastEdition b l ps is-read .0
-
-  posts-same : l .posts ≡ postsOf b
-  posts-same = ap (λ (m : Line). m .posts) (read-line lastEdition b l ps is-read .1)
-
-  told : (lastEdition ≤ editionOf b) × ReadAs b l ps
-  told = line-book .only lastEdition (omega arith) b l ps is-read
-
-  pub few-posts : l .posts ≤ 8
-  few-posts = well-formed l (told .1 .formed) .few-posts
-
-  -- every post has a position, and they are in order
-  pub in-order : positionsInOrder (l .posts) ps ≡ true
-  in-order =
-      let known = high firstEdition lastEdition (editionOf b) (told .1 .edition .known) in
-      let third : editionOf b ≡ lastEdition = omega (arith, told .0) in
-      rw (positioned-last (editionOf b) (l .posts) third) at (told .1 .edition .in-order)
-
   module _ (p q : ℕ) where
     -- the metres by the positions that were read
     pub metres-read : metres b p q ≡ distance (metresAt ps p) (metresAt ps q)
-    metres-read = rw (read-line lastEdition b l ps is-read .2)
+    metres-read = rw (positions-same b l ps is-read)
 
     pub few-metres : p < l .posts → q < l .posts → distance (metresAt ps p) (metresAt ps q) ≤ mostMetres
     few-metres from to =
-        let each = bounded (l .posts) ps in-order in
+        let each = bounded (l .posts) ps (in-order b l ps is-read) in
         omega (arith, each p from, each q to)
 
 -- ---- the question
@@ -65,17 +43,13 @@ module _ (b : List ℕ) (p q v : ℕ) where
   -- the refusal of the question is that of the book
   pub refused-book : (n : ℕ) → refusal (bookChecksFrom lastEdition b) ≡ n → 0 < n → noTime n ≡ runningTime b p q v
   unfolding runningTime
-  refused-book n e h =
-      let first = first-part (bookChecksFrom lastEdition b) (questionChecks b p q v) (rw e h) in
-      rw (first, e) (sym (refuses (timed (metres b p q) v) noTime h))
+  refused-book = reading.refused-book lastEdition b (questionChecks b p q v) (timed (metres b p q) v) noTime
 
   -- the same by the outcome
   pub book-refused : (r : Reading) → r ≡ readPositioned b → (k : ℕ) → r .outcome ≡ Refused k
       → (n : ℕ) → n ≡ outcomeNumber (r .outcome) → noTime n ≡ runningTime b p q v
-  book-refused r e k stopped n is =
-      let own : n ≡ refusal (bookChecksFrom lastEdition b)
-      = is ∙ ap (λ (z : Reading). outcomeNumber (z .outcome)) e ∙ read-number lastEdition b in
-      refused-book n (sym own) (rw own (refused-some lastEdition b k (rw e at stopped)))
+  unfolding runningTime
+  book-refused = reading.book-refused lastEdition b (questionChecks b p q v) (timed (metres b p q) v) noTime
 
   module _ (l : Line) (ps : List ℕ) (is-read : readPositioned b ≡ acceptedBook l ps) where
     same : l .posts ≡ postsOf b

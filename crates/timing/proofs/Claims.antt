@@ -11,21 +11,22 @@ use lib.Dec.{ltb}
 use lib.ListN.{length}
 use borrow.Author.Tests.{ltb-true}
 use Rattle.common.specs.Check.{refusal, unlessRefused}
-use Rattle.common.proofs.Tests.{and-left, and-right, by-equality}
+use Rattle.common.proofs.Tests.{and-left, and-right}
 use Rattle.common.proofs.Check.{passed-by, both-pass, clear, not-given, accepts, refuses, number-told}
 use Rattle.common.proofs.Word.{high-digit}
 use Rattle.line.specs.Refusal as number
 use Rattle.line.specs.declared.line.Line.{Line}
 use Rattle.line.specs.Book.{lastEdition, namedLength, postsOf, editionOf, positionsOf, lineIn, bookChecksFrom}
 use Rattle.line.specs.Book.{acceptedBook, refusedBy, readFrom, readPositioned, outcomeNumber}
-use Rattle.line.specs.Positions.{metresAt, positionsInOrder}
+use Rattle.line.specs.Positions.{metresAt}
 use Rattle.line.proofs.WellFormed.{low, high}
-use Rattle.line.proofs.InOrder.{rising}
+use Rattle.line.proofs.InOrder.{no-nearer}
 use Rattle.line.proofs.Reading.{read-number}
 use Rattle.line.proofs.Positions.{positions}
+use Rattle.line.proofs.Positioned.{in-order}
 use Rattle.timing.specs.Timing.{Time, mostSpeed, metres, timed, questionChecks, timeChecks, noTime, runningTime}
 use Rattle.timing.specs.Claims.{Divides, Asked, RunningTime}
-use Rattle.timing.proofs.Cases.{in-order, metres-read, few-metres, refused-book, from-off, to-off, too-slow}
+use Rattle.timing.proofs.Cases.{metres-read, few-metres, refused-book, from-off, to-off, too-slow}
 use Rattle.timing.proofs.Cases.{too-fast, is-timed}
 
 -- ---- division with rest
@@ -137,13 +138,6 @@ module _ (b : List ℕ) (p q v : ℕ) where
 apart : (b : List ℕ) (p q v : ℕ) (a : Asked b p q v) → metresAt (a .positions) p ≤ metresAt (a .positions) q
     → metresAt (a .positions) p + metres b p q ≡ metresAt (a .positions) q
 apart b p q v a up = let far = metres-read b (a .line) (a .positions) (a .read) p q in omega arith
-
--- a later post is no nearer
-no-nearer : (n : ℕ) (ps : List ℕ) → positionsInOrder n ps ≡ true → (p q : ℕ) → p ≤ q → q < n
-    → metresAt ps p ≤ metresAt ps q
-no-nearer n ps ordered p q h k = by-equality p q
-    (λ e. rw e (omega arith))
-    (λ e. let above = rising n ps ordered p q (omega arith) k in omega arith)
 
 -- the same asked between two other posts of the line
 abbrev asked-between : {b : List ℕ} {p q v : ℕ} (a : Asked b p q v) (x y : ℕ)

@@ -9,7 +9,8 @@ use borrow.Author.Needs.{needs}
 use Rattle.line.specs.declared.line.Line.{Line}
 use Rattle.line.specs.Book.{lastEdition, acceptedBook, readPositioned}
 use Rattle.line.proofs.Reading.{read-as}
-use Rattle.timing.proofs.Cases.{book-refused, few-posts, from-off, to-off, too-slow, too-fast, is-timed}
+use Rattle.line.proofs.Positioned.{few-posts}
+use Rattle.timing.proofs.Cases.{book-refused, from-off, to-off, too-slow, too-fast, is-timed}
 use Rattle.timing.proofs.Cases.{metres-read, few-metres}
 use Rattle.timing.proofs.timing.running_time.Statement.{statement}
 use Rattle.timing.proofs.timing.running_time.Tie as tie

@@ -1,0 +1,2 @@
+-- The machine's comparisons as those of exact values.
+pub mod Exact

@@ -1,0 +1,2 @@
+-- The examples of place reports, evaluated.
+pub mod Evaluated

@@ -1,0 +1,2 @@
+-- Examples of place reports.
+pub mod Places
