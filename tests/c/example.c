@@ -2,12 +2,13 @@
  * The run of 01 from C: opens book X, answers eight frames that two drivers' units give, and prints
  * the journal. An authority and an arrival are lost on the way, and come when the driver presses
  * Again. Then one unit goes once through its flow, frames are repeated, books with sidings and with
- * several tracks are opened, gangs get a section, records are counted, and running times are added
- * up. Exit status 0 where all went as the paper says, else 1.
+ * several tracks are opened, gangs get a section, records are counted, running times are added up,
+ * and a cab reports where it is. Exit status 0 where all went as the paper says, else 1.
  *
  *   rt staticlib quangevit
  *   cc -Wall -Wextra -I crates/quangevit tests/c/example.c target/staticlib/libquangevit.a -o example
  */
+#include <math.h>
 #include <stdio.h>
 #include <string.h>
 
@@ -311,6 +312,59 @@ static void running_times(void) {
     expect(open_book(book_3, sizeof book_3) == QUANGEVIT_POSITIONS, "a book not from 0 is opened");
 }
 
+static uint8_t place[QUANGEVIT_PLACE_BYTES];
+
+/* Reports a place on the line of book_3; only what the kind names is looked at. */
+static uint32_t report(uint8_t kind, uint8_t post, float metres) {
+    return quangevit_locate(book_3, sizeof book_3, kind, post, metres, place, sizeof place);
+}
+
+static uint32_t report_metres(float metres) {
+    return report(QUANGEVIT_REPORT_METRES, 255, metres);
+}
+
+/* The place that was told last. */
+static void expect_place(uint8_t sort, uint8_t number, uint8_t nearest) {
+    expect(place[QUANGEVIT_PLACE_SORT_AT] == sort, "a place of another sort");
+    expect(place[QUANGEVIT_PLACE_NUMBER_AT] == number, "another post or section");
+    expect(place[QUANGEVIT_PLACE_NEAREST_AT] == nearest, "another nearest post");
+}
+
+/* So many metres are at a post. */
+static void expect_at(float metres, uint8_t post) {
+    expect(report_metres(metres) == QUANGEVIT_ACCEPTED, "metres at a post are refused");
+    expect_place(QUANGEVIT_PLACE_POST, post, post);
+}
+
+/* So many metres are in a section. */
+static void expect_in(float metres, uint8_t section, uint8_t nearest) {
+    expect(report_metres(metres) == QUANGEVIT_ACCEPTED, "metres in a section are refused");
+    expect_place(QUANGEVIT_PLACE_SECTION, section, nearest);
+}
+
+/* Posts 1 and 2 are at 1,000 and 2,234 metres: their middle is at 1,617. */
+static void places(void) {
+    expect(report_metres(0) == QUANGEVIT_POSITIONS, "a place by a book not from 0");
+    book_3[11] = 0;
+    expect_at(-0.0f, 0);
+    expect_in(999.99994f, 0, 1); /* the next number below 1,000 */
+    expect_at(1000, 1);
+    expect_in(1617, 1, 1);
+    expect_in(1617.0001f, 1, 2); /* the next number above 1,617 */
+    expect_at(2234, 2);
+    expect(report_metres(2234.0002f) == QUANGEVIT_NO_PLACE, "a place past the last post");
+    expect(report_metres(-1) == QUANGEVIT_NO_PLACE, "a place below zero");
+    expect(report_metres(INFINITY) == QUANGEVIT_NO_PLACE, "a place at infinity");
+    expect(report_metres(NAN) == QUANGEVIT_NO_PLACE, "a place that is no number");
+    expect(report(QUANGEVIT_REPORT_POST, 3, 0) == QUANGEVIT_WRONG_POST, "a post off the line");
+    expect(report(QUANGEVIT_REPORT_METRES + 1, 0, 0) == QUANGEVIT_UNKNOWN_KIND, "another kind");
+    expect_place(QUANGEVIT_PLACE_POST, 2, 2); /* no refusal has written a place */
+    expect(report(QUANGEVIT_REPORT_POST, 1, NAN) == QUANGEVIT_ACCEPTED, "a post is refused");
+    expect_place(QUANGEVIT_PLACE_POST, 1, 1);
+    expect(report(QUANGEVIT_REPORT_MISSING, 3, NAN) == QUANGEVIT_ACCEPTED, "missing is refused");
+    expect_place(QUANGEVIT_PLACE_NOTHING, 0, 0);
+}
+
 int main(void) {
     static const uint8_t line_x[QUANGEVIT_LINE_BYTES] = {3, 1, 2, 1, 0, 0, 0, 0,
                                                          0, 0, 2, 0, 2, 2, 0};
@@ -345,5 +399,6 @@ int main(void) {
     local_runs();
     counts();
     running_times();
+    places();
     return off;
 }

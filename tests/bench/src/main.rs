@@ -1,4 +1,5 @@
-//! What filling a table, answering a frame, reading a book and telling a running time cost: the proved code beside the model.
+//! What filling a table, answering a frame, reading a book, telling a running time and placing a report cost: the
+//! proved code beside the model.
 //!
 //!     bench                                  times, as a markdown table
 //!     bench works                            each line and work that is measured
@@ -11,7 +12,7 @@ mod lines;
 mod samples;
 mod work;
 
-use inputs::sizes::{JOURNAL_BYTES, LINE_BYTES, OUT_BYTES, STATE_BYTES};
+use inputs::sizes::{JOURNAL_BYTES, LINE_BYTES, OUT_BYTES, PLACE_BYTES, STATE_BYTES};
 use inputs::sizes::{TABLE_BYTES, TIME_BYTES, UNIT_BYTES};
 use lines::{Line, LINES};
 use std::process::ExitCode;
@@ -78,7 +79,7 @@ fn print_times() {
 
 fn print_sizes() {
     println!(
-        "| state, unit, line, time | {STATE_BYTES}, {UNIT_BYTES}, {LINE_BYTES}, {TIME_BYTES} |"
+        "| state, unit, line, time, place | {STATE_BYTES}, {UNIT_BYTES}, {LINE_BYTES}, {TIME_BYTES}, {PLACE_BYTES} |"
     );
     println!("| table, journal, out buffer, as lent at least | {TABLE_BYTES}, {JOURNAL_BYTES}, {OUT_BYTES} |");
 }

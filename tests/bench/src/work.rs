@@ -6,11 +6,12 @@ use crate::lines::Line;
 use crate::samples::{samples, Class};
 use boundary::{Ends, Proved};
 use inputs::crews::{open, Turn};
-use inputs::encoding::state_bytes;
+use inputs::encoding::{state_bytes, METRES, MISSING, POST};
 use inputs::sizes::{
-    JOURNAL_BYTES, JOURNAL_RECORDS, LINE_BYTES, OUT_BYTES, STATE_BYTES, TABLE_BYTES, TIME_BYTES,
+    JOURNAL_BYTES, JOURNAL_RECORDS, LINE_BYTES, OUT_BYTES, PLACE_BYTES, STATE_BYTES, TABLE_BYTES,
+    TIME_BYTES,
 };
-use model::Record;
+use model::{Record, Report};
 use std::hint::black_box;
 
 #[derive(Clone, Copy)]
@@ -20,17 +21,31 @@ pub enum Side {
 }
 
 /// The opening of a book, nearly all of which is the filling of the table; answers to frames; the reading of a book
-/// alone; a running time from the first post to the last, of this number.
+/// alone; a running time from the first post to the last, of this number; the place of a report.
 pub enum Work {
     Fill { book: Vec<u8> },
     Answer { table: Vec<u8>, samples: Vec<Turn> },
     Read(Vec<u8>),
     Time(Vec<u8>, u8),
+    Place(Vec<u8>, Report),
 }
 
-pub const WORKS: [&str; 11] = [
-    "fill", "granted", "declined", "arrival", "given", "back", "again", "refused", "mix", "read",
+pub const WORKS: [&str; 15] = [
+    "fill",
+    "granted",
+    "declined",
+    "arrival",
+    "given",
+    "back",
+    "again",
+    "refused",
+    "mix",
+    "read",
     "time",
+    "missing",
+    "post",
+    "at-post",
+    "in-section",
 ];
 
 /// The speed of the running times, in km/h.
@@ -45,6 +60,10 @@ impl Work {
             "fill" => return Some(Work::Fill { book }),
             "read" => return Some(Work::Read(with_positions)),
             "time" => return Some(Work::Time(with_positions, line.last_post())),
+            "missing" => return Some(Work::Place(with_positions, Report::Missing)),
+            "post" => return Some(Work::Place(with_positions, Report::Post(line.last_post()))),
+            "at-post" => return Some(Work::Place(with_positions, Report::Metres(0.0))),
+            "in-section" => return Some(Work::Place(with_positions, Report::Metres(0.5))),
             "granted" => Some(Class::Granted),
             "declined" => Some(Class::Declined),
             "arrival" => Some(Class::Arrival),
@@ -74,6 +93,8 @@ impl Work {
             (Work::Read(book), Side::Model) => read_model(book, calls),
             (Work::Time(book, last), Side::Proved) => time_proved(book, *last, calls),
             (Work::Time(book, last), Side::Model) => time_model(book, *last, calls),
+            (Work::Place(book, report), Side::Proved) => place_proved(book, *report, calls),
+            (Work::Place(book, report), Side::Model) => place_model(book, *report, calls),
         }
     }
 }
@@ -146,6 +167,26 @@ fn time_proved(book: &[u8], last: u8, calls: usize) {
 fn time_model(book: &[u8], last: u8, calls: usize) {
     for _ in 0..calls {
         let told = model::running_time(black_box(book), 0, last, black_box(SPEED));
+        assert!(black_box(told).is_ok());
+    }
+}
+
+fn place_proved(book: &[u8], report: Report, calls: usize) {
+    let (kind, post, metres) = match report {
+        Report::Missing => (MISSING, 0, 0.0),
+        Report::Post(post) => (POST, post, 0.0),
+        Report::Metres(metres) => (METRES, 0, metres),
+    };
+    let mut place = [0; PLACE_BYTES];
+    for _ in 0..calls {
+        let result = Proved.locate(black_box(book), kind, post, black_box(metres), &mut place);
+        assert_eq!(black_box(result), 0);
+    }
+}
+
+fn place_model(book: &[u8], report: Report, calls: usize) {
+    for _ in 0..calls {
+        let told = model::place(black_box(book), black_box(report));
         assert!(black_box(told).is_ok());
     }
 }

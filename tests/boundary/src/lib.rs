@@ -1,11 +1,11 @@
-//! The C interface of the two ends and of running times, and the proved library behind it.
+//! The C interface of the two ends, of running times and of places, and the proved library behind it.
 //!
 //! Nothing checks these declarations against the Rattle source: this is the only place that has
 //! them. The C side asks two things of a caller, that each buffer has the length it names and that
 //! no two buffers overlap, and slices give both.
 
 /// The version of the library that these declarations are for: QUANGEVIT_VERSION of the header.
-pub const VERSION: u32 = 700;
+pub const VERSION: u32 = 800;
 
 mod c {
     extern "C" {
@@ -52,6 +52,16 @@ mod c {
             time_len: usize,
         ) -> u32;
 
+        pub fn quangevit_locate(
+            book: *const u8,
+            book_len: usize,
+            kind: u8,
+            post: u8,
+            metres: f32,
+            place: *mut u8,
+            place_len: usize,
+        ) -> u32;
+
         pub fn quangevit_make_unit(
             train: u8,
             start: u8,
@@ -82,7 +92,7 @@ pub fn version() -> u32 {
     unsafe { c::quangevit_version() }
 }
 
-/// The seven functions of the C interface, for the two ends and for planners. Each answers the refusal's number in its
+/// The eight functions of the C interface, for the two ends and for planners. Each answers the refusal's number in its
 /// low byte and the number of frames written in the next.
 pub trait Ends {
     /// Reads a book alone; the line it gives goes to `line`.
@@ -103,6 +113,9 @@ pub trait Ends {
 
     /// The running time between two posts of a book at a speed, which goes to `time`.
     fn running_time(&self, book: &[u8], from: u8, to: u8, speed: u32, time: &mut [u8]) -> u32;
+
+    /// The place of a report of a kind, which goes to `place`.
+    fn locate(&self, book: &[u8], kind: u8, post: u8, metres: f32, place: &mut [u8]) -> u32;
 
     /// Makes the unit of a train.
     fn make_unit(&self, train: u8, start: u8, end: u8, unit: &mut [u8]) -> u32;
@@ -175,6 +188,21 @@ impl Ends for Proved {
                 speed,
                 time.as_mut_ptr(),
                 time.len(),
+            )
+        }
+    }
+
+    #[inline]
+    fn locate(&self, book: &[u8], kind: u8, post: u8, metres: f32, place: &mut [u8]) -> u32 {
+        unsafe {
+            c::quangevit_locate(
+                book.as_ptr(),
+                book.len(),
+                kind,
+                post,
+                metres,
+                place.as_mut_ptr(),
+                place.len(),
             )
         }
     }

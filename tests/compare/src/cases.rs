@@ -15,7 +15,9 @@ pub enum Subject {
     Codes,
     LocalRuns,
     Times,
-    Orders,
+    TimeOrders,
+    Places,
+    PlaceOrders,
     Repeats,
     LastMoves,
     Again,
@@ -29,13 +31,15 @@ pub fn shown<C: Case, const N: usize>(cases: [(bool, C); N]) -> Vec<C> {
 }
 
 /// The subjects in their order, each with the names of its cases.
-pub const SUBJECTS: [(&str, &[&str]); 10] = [
+pub const SUBJECTS: [(&str, &[&str]); 12] = [
     ("sidings", &SIDINGS),
     ("tracks", &TRACKS),
     ("codes", &CODES),
     ("local runs", &LOCAL_RUNS),
     ("running times", &TIMES),
-    ("the order of checks for them", &ORDERS),
+    ("the order of checks for them", &TIME_ORDERS),
+    ("place reports", &PLACES),
+    ("the order of checks for those", &PLACE_ORDERS),
     ("repeats", &REPEATS),
     ("last moves", &LAST_MOVES),
     ("Again", &AGAIN),
@@ -302,20 +306,157 @@ const TIMES: [&str; 31] = [
     "28, right in its low byte",
 ];
 
-/// The check of this place, of those for a running time, refused, and the next would have.
+/// Of two neighbouring checks for a running time, by the place of the two, the first refused, and the next would have.
 #[derive(Debug, Clone, Copy, PartialEq, Eq)]
-pub struct Neighbours(pub usize);
+pub struct TimeOrder(pub usize);
 
-impl Case for Neighbours {
-    const SUBJECT: Subject = Subject::Orders;
+impl Case for TimeOrder {
+    const SUBJECT: Subject = Subject::TimeOrders;
 
     fn place(self) -> usize {
         self.0
     }
 }
 
-const ORDERS: [&str; 12] = [
-    "1 before 14, the length named",
+const TIME_ORDERS: [&str; 12] = around_book(
+    &["1 before 14, the length named"],
+    &["18 before 9", "9 before 28"],
+);
+
+/// What comes of place reports, in the order of the names: of metres at a post and in a section, of a post number, of
+/// one that is missing, and of a report that is refused by 4, 5, 9 or 29.
+#[derive(Debug, Clone, Copy, PartialEq, Eq)]
+pub enum PlaceCase {
+    AtFirst,
+    AtMiddle,
+    AtLast,
+    AtFarEnd,
+    MinusZero,
+    InFirst,
+    InMiddle,
+    InLast,
+    NearLower,
+    NearUpper,
+    TieWhole,
+    TieHalf,
+    TieInAMetre,
+    BelowPost,
+    AbovePost,
+    BelowTie,
+    AboveTie,
+    Smallest,
+    BesidePost,
+    Itself,
+    BesideNan,
+    MissingPost,
+    MissingNan,
+    Overfull,
+    NoWayThrough,
+    First,
+    Second,
+    Later,
+    OtherFault,
+    NextKind,
+    KindAbove,
+    KindBefore14,
+    KindBefore4,
+    KindBefore15,
+    KindBefore16,
+    KindBefore23,
+    KindBefore27,
+    KindBefore17,
+    KindBefore18,
+    BehindTheLast,
+    FarBehind,
+    SmallestBelow,
+    BySign,
+    PastTheLast,
+    Infinite,
+    MinusInfinite,
+    Quiet,
+    Signalling,
+    NanWithSign,
+}
+
+impl Case for PlaceCase {
+    const SUBJECT: Subject = Subject::Places;
+
+    fn place(self) -> usize {
+        self as usize
+    }
+}
+
+const PLACES: [&str; 49] = [
+    "at the first post",
+    "at a post between",
+    "at the last post",
+    "at 8,388,607 metres",
+    "minus zero",
+    "in the first section",
+    "in a section between",
+    "in the last section",
+    "the lower post is nearer",
+    "the upper post is nearer",
+    "equal distance, at a whole metre",
+    "equal distance, at half a metre",
+    "equal distance, in a section of a metre",
+    "one bit below a post",
+    "one bit above a post",
+    "one bit below equal distance",
+    "one bit above equal distance",
+    "the smallest number above zero",
+    "metres, beside a post off the line",
+    "a post number",
+    "a post number, beside a NaN",
+    "missing, beside a post off the line",
+    "missing, beside a NaN",
+    "of a book that is 19 to open",
+    "of a book that is 20 to open",
+    "4, a right book of edition 1",
+    "4, a right book of edition 2",
+    "4, an edition above 3",
+    "4, another fault as well",
+    "5, kind 3",
+    "5, a kind above 3",
+    "5, a book that would be 14",
+    "5, a book that would be 4",
+    "5, a book that would be 15",
+    "5, a book that would be 16",
+    "5, a book that would be 23",
+    "5, a book that would be 27",
+    "5, a book that would be 17",
+    "5, a book that would be 18",
+    "9, the post behind the last",
+    "9, a post further behind",
+    "29, the smallest number below zero",
+    "29, on the line but for its sign",
+    "29, one bit past the last post",
+    "29, infinity",
+    "29, minus infinity",
+    "29, a quiet NaN",
+    "29, a signalling NaN",
+    "29, a NaN with the sign",
+];
+
+/// As `TimeOrder`, for a place.
+#[derive(Debug, Clone, Copy, PartialEq, Eq)]
+pub struct PlaceOrder(pub usize);
+
+impl Case for PlaceOrder {
+    const SUBJECT: Subject = Subject::PlaceOrders;
+
+    fn place(self) -> usize {
+        self.0
+    }
+}
+
+const PLACE_ORDERS: [&str; 13] = around_book(
+    &["1 before 5", "5 before 14, the length named"],
+    &["18 before 9", "18 before 29"],
+);
+
+/// Neighbouring checks of a book.
+const BOOK_ORDERS: [&str; 9] = [
     "14, the length named, before 4",
     "4 before 15",
     "15 before 14, an early end",
@@ -325,9 +466,28 @@ const ORDERS: [&str; 12] = [
     "27 before 17",
     "17 before 14, the total",
     "14, the total, before 18",
-    "18 before 9",
-    "9 before 28",
 ];
+
+/// Those of a book between others.
+const fn around_book<const N: usize>(
+    before: &[&'static str],
+    after: &[&'static str],
+) -> [&'static str; N] {
+    let end = before.len() + BOOK_ORDERS.len();
+    let mut all = [""; N];
+    let mut n = 0;
+    while n < N {
+        all[n] = if n < before.len() {
+            before[n]
+        } else if n < end {
+            BOOK_ORDERS[n - before.len()]
+        } else {
+            after[n - end]
+        };
+        n += 1;
+    }
+    all
+}
 
 /// What comes of an FA or AM that repeats an earlier one, and of one that nearly does and is refused, in the order of
 /// the names.

@@ -1,27 +1,29 @@
 //! What a run has reached, and what it must have reached to be worth anything.
 
-use crate::cases::{Case, SUBJECTS};
+use crate::cases::{Case, Subject, SUBJECTS};
 use inputs::frames::LA;
 use inputs::sizes::{FRAME_BYTES, OUT_BYTES};
 use std::collections::BTreeMap;
 
-/// The seven entry points, in the order of the columns.
+/// The eight entry points, in the order of the columns.
 #[derive(Debug, Clone, Copy, PartialEq, Eq)]
 pub enum Entry {
     ReadBook,
     Open,
     Answer,
     RunningTime,
+    Locate,
     MakeUnit,
     Press,
     Hear,
 }
 
-const ENTRIES: [(&str, &[u8]); 7] = [
+const ENTRIES: [(&str, &[u8]); 8] = [
     ("read_book", &[1, 4, 14, 15, 16, 17, 18, 23, 27]),
     ("open", &[1, 2, 4, 14, 15, 16, 17, 18, 19, 20, 23, 27]),
     ("answer", &[1, 2, 3, 4, 5, 6, 7, 8, 9, 12, 24, 25, 26]),
     ("running_time", &[1, 4, 9, 14, 15, 16, 17, 18, 23, 27, 28]),
+    ("locate", &[1, 4, 5, 9, 14, 15, 16, 17, 18, 23, 27, 29]),
     ("make_unit", &[1, 18]),
     ("press", &[1, 2, 8, 21]),
     ("hear", &[1, 3, 4, 5, 6, 22]),
@@ -71,8 +73,8 @@ const DUE_INPUTS: [&str; 26] = [
     "table: short",
 ];
 
-/// Refusal numbers 0 (none) to 28. Those that no entry point can give, 10, 11 and 13, are not told.
-const NUMBERS: usize = 29;
+/// Refusal numbers 0 (none) to 29. Those that no entry point can give, 10, 11 and 13, are not told.
+const NUMBERS: usize = 30;
 
 const MOST_SENT: usize = OUT_BYTES / FRAME_BYTES;
 
@@ -149,58 +151,74 @@ impl Counts {
         self.calls(Entry::Answer)
     }
 
+    /// Place reports, accepted and refused.
+    pub fn reports(&self) -> u64 {
+        self.calls(Entry::Locate)
+    }
+
     fn calls(&self, entry: Entry) -> u64 {
         self.refusals[entry as usize].iter().sum()
     }
 
     /// What was to be reached and was not, or was reached and cannot be.
     pub fn failings(&self) -> Vec<String> {
-        let mut failings = self.wrong_numbers();
+        let entries = 0..ENTRIES.len();
+        let mut failings: Vec<String> = entries.flat_map(|n| self.wrong_numbers(n)).collect();
         for (frames, count) in self.sent.iter().enumerate() {
             if *count == 0 {
                 failings.push(format!("never {frames} frames sent"));
             }
         }
-        for (what, names, counts) in self.named() {
-            failings.extend(never(&what, names, counts));
+        for named in self.named() {
+            failings.extend(never(named));
         }
         let had = DUE_INPUTS.map(|kind| self.inputs.get(kind).copied().unwrap_or(0));
-        failings.extend(never("input", &DUE_INPUTS, &had));
+        failings.extend(never(("input".into(), &DUE_INPUTS, &had)));
         failings
     }
 
+    /// The same for place reports alone.
+    pub fn failings_of_reports(&self) -> Vec<String> {
+        let subjects = [Subject::Places, Subject::PlaceOrders];
+        let cases = subjects.map(|subject| never(self.cases_of(subject as usize)));
+        [self.wrong_numbers(Entry::Locate as usize), cases.concat()].concat()
+    }
+
     /// The numbers that an entry point can give and never gave, and those that it gave and cannot give.
-    fn wrong_numbers(&self) -> Vec<String> {
+    fn wrong_numbers(&self, entry: usize) -> Vec<String> {
+        let (name, reachable) = ENTRIES[entry];
         let mut wrong = Vec::new();
-        for (entry, (name, reachable)) in ENTRIES.iter().enumerate() {
-            for number in 0..NUMBERS as u8 {
-                let due = number == 0 || reachable.contains(&number);
-                let met = self.refusals[entry][usize::from(number)] > 0;
-                match (due, met) {
-                    (true, false) => wrong.push(format!("{name} never answered {number}")),
-                    (false, true) => wrong.push(format!("{name} answered {number}")),
-                    _ => (),
-                }
+        for number in 0..NUMBERS as u8 {
+            let due = number == 0 || reachable.contains(&number);
+            let met = self.refusals[entry][usize::from(number)] > 0;
+            match (due, met) {
+                (true, false) => wrong.push(format!("{name} never answered {number}")),
+                (false, true) => wrong.push(format!("{name} answered {number}")),
+                _ => (),
             }
         }
         wrong
     }
 
-    /// All that is due under names: what it is, the names, and how often each was reached.
-    fn named(&self) -> Vec<(String, &[&str], &[u64])> {
-        let mut named: Vec<(String, &[&str], &[u64])> = vec![
+    /// All that is due under names.
+    fn named(&self) -> Vec<Named<'_>> {
+        let mut named: Vec<Named> = vec![
             ("status of a train".into(), &STATUSES, &self.statuses),
             ("phase of a unit".into(), &PHASES, &self.phases),
         ];
         for (kind, counts) in OF_GANGS.iter().zip(&self.heard) {
             named.push((format!("{kind} heard by a unit"), &PHASES, counts));
         }
-        for ((subject, names), counts) in SUBJECTS.iter().zip(&self.cases) {
-            named.push((format!("case of {subject}"), names, counts));
-        }
+        named.extend((0..SUBJECTS.len()).map(|subject| self.cases_of(subject)));
         named
     }
 
+    fn cases_of(&self, subject: usize) -> Named<'_> {
+        let (name, cases) = SUBJECTS[subject];
+        (format!("case of {name}"), cases, &self.cases[subject])
+    }
+
+    /// Where nothing of a sort was met, that is left out: it is among the failings of a run that was to meet it.
     pub fn print(&self) {
         println!("inputs of each kind");
         for (kind, count) in &self.inputs {
@@ -211,19 +229,26 @@ impl Counts {
         for (frames, count) in self.sent.iter().enumerate() {
             println!("  {frames:<44} {count:>12}");
         }
-        for (what, names, counts) in self.named() {
+        let is_met = |counts: &[u64]| counts.iter().any(|count| *count > 0);
+        for (what, names, counts) in self.named().into_iter().filter(|named| is_met(named.2)) {
             println!("{what}");
             for (name, count) in names.iter().zip(counts) {
                 println!("  {name:<44} {count:>12}");
             }
         }
+        self.print_calls();
+    }
+
+    fn print_calls(&self) {
         let accepted = |entry| self.refusals[entry as usize][0];
         println!(
-            "frames answered: {}, accepted: {}; running times asked for: {}, told: {}",
+            "frames answered: {}, accepted: {}; running times asked for: {}, told: {}; places reported: {}, told: {}",
             self.frames(),
             accepted(Entry::Answer),
             self.calls(Entry::RunningTime),
-            accepted(Entry::RunningTime)
+            accepted(Entry::RunningTime),
+            self.reports(),
+            accepted(Entry::Locate)
         );
     }
 
@@ -256,7 +281,10 @@ impl Counts {
     }
 }
 
-fn never(what: &str, names: &[&str], counts: &[u64]) -> Vec<String> {
+/// What it is, the names, and how often each was reached.
+type Named<'a> = (String, &'a [&'a str], &'a [u64]);
+
+fn never((what, names, counts): Named) -> Vec<String> {
     let missing = names.iter().zip(counts).filter(|(_, count)| **count == 0);
     missing
         .map(|(name, _)| format!("{what}: {name} never reached"))

@@ -1,11 +1,13 @@
 //! The proved ends beside the independent model, on the same inputs.
 //!
 //!     compare [--seed S] [--frames N]
+//!     compare [--seed S] --reports N      place reports alone
 //!
 //! Ends with `0 differences` and status 0. On the first difference it prints the input and both
 //! outputs, with status 1; so it does if anything that a run is to reach was never reached.
 
 mod again;
+mod asked;
 mod book_faults;
 mod books;
 mod cases;
@@ -22,10 +24,12 @@ mod longest;
 mod model_ends;
 mod openings;
 mod pair;
+mod places;
 mod positions;
 mod questions;
 mod radio;
 mod repeats;
+mod reports;
 mod runs;
 mod sidings;
 mod state_counts;
@@ -45,6 +49,8 @@ mod wrong_again;
 #[cfg(test)]
 mod wrong_boxes;
 #[cfg(test)]
+mod wrong_checks;
+#[cfg(test)]
 mod wrong_codes;
 #[cfg(test)]
 mod wrong_counts;
@@ -52,6 +58,8 @@ mod wrong_counts;
 mod wrong_last_moves;
 #[cfg(test)]
 mod wrong_local_runs;
+#[cfg(test)]
+mod wrong_places;
 #[cfg(test)]
 mod wrong_positions;
 #[cfg(test)]
@@ -80,20 +88,32 @@ const KEPT: usize = 24;
 /// Rounds for which an opened book of the longest journals is kept.
 const ROUNDS_OF_LONGEST: usize = 40;
 
-/// Runs for each question about a running time that comes between them.
+/// Runs for each question about a running time that comes between them, and for each book that place reports are about.
 const RUNS_A_QUESTION: usize = 3;
+
+/// Place reports about one book, between runs and where nothing else is compared.
+const REPORTS_A_BOOK: usize = 8;
+const REPORTS_A_BOOK_ALONE: usize = 64;
 
 struct Options {
     seed: u64,
     frames: u64,
+    /// Place reports alone, so many, in the place of frames.
+    reports: Option<u64>,
 }
 
 fn main() -> ExitCode {
     let Some(options) = options() else {
-        eprintln!("usage: compare [--seed S] [--frames N]");
+        eprintln!("usage: compare [--seed S] [--frames N | --reports N]");
         return ExitCode::from(2);
     };
     let mut pair = Pair::new(Box::new(Proved), Box::new(Model));
+    if let Some(reports) = options.reports {
+        println!("seed {}, {reports} place reports", options.seed);
+        let compared = reports_alone(&mut pair, options.seed, reports);
+        pair.counts.print();
+        return verdict(compared, &pair.counts.failings_of_reports());
+    }
     println!("seed {}, {} frames", options.seed, options.frames);
     let compared = all(&mut pair, &options);
     pair.counts.print();
@@ -104,12 +124,14 @@ fn options() -> Option<Options> {
     let mut options = Options {
         seed: 1,
         frames: 10_000_000,
+        reports: None,
     };
     let words: Vec<String> = std::env::args().skip(1).collect();
     for two in words.chunks(2) {
         match two {
             [name, value] if name == "--seed" => options.seed = value.parse().ok()?,
             [name, value] if name == "--frames" => options.frames = value.parse().ok()?,
+            [name, value] if name == "--reports" => options.reports = Some(value.parse().ok()?),
             _ => return None,
         }
     }
@@ -134,6 +156,8 @@ fn verdict(compared: Compared<()>, failings: &[String]) -> ExitCode {
 
 fn all(pair: &mut Pair, options: &Options) -> Compared<()> {
     let random = &mut Random::new(options.seed);
+    // Numbers of their own for the reports: the frames of a seed are the same with and without them.
+    let of_reports = &mut Random::new(!options.seed);
     units::make_all(pair, random)?;
     units::press_and_hear_all(pair, random)?;
     let mut kept = Kept::new(pair, random)?;
@@ -147,8 +171,18 @@ fn all(pair: &mut Pair, options: &Options) -> Compared<()> {
             one_run(pair, &kept, random)?;
             if random.one_in(RUNS_A_QUESTION) {
                 questions::ask(pair, random)?;
+                reports::send(pair, of_reports, REPORTS_A_BOOK)?;
             }
         }
+        reports::sweep(pair, of_reports)?;
+    }
+    Ok(())
+}
+
+fn reports_alone(pair: &mut Pair, seed: u64, reports: u64) -> Compared<()> {
+    let random = &mut Random::new(seed);
+    while pair.counts.reports() < reports {
+        reports::send(pair, random, REPORTS_A_BOOK_ALONE)?;
     }
     Ok(())
 }

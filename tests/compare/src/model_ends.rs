@@ -1,15 +1,17 @@
 //! The model behind the C interface: its structs as bytes, and the refusals that the bytes add.
 
+use crate::reports::Report;
 use boundary::Ends;
 use inputs::encoding::{
-    line_bytes, put_records, records_of, state_bytes, state_of, time_bytes, unit_bytes, unit_of,
-    BUTTONS,
+    line_bytes, place_bytes, put_records, records_of, report_of, state_bytes, state_of, time_bytes,
+    unit_bytes, unit_of, BUTTONS,
 };
-use inputs::sizes::{FRAME_BYTES, LINE_BYTES, STATE_BYTES, TIME_BYTES, UNIT_BYTES};
-use model::{unit, Verdict};
+use inputs::sizes::{FRAME_BYTES, LINE_BYTES, PLACE_BYTES, STATE_BYTES, TIME_BYTES, UNIT_BYTES};
+use model::{unit, Place, Verdict};
 
 /// The model, with what the C interface adds to it: the lengths of the buffers for a line, a
-/// state, a unit and a time, bytes that encode nothing, numbers that are no button.
+/// state, a unit, a time and a place, bytes that encode nothing, numbers that are no button or no
+/// kind of report.
 pub struct Model;
 
 impl Ends for Model {
@@ -63,7 +65,19 @@ impl Ends for Model {
         if time.len() != TIME_BYTES {
             return 1;
         }
-        tell(model::running_time(book, from, to, speed), time)
+        tell(
+            model::running_time(book, from, to, speed).map(time_bytes),
+            time,
+        )
+    }
+
+    fn locate(&self, book: &[u8], kind: u8, post: u8, metres: f32, place: &mut [u8]) -> u32 {
+        if place.len() != PLACE_BYTES {
+            return 1;
+        }
+        let bits = metres.to_bits();
+        let report = Report { kind, post, bits };
+        tell(located(book, report).map(place_bytes), place)
     }
 
     fn make_unit(&self, train: u8, start: u8, end: u8, unit: &mut [u8]) -> u32 {
@@ -106,14 +120,20 @@ impl Ends for Model {
     }
 }
 
-/// Seconds and rest, or the number of the refusal.
-pub type Time = Result<(u32, u32), u8>;
+/// The place, or the number of the refusal.
+pub type Located = Result<Place, u8>;
 
-/// Writes a running time to the eight bytes lent for it; a refusal leaves them alone.
-pub fn tell(told: Time, time: &mut [u8]) -> u32 {
+/// The place of a report, whose kind may be none.
+pub fn located(book: &[u8], report: Report) -> Located {
+    let report = report_of(report.kind, report.post, report.metres());
+    model::place(book, report.ok_or(5)?)
+}
+
+/// Writes the bytes of an answer to those lent for it, as many; a refusal leaves them alone.
+pub fn tell<const N: usize>(told: Result<[u8; N], u8>, lent: &mut [u8]) -> u32 {
     match told {
-        Ok((seconds, rest)) => {
-            time.copy_from_slice(&time_bytes(seconds, rest));
+        Ok(bytes) => {
+            lent.copy_from_slice(&bytes);
             0
         }
         Err(number) => number.into(),

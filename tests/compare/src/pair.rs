@@ -1,11 +1,13 @@
 //! Both sides called with the same input, and everything they answer and write compared.
 
-use crate::checks::Asked;
+use crate::asked::{About, Asked};
+use crate::cases::{PlaceOrder, TimeOrder};
 use crate::counts::{Counts, Entry};
 use crate::journal_counts::{self, Put};
 use crate::lent::{Lent, Side};
-use crate::questions::Question;
-use crate::{again, codes, last_moves, local_runs, repeats, sidings, timings, tracks};
+use crate::{
+    again, checks, codes, last_moves, local_runs, places, repeats, sidings, timings, tracks,
+};
 use boundary::Ends;
 use inputs::encoding::{train_at, trains_in, PHASE_AT};
 use inputs::frames::KIND_AT;
@@ -124,26 +126,19 @@ impl Pair {
         Err(Difference(format!("answer: wrote to the table\n{text}")))
     }
 
-    pub fn running_time(
-        &mut self,
-        book: &Lent,
-        question: Question,
-        time: &mut Lent,
-    ) -> Compared<Reply> {
-        time.keep();
-        let Question { from, to, speed } = question;
-        let results = self.both(|ends, side| {
-            ends.running_time(book.shown_to(side), from, to, speed, time.lent_to(side))
-        });
-        let numbers = [from.into(), to.into(), speed];
-        let buffers = [("book", book), ("time", time)];
-        let reply = self.settle(Entry::RunningTime, &numbers, results, &buffers, &[])?;
+    /// Asks for a running time or a place.
+    pub fn ask(&mut self, book: &Lent, about: About, answer: &mut Lent) -> Compared<Reply> {
+        answer.keep();
+        let results =
+            self.both(|ends, side| about.put(ends, book.shown_to(side), answer.lent_to(side)));
+        let buffers = [("book", book), ("answer", answer)];
+        let reply = self.settle(about.entry(), &about.numbers(), results, &buffers, &[])?;
         let asked = Asked {
             book: book.bytes(),
-            question,
-            room: time.bytes().len(),
+            about,
+            answer: answer.bytes(),
         };
-        self.count_times(asked, reply);
+        self.count_asked(asked, reply.refusal);
         Ok(reply)
     }
 
@@ -218,11 +213,25 @@ impl Pair {
         Err(Difference(text))
     }
 
-    /// How a question about a running time fared.
-    fn count_times(&mut self, asked: Asked, reply: Reply) {
-        let cases = timings::of_question(asked.book, asked.question, reply.refusal);
-        self.counts.cases(cases);
-        self.counts.cases(timings::of_order(asked));
+    /// How a question about a running time or a place report fared, and whether the next check would have refused too.
+    fn count_asked(&mut self, asked: Asked, refusal: u8) {
+        let order = if refusal == 0 {
+            None
+        } else {
+            checks::neighbours(asked)
+        };
+        match asked.about {
+            About::Time(question) => {
+                let cases = timings::of_question(asked.book, question, refusal);
+                self.counts.cases(cases);
+                self.counts.cases(order.map(TimeOrder));
+            }
+            About::Place(report) => {
+                let cases = places::of_report(asked.book, report, asked.answer, refusal);
+                self.counts.cases(cases);
+                self.counts.cases(order.map(PlaceOrder));
+            }
+        }
     }
 
     /// Of a frame, with the state after it.

@@ -1,6 +1,7 @@
 //! Questions about running times: books of all kinds, posts on the line and off it, any speeds, and buffers of all
 //! lengths for the answer.
 
+use crate::asked::About;
 use crate::lent::Lent;
 use crate::pair::{Compared, Pair};
 use crate::{books, stores};
@@ -15,19 +16,25 @@ pub struct Question {
     pub speed: u32,
 }
 
-/// Asks one question. Half of the books are well formed ones of edition 3.
+/// Asks one question.
 pub fn ask(pair: &mut Pair, random: &mut Random) -> Compared<()> {
+    let bytes = book(pair, random);
+    let question = about(&bytes, random);
+    let book = Lent::new(&bytes, random);
+    let mut time = Lent::random(stores::mostly(TIME_BYTES, random), random);
+    pair.ask(&book, About::Time(question), &mut time)?;
+    Ok(())
+}
+
+/// A book to be asked about. Half of them are well formed ones of edition 3.
+pub fn book(pair: &mut Pair, random: &mut Random) -> Vec<u8> {
     let (kind, bytes) = if random.one_in(2) {
         ("book: well formed", books::with_positions(random))
     } else {
         books::any(random)
     };
-    let question = about(&bytes, random);
-    let book = Lent::new(&bytes, random);
-    let mut time = Lent::random(stores::mostly(TIME_BYTES, random), random);
     pair.counts.input(kind);
-    pair.running_time(&book, question, &mut time)?;
-    Ok(())
+    bytes
 }
 
 /// A question about a book, which may be any bytes.
@@ -41,7 +48,7 @@ pub fn about(book: &[u8], random: &mut Random) -> Question {
 }
 
 /// A post of the line, or now and then one off it, most often right behind the last.
-fn post(posts: u8, random: &mut Random) -> u8 {
+pub fn post(posts: u8, random: &mut Random) -> u8 {
     if random.one_in(8) {
         let far = random.byte();
         random.pick(&[posts, posts, 255, far])

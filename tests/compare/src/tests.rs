@@ -1,21 +1,23 @@
 //! The comparison can fail: whatever one side answers or writes otherwise is seen.
 
+use crate::asked::About;
 use crate::cases::{CodeCase, SidingCase, TrackCase};
 use crate::counts::{Counts, Entry};
 use crate::lent::Lent;
 use crate::model_ends::Model;
 use crate::pair::{Pair, Reply};
 use crate::questions::Question;
+use crate::reports::Report;
 use crate::state_moves::bring;
 use crate::wrong_boxes::ENOUGH;
-use crate::{all, codes, sidings, state_tracks, states, tracks, Options};
+use crate::{all, codes, reports_alone, sidings, state_tracks, states, tracks, Options};
 use boundary::Ends;
 use inputs::books::{book, book_2, book_3, X};
 use inputs::crews;
-use inputs::encoding::{put_records, state_bytes, state_of};
+use inputs::encoding::{put_records, state_bytes, state_of, POST};
 use inputs::frames::{frame, AFE, AM, FA, FE};
 use inputs::random::Random;
-use inputs::sizes::{JOURNAL_BYTES, TIME_BYTES};
+use inputs::sizes::JOURNAL_BYTES;
 use model::{Record, Standing, State, Verdict};
 use std::cell::Cell;
 
@@ -98,6 +100,11 @@ impl Ends for Altered {
         self.settle(Entry::RunningTime, result, &mut [time])
     }
 
+    fn locate(&self, book: &[u8], kind: u8, post: u8, metres: f32, place: &mut [u8]) -> u32 {
+        let result = Model.locate(book, kind, post, metres, place);
+        self.settle(Entry::Locate, result, &mut [place])
+    }
+
     fn make_unit(&self, train: u8, start: u8, end: u8, unit: &mut [u8]) -> u32 {
         let result = Model.make_unit(train, start, end, unit);
         self.settle(Entry::MakeUnit, result, &mut [unit])
@@ -118,14 +125,16 @@ impl Ends for Altered {
 const SHORT: Options = Options {
     seed: 3,
     frames: 500,
+    reports: None,
 };
 
 /// The entry points, each with the number of buffers that it may write to.
-const WRITTEN: [(Entry, usize); 7] = [
+const WRITTEN: [(Entry, usize); 8] = [
     (Entry::ReadBook, 1),
     (Entry::Open, 2),
     (Entry::Answer, 3),
     (Entry::RunningTime, 1),
+    (Entry::Locate, 1),
     (Entry::MakeUnit, 1),
     (Entry::Press, 2),
     (Entry::Hear, 1),
@@ -157,28 +166,35 @@ fn one_altered_bit_is_seen() {
     }
 }
 
-/// Of a running time that is told and of one that is refused, around the book and around the time.
+/// Of a running time and of a place that is told and of one that is refused, around the book and around the answer.
 #[test]
-fn a_byte_outside_the_buffers_of_a_running_time_is_seen() {
+fn a_byte_outside_the_buffers_of_an_answer_is_seen() {
     let random = &mut Random::new(1);
     let line = book_3(&[1, 1], 0, &[0, 1000], &[[0, 1]]);
-    let mut asked = |speed, beside: Option<(bool, bool)>| {
+    let mut asked = |about: About, beside: Option<(bool, bool)>| {
         let mut pair = Pair::new(Box::new(Model), Box::new(Model));
-        let (mut book, mut time) = (Lent::new(&line, random), Lent::random(TIME_BYTES, random));
+        let mut book = Lent::new(&line, random);
+        let mut answer = Lent::random(about.bytes(), random);
         match beside {
             Some((true, behind)) => book.write_outside(behind),
-            Some((false, behind)) => time.write_outside(behind),
+            Some((false, behind)) => answer.write_outside(behind),
             None => {}
         }
-        let (from, to) = (0, 1);
-        let question = Question { from, to, speed };
-        pair.running_time(&book, question, &mut time)
+        pair.ask(&book, about, &mut answer)
     };
-    for (speed, refusal) in [(60, 0), (0, 28)] {
+    let at = |speed| {
+        let (from, to) = (0, 1);
+        About::Time(Question { from, to, speed })
+    };
+    let post = |post| {
+        let (kind, bits) = (POST, 0);
+        About::Place(Report { kind, post, bits })
+    };
+    for (about, refusal) in [(at(60), 0), (at(0), 28), (post(1), 0), (post(2), 9)] {
         let reply = Reply { refusal, sent: 0 };
-        assert_eq!(asked(speed, None).ok(), Some(reply));
+        assert_eq!(asked(about, None).ok(), Some(reply));
         for beside in [(true, true), (true, false), (false, true), (false, false)] {
-            let seen = asked(speed, Some(beside)).unwrap_err().0;
+            let seen = asked(about, Some(beside)).unwrap_err().0;
             assert!(seen.contains("outside"), "{seen}");
         }
     }
@@ -190,6 +206,35 @@ fn the_model_agrees_with_itself() {
     assert!(all(&mut pair, &SHORT).is_ok());
 }
 
+/// Some of what a run without a frame does not reach.
+const OF_FRAMES: [&str; 25] = [
+    "answer never answered 12",
+    "answer never answered 26",
+    "read_book never answered 27",
+    "open never answered 27",
+    "running_time never answered 0",
+    "running_time never answered 28",
+    "locate never answered 0",
+    "locate never answered 29",
+    "never 6 frames sent",
+    "status of a train: Running never reached",
+    "case of sidings: a train put away never reached",
+    "case of tracks: authority to track 4 never reached",
+    "case of codes: authority by the largest code, 262,143 never reached",
+    "case of local runs: LB, several trains granted never reached",
+    "case of running times: over 8,388,607 metres never reached",
+    "case of the order of checks for them: 23 before 27 never reached",
+    "case of place reports: minus zero never reached",
+    "case of the order of checks for those: 18 before 29 never reached",
+    "case of repeats: FE again, it would be declined now never reached",
+    "case of last moves: a strange state, backwards never reached",
+    "case of the journal's count: 236 left, LB and six FE never reached",
+    "case of the journal's count: 228 in a run never reached",
+    "input: run: of a book of edition 3 never reached",
+    "input: run: over bad radio, all home never reached",
+    "input: table: all ones never reached",
+];
+
 /// Too short a run is not taken for a good one.
 #[test]
 fn what_is_never_reached_fails() {
@@ -197,29 +242,7 @@ fn what_is_never_reached_fails() {
     let no_frame = Options { frames: 0, ..SHORT };
     assert!(all(&mut pair, &no_frame).is_ok());
     let failings = pair.counts.failings();
-    for due in [
-        "answer never answered 12",
-        "answer never answered 26",
-        "read_book never answered 27",
-        "open never answered 27",
-        "running_time never answered 0",
-        "running_time never answered 28",
-        "never 6 frames sent",
-        "status of a train: Running never reached",
-        "case of sidings: a train put away never reached",
-        "case of tracks: authority to track 4 never reached",
-        "case of codes: authority by the largest code, 262,143 never reached",
-        "case of local runs: LB, several trains granted never reached",
-        "case of running times: over 8,388,607 metres never reached",
-        "case of the order of checks for them: 23 before 27 never reached",
-        "case of repeats: FE again, it would be declined now never reached",
-        "case of last moves: a strange state, backwards never reached",
-        "case of the journal's count: 236 left, LB and six FE never reached",
-        "case of the journal's count: 228 in a run never reached",
-        "input: run: of a book of edition 3 never reached",
-        "input: run: over bad radio, all home never reached",
-        "input: table: all ones never reached",
-    ] {
+    for due in OF_FRAMES {
         assert!(failings.contains(&due.to_string()), "{failings:?}");
     }
     let none_heard = Counts::new().failings();
@@ -252,6 +275,25 @@ fn counts_near_the_most_and_above_it_are_reached() {
         assert!(missing(&Counts::new().failings(), words).is_some());
         assert_eq!(missing(&pair.counts.failings(), words), None);
     }
+}
+
+/// A run of place reports alone is to reach what is due for them, and that only.
+#[test]
+fn reports_alone_reach_all_that_is_due_for_them() {
+    let mut pair = Pair::new(Box::new(Model), Box::new(Model));
+    let failings = pair.counts.failings_of_reports();
+    for due in [
+        "locate never answered 29",
+        "case of place reports: 29, infinity never reached",
+        "case of the order of checks for those: 23 before 27 never reached",
+    ] {
+        assert!(failings.contains(&due.to_string()), "{failings:?}");
+    }
+    assert!(reports_alone(&mut pair, 3, 200_000).is_ok());
+    assert_eq!(pair.counts.failings_of_reports(), Vec::<String>::new());
+    assert!(pair.counts.refusal(Entry::Locate, 28));
+    let wrong = ["locate answered 28".to_string()];
+    assert_eq!(pair.counts.failings_of_reports(), wrong);
 }
 
 /// "Refusals 10 and 11 go", and 13 is removed: a box that gives one fails, also where both sides agree.

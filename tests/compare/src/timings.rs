@@ -1,11 +1,10 @@
 //! What came of questions about running times, by the model: what was answered, and for what a question was refused.
 
-use crate::cases::{shown, Neighbours, TimeCase};
-use crate::checks::{are_right, first, positions, would_refuse, Asked, CHECKS};
+use crate::cases::{shown, Case, TimeCase};
+use crate::checks::{are_right, positions};
 use crate::openings;
 use crate::questions::Question;
 use inputs::sizes::{METRES_MOST, SPEED_MOST};
-use model::Line;
 
 /// Trains with which an opening is quick enough to be made for a case.
 const FEW_TRAINS: u8 = 2;
@@ -14,7 +13,10 @@ const FEW_TRAINS: u8 = 2;
 pub fn of_question(book: &[u8], question: Question, refusal: u8) -> Vec<TimeCase> {
     match refusal {
         0 => of_answer(book, question),
-        4 => of_other_edition(book),
+        4 => {
+            use TimeCase::{First, Later, OtherFault, Second};
+            of_other_edition(book, [First, Second, Later, OtherFault])
+        }
         9 => of_posts(book, question),
         27 => of_positions(&positions(book)),
         28 => of_speed(question.speed),
@@ -22,23 +24,16 @@ pub fn of_question(book: &[u8], question: Question, refusal: u8) -> Vec<TimeCase
     }
 }
 
-/// Of a question that was refused, where the next check would have refused it too.
-pub fn of_order(asked: Asked) -> Option<Neighbours> {
-    let first = first(asked)?;
-    let (next, _) = *CHECKS.get(first + 1)?;
-    would_refuse(next, asked).then_some(Neighbours(first))
-}
-
 fn of_answer(book: &[u8], question: Question) -> Vec<TimeCase> {
     let Question { from, to, speed } = question;
-    let (Ok((line, metres)), Ok((seconds, rest))) = (
+    let (Ok((_, metres)), Ok((seconds, rest))) = (
         model::read_book_with_positions(book),
         model::running_time(book, from, to, speed),
     ) else {
         return vec![];
     };
     let way = metres[usize::from(from)].abs_diff(metres[usize::from(to)]);
-    let opening = number_of_opening(book, &line);
+    let opening = number_of_opening(book);
     shown([
         (rest == 0, TimeCase::NoRest),
         (rest > 0, TimeCase::Rest),
@@ -56,19 +51,20 @@ fn of_answer(book: &[u8], question: Question) -> Vec<TimeCase> {
     ])
 }
 
-/// The number that a book of few trains is opened with.
-fn number_of_opening(book: &[u8], line: &Line) -> Option<u8> {
+/// The number that a right book of few trains is opened with.
+pub fn number_of_opening(book: &[u8]) -> Option<u8> {
+    let line = model::read_book(book).ok()?;
     (line.trains <= FEW_TRAINS).then(|| openings::number(book))
 }
 
-/// Of a book of another edition: it is right in its own, or 4 comes before its faults.
-fn of_other_edition(book: &[u8]) -> Vec<TimeCase> {
+/// Of a book of another edition: a right one of edition 1, of edition 2, a later one, or 4 comes before another fault.
+pub fn of_other_edition<C: Case>(book: &[u8], [first, second, later, other]: [C; 4]) -> Vec<C> {
     let read = model::read_book(book);
     shown([
-        (read.is_ok() && book[2] == 1, TimeCase::First),
-        (read.is_ok() && book[2] == 2, TimeCase::Second),
-        (read.is_err_and(|number| number != 4), TimeCase::OtherFault),
-        (book[2] > 3, TimeCase::Later),
+        (read.is_ok() && book[2] == 1, first),
+        (read.is_ok() && book[2] == 2, second),
+        (book[2] > 3, later),
+        (read.is_err_and(|number| number != 4), other),
     ])
 }
 
@@ -123,7 +119,6 @@ fn of_speed(speed: u32) -> Vec<TimeCase> {
 mod tests {
     use super::*;
     use inputs::books::{book, book_2, book_3, with_length, X};
-    use inputs::sizes::TIME_BYTES;
     use TimeCase::*;
 
     /// The cases of a question about a book.
@@ -228,24 +223,5 @@ mod tests {
         ] {
             assert_eq!(of_positions(positions), cases, "{positions:?}");
         }
-    }
-
-    #[test]
-    fn two_checks_that_would_refuse_are_told() {
-        let book = four_posts();
-        let told = |book: &[u8], to, room| {
-            let (from, speed) = (0, 161);
-            let question = Question { from, to, speed };
-            of_order(Asked {
-                book,
-                question,
-                room,
-            })
-        };
-        assert_eq!(told(&book, 4, TIME_BYTES), Some(Neighbours(11)));
-        assert_eq!(told(&book, 3, TIME_BYTES), None);
-        assert_eq!(told(&book, 4, TIME_BYTES + 1), None);
-        assert_eq!(told(&book[..9], 0, TIME_BYTES - 1), Some(Neighbours(0)));
-        assert_eq!(told(&X[..9], 0, TIME_BYTES), Some(Neighbours(1)));
     }
 }

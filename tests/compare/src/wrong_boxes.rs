@@ -1,15 +1,20 @@
 //! Boxes and units that are wrong, each the model with one fault. The comparison finds every one.
 
+use crate::asked::{About, Asked};
+use crate::checks::{first, would_refuse, Check};
 use crate::counts::Entry;
 use crate::journal_counts::Put;
-use crate::model_ends::{tell, Model, Time};
+use crate::model_ends::{located, tell, Located, Model};
 use crate::pair::Pair;
 use crate::questions::Question;
+use crate::reports::Report;
 use crate::{all, Options};
 use boundary::Ends;
-use inputs::encoding::{put_records, records_of, state_bytes, state_of, unit_bytes, unit_of};
+use inputs::encoding::{
+    place_bytes, put_records, records_of, state_bytes, state_of, time_bytes, unit_bytes, unit_of,
+};
 use inputs::frames::KIND_AT;
-use inputs::sizes::{FRAME_BYTES, JOURNAL_BYTES, RECORD_BYTES, TIME_BYTES};
+use inputs::sizes::{FRAME_BYTES, JOURNAL_BYTES, PLACE_BYTES, RECORD_BYTES, TIME_BYTES};
 use model::table::bit;
 use model::{write_frame, Message, Record, State, Unit};
 
@@ -50,6 +55,9 @@ pub struct Pressed<'a> {
     pub given: Result<Option<Message>, u8>,
 }
 
+/// Seconds and rest, or the number of the refusal.
+pub type Time = Result<(u32, u32), u8>;
+
 /// Where a wrong box or unit goes another way than the model.
 #[derive(Clone, Copy)]
 pub enum Fault {
@@ -84,6 +92,12 @@ pub enum Fault {
     Times(fn(&[u8], Question) -> Time),
     /// With the bytes lent for a running time, and the answer.
     Tells(fn(&[u8], Question, &mut [u8]) -> u32),
+    /// With the place, or the number, that answers a report.
+    Places(fn(&[u8], Report) -> Located),
+    /// With the bytes lent for a place, and the answer.
+    TellsPlace(fn(&[u8], Report, &mut [u8]) -> u32),
+    /// At this call one check comes before another that should be before it, and all between them.
+    Earlier(Entry, Check, Check),
 }
 
 struct Wrong(Fault);
@@ -145,12 +159,23 @@ impl Ends for Wrong {
     fn running_time(&self, book: &[u8], from: u8, to: u8, speed: u32, time: &mut [u8]) -> u32 {
         let question = Question { from, to, speed };
         match self.0 {
-            Fault::Times(fault) if time.len() == TIME_BYTES => tell(fault(book, question), time),
-            Fault::Tells(fault) => fault(book, question, time),
-            _ => {
-                let book = self.book_at(Entry::RunningTime, book);
-                Model.running_time(&book, from, to, speed, time)
+            Fault::Times(fault) if time.len() == TIME_BYTES => {
+                tell(fault(book, question).map(time_bytes), time)
             }
+            Fault::Tells(fault) => fault(book, question, time),
+            _ => self.ask(book, About::Time(question), time),
+        }
+    }
+
+    fn locate(&self, book: &[u8], kind: u8, post: u8, metres: f32, place: &mut [u8]) -> u32 {
+        let bits = metres.to_bits();
+        let report = Report { kind, post, bits };
+        match self.0 {
+            Fault::Places(fault) if place.len() == PLACE_BYTES => {
+                tell(fault(book, report).map(place_bytes), place)
+            }
+            Fault::TellsPlace(fault) => fault(book, report, place),
+            _ => self.ask(book, About::Place(report), place),
         }
     }
 
@@ -177,6 +202,23 @@ impl Ends for Wrong {
 }
 
 impl Wrong {
+    /// A running time or a place, but for the order of the checks and for the book that is read.
+    fn ask(&self, book: &[u8], about: About, answer: &mut [u8]) -> u32 {
+        let asked = Asked {
+            book,
+            about,
+            answer,
+        };
+        match self.0 {
+            Fault::Earlier(call, check, other)
+                if call == about.entry() && comes_earlier(check, other, asked) =>
+            {
+                check.number().into()
+            }
+            _ => about.put(&Model, &self.book_at(about.entry(), book), answer),
+        }
+    }
+
     /// The book that is read at a call.
     fn book_at(&self, call: Entry, book: &[u8]) -> Vec<u8> {
         let mut book = book.to_vec();
@@ -222,6 +264,13 @@ impl Wrong {
         put_records(&records, &mut journal[from..to]);
         state.copy_from_slice(&state_bytes(&after));
     }
+}
+
+/// A check refuses that would not have been reached, since one between another and it would have refused before it.
+fn comes_earlier(check: Check, other: Check, asked: Asked) -> bool {
+    let passed_by = other as usize..check as usize;
+    let is_passed_by = |first: Check| passed_by.contains(&(first as usize));
+    first(asked).is_some_and(is_passed_by) && would_refuse(check, asked)
 }
 
 /// Answers a frame as the model does, but for the fault. Lent are a state, a journal and an out buffer.
@@ -337,6 +386,7 @@ fn looked_up(table: &[u8], other: fn(u64) -> u64) -> Vec<u8> {
 pub const ENOUGH: Options = Options {
     seed: 3,
     frames: 200_000,
+    reports: None,
 };
 
 pub fn every_is_found(faults: &[(&str, Fault)]) {
@@ -345,6 +395,12 @@ pub fn every_is_found(faults: &[(&str, Fault)]) {
         assert!(all(&mut pair, &ENOUGH).is_err(), "not found: {name}");
         println!("{name}: after {} frames", pair.counts.frames());
     }
+}
+
+/// Within so many frames nothing is found.
+pub fn agrees(fault: Fault, frames: u64) -> bool {
+    let mut pair = Pair::new(Box::new(Wrong(fault)), Box::new(Model));
+    all(&mut pair, &Options { frames, ..ENOUGH }).is_ok()
 }
 
 /// The same wrong box on both sides.
@@ -376,11 +432,18 @@ fn a_box_without_a_fault_is_not_found() {
             Fault::Tells(|book, q, time| Model.running_time(book, q.from, q.to, q.speed, time)),
             ENOUGH.frames,
         ),
+        (Fault::Places(located), ENOUGH.frames),
+        (
+            Fault::TellsPlace(|book, report, place| About::Place(report).put(&Model, book, place)),
+            ENOUGH.frames,
+        ),
+        (
+            Fault::Earlier(Entry::Locate, Check::Kind, Check::Kind),
+            ENOUGH.frames,
+        ),
         // It makes a table for each frame.
         (Fault::LooksUp(|code| code), 5_000),
     ] {
-        let mut pair = Pair::new(Box::new(Wrong(none)), Box::new(Model));
-        let options = Options { frames, ..ENOUGH };
-        assert!(all(&mut pair, &options).is_ok());
+        assert!(agrees(none, frames));
     }
 }

@@ -135,7 +135,12 @@ fn every_is_found_at(call: Entry, faults: &[(&'static str, Reads)]) {
 
 #[test]
 fn every_box_without_edition_3_or_27_is_found() {
-    for call in [Entry::ReadBook, Entry::Open, Entry::RunningTime] {
+    for call in [
+        Entry::ReadBook,
+        Entry::Open,
+        Entry::RunningTime,
+        Entry::Locate,
+    ] {
         every_is_found_at(call, &PLAIN);
     }
 }
@@ -143,7 +148,7 @@ fn every_box_without_edition_3_or_27_is_found() {
 /// Not at the opening: there are fewer of them, since each has a table.
 #[test]
 fn every_box_that_reads_positions_wrongly_is_found() {
-    for call in [Entry::ReadBook, Entry::RunningTime] {
+    for call in [Entry::ReadBook, Entry::RunningTime, Entry::Locate] {
         every_is_found_at(call, &FINER);
     }
 }

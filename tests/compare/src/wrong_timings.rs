@@ -1,11 +1,11 @@
 //! Boxes that are wrong with running times.
 
-use crate::checks::{first, would_refuse, Asked, Check, CHECKS};
-use crate::model_ends::{tell, Model, Time};
+use crate::model_ends::{tell, Model};
 use crate::openings;
 use crate::questions::Question;
-use crate::wrong_boxes::{every_is_found, Fault};
+use crate::wrong_boxes::{every_is_found, Fault, Time};
 use boundary::Ends;
+use inputs::encoding::time_bytes;
 use inputs::sizes::{SPEED_MOST, TIME_BYTES};
 
 fn by_model(book: &[u8], q: Question) -> Time {
@@ -161,12 +161,12 @@ fn without_positions(book: &[u8], q: Question, edition: u8) -> Time {
 }
 
 /// A book that the opening refuses by this number is refused by it here too.
-fn opened(book: &[u8], q: Question, number: u8) -> Time {
-    let answer = by_model(book, q)?;
+pub fn opened<T>(book: &[u8], answer: Result<T, u8>, number: u8) -> Result<T, u8> {
+    let told = answer?;
     if openings::number(book) == number {
         Err(number)
     } else {
-        Ok(answer)
+        Ok(told)
     }
 }
 
@@ -250,84 +250,11 @@ const OF_QUESTIONS: [(&str, Fault); 17] = [
     ),
     (
         "an overfull book is refused",
-        Fault::Times(|b, q| opened(b, q, 19)),
+        Fault::Times(|b, q| opened(b, by_model(b, q), 19)),
     ),
     (
         "a book without a way through is refused",
-        Fault::Times(|b, q| opened(b, q, 20)),
-    ),
-];
-
-// ---- the order of the checks
-
-/// As the model, but one check comes before another that should be before it, and all between them.
-fn with_earlier(check: Check, other: Check, book: &[u8], question: Question) -> Time {
-    let asked = Asked {
-        book,
-        question,
-        room: TIME_BYTES,
-    };
-    let passed_by = other as usize..check as usize;
-    let comes_first = first(asked).is_some_and(|n| passed_by.contains(&n));
-    if comes_first && would_refuse(check, asked) {
-        Err(CHECKS[check as usize].1)
-    } else {
-        by_model(book, question)
-    }
-}
-
-const OF_ORDER: [(&str, Fault); 13] = [
-    (
-        "4 before 14, the length named",
-        Fault::Times(|b, q| with_earlier(Check::Edition, Check::Length, b, q)),
-    ),
-    (
-        "15 before 4",
-        Fault::Times(|b, q| with_earlier(Check::Posts, Check::Edition, b, q)),
-    ),
-    (
-        "14, an early end, before 15",
-        Fault::Times(|b, q| with_earlier(Check::Ends, Check::Posts, b, q)),
-    ),
-    (
-        "16 before 14, an early end",
-        Fault::Times(|b, q| with_earlier(Check::Tracks, Check::Ends, b, q)),
-    ),
-    (
-        "23 before 16",
-        Fault::Times(|b, q| with_earlier(Check::Sidings, Check::Tracks, b, q)),
-    ),
-    (
-        "27 before 23",
-        Fault::Times(|b, q| with_earlier(Check::Positions, Check::Sidings, b, q)),
-    ),
-    (
-        "27 after 17",
-        Fault::Times(|b, q| with_earlier(Check::Trains, Check::Positions, b, q)),
-    ),
-    (
-        "14, the total, before 17",
-        Fault::Times(|b, q| with_earlier(Check::Total, Check::Trains, b, q)),
-    ),
-    (
-        "18 before 14, the total",
-        Fault::Times(|b, q| with_earlier(Check::Routes, Check::Total, b, q)),
-    ),
-    (
-        "9 before 18",
-        Fault::Times(|b, q| with_earlier(Check::PostsAsked, Check::Routes, b, q)),
-    ),
-    (
-        "28 before 9",
-        Fault::Times(|b, q| with_earlier(Check::Speed, Check::PostsAsked, b, q)),
-    ),
-    (
-        "9 right after the book's length",
-        Fault::Times(|b, q| with_earlier(Check::PostsAsked, Check::Edition, b, q)),
-    ),
-    (
-        "28 before the book's numbers",
-        Fault::Times(|b, q| with_earlier(Check::Speed, Check::Length, b, q)),
+        Fault::Times(|b, q| opened(b, by_model(b, q), 20)),
     ),
 ];
 
@@ -383,7 +310,7 @@ const OF_BYTES: [(&str, Fault); 8] = [
     (
         "a longer buffer is taken",
         Fault::Tells(|b, q, time| match time.len() {
-            TIME_BYTES.. => tell(by_model(b, q), &mut time[..TIME_BYTES]),
+            TIME_BYTES.. => tell(by_model(b, q).map(time_bytes), &mut time[..TIME_BYTES]),
             _ => 1,
         }),
     ),
@@ -418,11 +345,6 @@ fn every_box_wrong_with_times_is_found() {
 #[test]
 fn every_box_wrong_with_questions_is_found() {
     every_is_found(&OF_QUESTIONS);
-}
-
-#[test]
-fn every_box_that_checks_a_question_in_another_order_is_found() {
-    every_is_found(&OF_ORDER);
 }
 
 #[test]

@@ -1,10 +1,10 @@
-//! States, units, lines, records and running times as the bytes of the C interface.
+//! States, units, lines, records, running times and places as the bytes of the C interface.
 
 use crate::sizes::{
-    COUNT_AT, FLEET_AT, GIVEN_AT, LINE_BYTES, RECORD_BYTES, ROUTE_BYTES, SECTIONS_AT, SIDINGS_AT,
-    STATE_BYTES, TIME_BYTES, TRACKS_AT, TRAINS_AT, TRAIN_BYTES, UNIT_BYTES,
+    COUNT_AT, FLEET_AT, GIVEN_AT, LINE_BYTES, PLACE_BYTES, RECORD_BYTES, ROUTE_BYTES, SECTIONS_AT,
+    SIDINGS_AT, STATE_BYTES, TIME_BYTES, TRACKS_AT, TRAINS_AT, TRAIN_BYTES, UNIT_BYTES,
 };
-use model::{Button, Line, Record, Standing, State, Train, Unit, UnitState};
+use model::{Button, Line, Place, Record, Report, Standing, State, Train, Unit, UnitState};
 
 /// Where the bytes of a train have what.
 pub mod train_at {
@@ -53,6 +53,16 @@ pub const AGAIN: u8 = 4;
 
 /// The lowest number that is no button.
 pub const NO_BUTTON: u8 = BUTTONS.len() as u8;
+
+/// The kinds of a place report.
+pub const MISSING: u8 = 0;
+pub const POST: u8 = 1;
+pub const METRES: u8 = 2;
+
+/// The sorts of a place.
+pub const NOTHING: u8 = 0;
+pub const AT_POST: u8 = 1;
+pub const IN_SECTION: u8 = 2;
 
 pub fn line_bytes(line: &Line) -> [u8; LINE_BYTES] {
     let mut bytes = [0; LINE_BYTES];
@@ -209,9 +219,28 @@ pub fn unit_of(bytes: &[u8]) -> Option<Unit> {
 }
 
 /// Seconds and rest, four bytes each, the high byte first.
-pub fn time_bytes(seconds: u32, rest: u32) -> [u8; TIME_BYTES] {
+pub fn time_bytes((seconds, rest): (u32, u32)) -> [u8; TIME_BYTES] {
     let time = u64::from(seconds) << 32 | u64::from(rest);
     time.to_be_bytes()
+}
+
+/// The report of a kind, which says whether the post or the metres are looked at; none above the kinds.
+pub fn report_of(kind: u8, post: u8, metres: f32) -> Option<Report> {
+    match kind {
+        MISSING => Some(Report::Missing),
+        POST => Some(Report::Post(post)),
+        METRES => Some(Report::Metres(metres)),
+        _ => None,
+    }
+}
+
+/// Sort, number and nearest post; a post is the nearest to itself.
+pub fn place_bytes(place: Place) -> [u8; PLACE_BYTES] {
+    match place {
+        Place::Nothing => [NOTHING, 0, 0],
+        Place::At(post) => [AT_POST, post, post],
+        Place::In { section, nearest } => [IN_SECTION, section, nearest],
+    }
 }
 
 #[cfg(test)]
@@ -334,8 +363,20 @@ mod tests {
 
     #[test]
     fn a_time_is_as_the_header_has_it() {
-        let time = time_bytes(0x0102_0304, 0xF102_F304);
+        let time = time_bytes((0x0102_0304, 0xF102_F304));
         assert_eq!(time, [1, 2, 3, 4, 0xF1, 2, 0xF3, 4]);
+    }
+
+    #[test]
+    fn a_report_and_a_place_are_as_the_header_has_them() {
+        assert!(matches!(report_of(0, 7, 8.0), Some(Report::Missing)));
+        assert!(matches!(report_of(1, 7, 8.0), Some(Report::Post(7))));
+        assert!(matches!(report_of(2, 7, 8.0), Some(Report::Metres(8.0))));
+        assert!(report_of(3, 7, 8.0).is_none() && report_of(255, 7, 8.0).is_none());
+        let (section, nearest) = (5, 6);
+        assert_eq!(place_bytes(Place::Nothing), [0, 0, 0]);
+        assert_eq!(place_bytes(Place::At(4)), [1, 4, 4]);
+        assert_eq!(place_bytes(Place::In { section, nearest }), [2, 5, 6]);
     }
 
     #[test]

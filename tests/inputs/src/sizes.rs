@@ -32,6 +32,9 @@ pub const UNIT_BYTES: usize = 5;
 /// Of a running time the seconds, then the rest.
 pub const TIME_BYTES: usize = 8;
 
+/// Of a place its sort, the number of the post or section, then the nearest post.
+pub const PLACE_BYTES: usize = 3;
+
 /// A post's position in metres, and a speed in km/h, at the most.
 pub const METRES_MOST: u32 = 8_388_607;
 pub const SPEED_MOST: u32 = 160;

@@ -2,7 +2,7 @@
 //!
 //! Every public function is total: it answers for any bytes, any lent slice
 //! and any numbers in a state, and never panics. A refusal is the paper's
-//! number, 28 at the most; 0 stands for "not refused" where a number is
+//! number, 29 at the most; 0 stands for "not refused" where a number is
 //! returned.
 
 #![forbid(unsafe_code)]
@@ -11,6 +11,7 @@ pub mod dispatcher;
 pub mod frame;
 pub mod journal;
 pub mod line;
+pub mod place;
 pub mod program;
 pub mod table;
 pub mod timing;
@@ -20,6 +21,7 @@ pub use dispatcher::{answer, open, sound, Standing, State, Train, Verdict, LOCAL
 pub use frame::{read_frame, write_frame, Message, Move, FRAME_BYTES, GANG};
 pub use journal::{Record, JOURNAL_RECORDS, MOST_COUNTED, RECORDS_A_FRAME};
 pub use line::{read_book, read_book_with_positions, Line, LONGEST_BOOK};
+pub use place::{place, Place, Report};
 pub use table::{fill, TABLE_BYTES};
 pub use timing::running_time;
 pub use unit::{Button, Unit, UnitState};

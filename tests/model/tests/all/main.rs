@@ -4,6 +4,7 @@ mod common;
 mod counts;
 mod examples;
 mod local_runs;
+mod place;
 mod repeats;
 mod runs;
 mod sidings;

@@ -2,12 +2,13 @@
 //! test or more for each sentence of the card.
 
 use crate::common::*;
+use crate::place::all_reports_refused;
 use crate::runs::Run;
 use crate::tally::Tally;
 use model::*;
 
 /// The highest position.
-const TOP: u32 = 8_388_607;
+pub const TOP: u32 = 8_388_607;
 
 /// The line of X with a siding at post 2. The posts lie at 0, 66,051 and 8,323,330 metres, which is
 /// 00 01 02 03 and 00 7F 01 02.
@@ -21,37 +22,40 @@ const THREE: [u8; 25] = [
 const TWO: [u8; 13] = [0, 11, 2, 3, 1, 2, 1, 4, 2, 0, 2, 2, 0];
 
 /// A book with these positions, of a line with one track a post and one train.
-fn at(positions: &[u32]) -> Vec<u8> {
+pub fn at(positions: &[u32]) -> Vec<u8> {
     book_with_positions(&vec![1; positions.len()], 0, positions, &[(0, 1)])
 }
 
 /// The positions of so many posts, ten metres apart.
-fn tens(posts: usize) -> Vec<u32> {
+pub fn tens(posts: usize) -> Vec<u32> {
     (0..10 * posts as u32).step_by(10).collect()
 }
 
 /// The same bytes with one of them altered.
-fn altered(book: &[u8], place: usize, byte: u8) -> Vec<u8> {
+pub fn altered(book: &[u8], place: usize, byte: u8) -> Vec<u8> {
     let mut bytes = book.to_vec();
     bytes[place] = byte;
     bytes
 }
 
 /// The same book cut or filled up with 0 to so many bytes, which its length names.
-fn resized(book: &[u8], length: usize) -> Vec<u8> {
+pub fn resized(book: &[u8], length: usize) -> Vec<u8> {
     let mut bytes = altered(book, 1, length as u8 - 2);
     bytes.resize(length, 0);
     bytes
 }
 
 /// The refusal of a book, 0 if none, whoever reads it. It is read before posts and speed are looked
-/// at, of which both are wrong here.
+/// at, of which both are wrong here, and before a place report.
 fn number(book: &[u8]) -> u8 {
     let number = read_book(book).err().unwrap_or(0);
     let with_positions = read_book_with_positions(book);
     assert_eq!(with_positions.err().unwrap_or(0), number, "{book:?}");
     let due = if number == 0 { 9 } else { number };
     assert_eq!(running_time(book, 0, 9, 0), Err(due), "{book:?}");
+    if number != 0 {
+        all_reports_refused(book, number);
+    }
     number
 }
 

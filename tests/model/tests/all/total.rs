@@ -1,6 +1,7 @@
 //! Any input gets an answer: garbage states, units, books, frames, stores. No answer is 13.
 
 use crate::common::*;
+use crate::place::judged;
 use model::*;
 use std::collections::HashSet;
 
@@ -657,6 +658,49 @@ fn questions_of_all_sorts() {
     }
 }
 
+/// A place report of any sort; its metres are any bits, or half metres that may be on the line.
+fn some_report(rng: &mut Rng) -> Report {
+    match rng.below(4) {
+        0 => Report::Missing,
+        1 => Report::Post(number(rng)),
+        2 => Report::Metres(f32::from_bits(rng.word() as u32)),
+        _ => {
+            let farthest = [30, 10_000, 1 << 24][rng.below(3) as usize];
+            Report::Metres(rng.below(farthest) as f32 / 2.0)
+        }
+    }
+}
+
+/// Asks for a place, and checks what came of it. Gives the refusal.
+fn ask_for_place(b: &[u8], rng: &mut Rng) -> u8 {
+    let report = some_report(rng);
+    let due = match refusal_due(b) {
+        0 => {
+            let posts: Vec<u32> = (0..b[3]).map(|post| metres_of(b, post) as u32).collect();
+            judged(&posts, report)
+        }
+        number => Err(number),
+    };
+    assert_eq!(place(b, report), due, "{b:?} {report:?}");
+    due.err().unwrap_or(0)
+}
+
+/// Random place reports: each is refused by the first check it fails.
+#[test]
+fn reports_of_all_sorts() {
+    let mut rng = Rng(0x97ACE);
+    let mut met = [0u32; 30];
+    for _ in 0..40_000 {
+        let b = some_book(&mut rng);
+        met[usize::from(ask_for_place(&b, &mut rng))] += 1;
+    }
+    for (n, times) in met.iter().enumerate() {
+        let meets = matches!(n, 0 | 4 | 9 | 14..=18 | 23 | 27 | 29);
+        assert_eq!(*times > 50, meets, "{n}: {met:?}");
+        assert!(meets || *times == 0, "{n}: {met:?}");
+    }
+}
+
 /// Noise, often with the length that a book of its bytes would have.
 #[test]
 fn noise_of_all_lengths() {
@@ -680,6 +724,7 @@ fn noise_of_all_lengths() {
         }
         let other = named && noise[2] != 3;
         assert_eq!(ask_for_time(&noise, &mut rng) == 4, other, "{noise:?}");
+        assert_eq!(ask_for_place(&noise, &mut rng) == 4, other, "{noise:?}");
         let whole = length == FRAME_BYTES && noise[..2] == [0, 5];
         assert_eq!(read_frame(&noise) == Err(3), !whole);
         assert!(program::run(&mut &noise[..]).ends_with('\n'));
