@@ -9,7 +9,7 @@ use frame::{Message, Move};
 use rules::{State, Status, Train};
 
 // What a frame is answered by as a repeat.
-#[derive(Drop)]
+#[derive(Clone, Copy)]
 pub enum Repeat {
     // It repeats none.
     Not,

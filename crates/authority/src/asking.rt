@@ -6,7 +6,7 @@ use line::TrainNo;
 use rules::{State, Status};
 
 // An Asked train, and the number of its request.
-#[derive(Drop)]
+#[derive(Clone, Copy)]
 pub enum Asker {
     Of(TrainNo, u8),
     Nobody,

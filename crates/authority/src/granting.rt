@@ -19,7 +19,7 @@ use rules::{State, Status};
 use tracks::FreeTrack;
 
 // How far the work on a frame is: the state, and the records of what was logged so far.
-#[derive(Drop)]
+#[derive(Clone, Copy)]
 pub struct Progress {
     pub state: State,
     pub batch: Batch,

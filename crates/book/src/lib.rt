@@ -1,4 +1,6 @@
 // Reading a line book.
+#![tactic(auto)]
+
 mod reading;
 
 pub use reading::{number_of, read, read_positioned};

@@ -1,4 +1,6 @@
 // The checks of a frame at the dispatcher's box: whether it is refused, and by which number.
+#![tactic(auto)]
+
 mod checks;
 
 pub use checks::{OUT_LENGTH, refusal_of};

@@ -1,5 +1,7 @@
 // A unit read from bytes and written to them, a journal, a running time and a place written. Which
 // bytes these are is said in `encoding`.
+#![tactic(auto)]
+
 mod journal_bytes;
 mod place_bytes;
 mod time_bytes;

@@ -4,7 +4,7 @@ use crate::run::Run;
 
 // Bytes of the book are awaited, the book was refused by a number, bytes of frames are awaited, or
 // the input has ended.
-#[derive(Drop)]
+#[derive(Clone, Copy)]
 pub enum Phase {
     Book,
     Refused(u8),
@@ -12,7 +12,7 @@ pub enum Phase {
     Ended,
 }
 
-#[derive(Drop)]
+#[derive(Clone, Copy)]
 pub struct Console {
     pub phase: Phase,
     pub piece: Piece,

@@ -3,7 +3,7 @@
 use line::LONGEST_BOOK;
 
 // The first `length` bytes have come.
-#[derive(Drop)]
+#[derive(Clone, Copy)]
 pub struct Piece {
     pub bytes: [u8; LONGEST_BOOK],
     pub length: usize,

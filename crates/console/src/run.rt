@@ -3,7 +3,7 @@ use journal::Log;
 use rules::State;
 
 // `refused` counts the refused frames.
-#[derive(Drop)]
+#[derive(Clone, Copy)]
 pub struct Run {
     pub state: State,
     pub log: Log,

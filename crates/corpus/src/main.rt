@@ -1,5 +1,7 @@
 // Runs the box over every stored input that its arguments name, and prints each run under the
 // input's name. What it must print comes from the independent model.
+#![tactic(auto)]
+
 use libc::STDOUT_FILENO;
 
 fn run_file(i: usize) {

@@ -1,4 +1,6 @@
 // A state read from bytes. Which bytes these are is said in `encoding`.
+#![tactic(auto)]
+
 mod encodes;
 mod state_bytes;
 

@@ -5,7 +5,7 @@ ghost use Rattle.descriptor.specs.Reading.{Takes, Ends};
 use console::Console;
 
 // The console after a read, and whether another is to be made.
-#[derive(Drop)]
+#[derive(Clone, Copy)]
 struct Turn {
     pub console: Console,
     pub more: bool,

@@ -24,7 +24,7 @@ pub fn answer(
 }
 
 // A reply, and the journal afterwards.
-#[derive(Drop)]
+#[derive(Clone, Copy)]
 pub struct Logged {
     pub reply: Reply,
     pub log: Log,

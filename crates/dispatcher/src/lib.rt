@@ -1,4 +1,6 @@
 // The dispatcher's box: the answer to a frame.
+#![tactic(auto)]
+
 mod answering;
 mod sending;
 mod stepping;

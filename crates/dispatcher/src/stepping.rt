@@ -13,7 +13,7 @@ use journal::Batch;
 use rules::{Reply, State, Verdict};
 
 // The reply, and the records to be written from place `at` on.
-#[derive(Drop)]
+#[derive(Clone, Copy)]
 pub struct Outcome {
     pub reply: Reply,
     pub at: usize,

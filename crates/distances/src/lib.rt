@@ -1,2 +1,3 @@
 // Examples with positions and running times. There is no code here: specs/ has the statements and
 // proofs/ evaluates them.
+#![tactic(auto)]

@@ -3,7 +3,7 @@ use crate::state::Unit;
 use frame::FRAME_LENGTH;
 
 // The unit that was made, and 0; or the empty unit, which is not valid, and 18.
-#[derive(Drop)]
+#[derive(Clone, Copy)]
 pub struct Made {
     pub unit: Unit,
     pub refusal: u8,
@@ -11,7 +11,7 @@ pub struct Made {
 
 // The unit afterwards; the number of the refusal, or 0; whether a frame is to be sent, and its
 // bytes, which are all 0 where none is.
-#[derive(Drop)]
+#[derive(Clone, Copy)]
 pub struct Pressed {
     pub unit: Unit,
     pub refusal: u8,
@@ -20,7 +20,7 @@ pub struct Pressed {
 }
 
 // The unit afterwards, and the number of the refusal, or 0.
-#[derive(Drop)]
+#[derive(Clone, Copy)]
 pub struct Heard {
     pub unit: Unit,
     pub refusal: u8,

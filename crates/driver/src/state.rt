@@ -2,7 +2,7 @@
 use line::{PostNo, Route, TrainNo};
 
 // Where the unit is in the course of one move.
-#[derive(Drop)]
+#[derive(Clone, Copy)]
 pub enum Phase {
     // At a post, with nothing asked.
     Standing,
@@ -19,7 +19,7 @@ pub enum Phase {
 }
 
 // What the driver can press.
-#[derive(Drop)]
+#[derive(Clone, Copy)]
 pub enum Button {
     Ask,
     Depart,
@@ -30,7 +30,7 @@ pub enum Button {
 }
 
 // `at` is the present post: it moves with the report of an arrival, not with the arrival.
-#[derive(Drop)]
+#[derive(Clone, Copy)]
 pub struct Unit {
     pub train: TrainNo,
     pub route: Route,

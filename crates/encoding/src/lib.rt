@@ -1,6 +1,8 @@
 // Which bytes stand for a unit, a line, a state, a journal, a running time and a place. The places of a
 // line and of a state are numbered here; specs/ has the definitions that the contracts of `placing`,
 // `decoding`, `storing` and `codec` cite, and the claims over them.
+#![tactic(auto)]
+
 mod places;
 
 pub use places::{

@@ -1,5 +1,7 @@
 // The state, read and changed: the record of one train, its next move, and the sections in gangs'
 // hands. Inner parts of the dispatcher, whose callers meet what they ask.
+#![tactic(auto)]
+
 mod fleet;
 mod possession;
 mod train;

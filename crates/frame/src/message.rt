@@ -2,7 +2,7 @@
 use line::{PostNo, TrainNo};
 
 // One train's move from a post to the next; of a gang's message, the two posts of its section.
-#[derive(Drop)]
+#[derive(Clone, Copy)]
 pub struct Move {
     pub train: TrainNo,
     pub from: PostNo,
@@ -10,7 +10,7 @@ pub struct Move {
 }
 
 // 01: "A frame reads as one of four messages or as a refusal." 02, card 4, has three more.
-#[derive(Drop)]
+#[derive(Clone, Copy)]
 pub enum Message {
     // Fahranfrage: the driver asks for a move.
     Fa(Move),

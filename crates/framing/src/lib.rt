@@ -1,5 +1,7 @@
 // The code of frames: seven bytes read as a message, written, and placed in a buffer. What it is to
 // do is in `frame`.
+#![tactic(auto)]
+
 mod reading;
 mod writing;
 

@@ -13,7 +13,7 @@ use rules::State;
 use tracks::with_track;
 
 // The set of each post, the set of each section, and the tracks of each post.
-#[derive(Drop)]
+#[derive(Clone, Copy)]
 pub struct Holders {
     pub posts: [u8; 8],
     pub sections: [u8; 8],

@@ -8,7 +8,7 @@ pub const MOST_SENT: usize = 6;
 pub const BATCH_LENGTH: usize = 1 + MOST_SENT;
 
 // The first n items are records to be written.
-#[derive(Drop)]
+#[derive(Clone, Copy)]
 pub struct Batch {
     pub items: [Record; BATCH_LENGTH],
     pub n: usize,

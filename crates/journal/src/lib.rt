@@ -1,6 +1,8 @@
 // The journal: its records, and the batch of records that one frame adds. 01: "An accepted frame is
 // logged, then each answer in order of sending." The types are declared here; the code is in
 // `logging`.
+#![tactic(auto)]
+
 mod batch;
 mod log;
 mod record;

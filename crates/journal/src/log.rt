@@ -2,7 +2,7 @@
 use crate::JOURNAL_LENGTH;
 use crate::record::Record;
 
-#[derive(Drop)]
+#[derive(Clone, Copy)]
 pub struct Log {
     pub records: [Record; JOURNAL_LENGTH],
 }

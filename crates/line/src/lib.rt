@@ -1,5 +1,7 @@
 // The line: the sorts of numbers, the routes of its trains, what a book says of it, and the
 // numbers by which anything is refused.
+#![tactic(auto)]
+
 mod line;
 pub mod refusal;
 mod route;

@@ -3,7 +3,7 @@ use crate::route::Route;
 
 // The posts with the number of tracks at each and the set of those with a siding, and the trains
 // with their routes. Places for posts from `posts` on and trains from `trains` on are 0.
-#[derive(Drop)]
+#[derive(Clone, Copy)]
 pub struct Line {
     pub posts: u8,
     pub tracks: [u8; 8],
@@ -17,7 +17,7 @@ pub struct Line {
 pub const LONGEST_BOOK: usize = 5 + 8 + 1 + 4 * 8 + 2 * 6;
 
 // Whether a book is read, or the number of its refusal.
-#[derive(Drop)]
+#[derive(Clone, Copy)]
 pub enum Outcome {
     Read,
     Refused(u8),
@@ -25,7 +25,7 @@ pub enum Outcome {
 
 // The line, and beside it the position of each post in metres; 0 for posts from `posts` on and where
 // the edition has no positions. Of a refused book all is 0.
-#[derive(Drop)]
+#[derive(Clone, Copy)]
 pub struct Reading {
     pub outcome: Outcome,
     pub line: Line,

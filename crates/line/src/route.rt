@@ -4,7 +4,7 @@ ghost use Rattle.line.specs.Route.{next_post, section_of, distance, between};
 
 use crate::sorts::{PostNo, SectionNo};
 
-#[derive(Drop)]
+#[derive(Clone, Copy)]
 pub struct Route {
     pub start: PostNo,
     pub end: PostNo,

@@ -1,5 +1,7 @@
 // The journal's code: the record of a message, the batch of records that one frame adds, and thin
 // functions over the lent run of records. What they are to do is in `journal`.
+#![tactic(auto)]
+
 mod batch;
 mod log;
 mod record;

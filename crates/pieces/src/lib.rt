@@ -1,5 +1,7 @@
 // The pieces of the input, a book and frames: as far as one has come, the book opened and the frame
 // answered.
+#![tactic(auto)]
+
 mod answering;
 mod book;
 mod piece;

@@ -5,7 +5,7 @@ ghost use Rattle.place.specs.Locating.{place_refusal};
 use line::{PostNo, SectionNo};
 
 // 02, card 8: "a place report is a post number, a number of metres, or missing".
-#[derive(Drop)]
+#[derive(Clone, Copy)]
 pub enum Report {
     Post(PostNo),
     Metres(f32),
@@ -14,7 +14,7 @@ pub enum Report {
 
 // At a post, which is the nearest too; in a section, with the nearest post; nowhere; or the number of
 // the refusal.
-#[derive(Drop)]
+#[derive(Clone, Copy)]
 pub enum Place {
     At(PostNo),
     In(SectionNo, PostNo),

@@ -1,2 +1,3 @@
 // Examples of place reports. There is no code here: specs/ has the statements and proofs/ evaluates
 // them.
+#![tactic(auto)]

@@ -1,4 +1,6 @@
 // Bytes put into a lent buffer: the head that a line and a state begin with, and a line.
+#![tactic(auto)]
+
 mod head_bytes;
 mod line_bytes;
 mod placing;

@@ -1,4 +1,6 @@
 // What the desk prints, as bytes: the lines of a run, or the line of a refused book.
+#![tactic(auto)]
+
 mod lines;
 mod printing;
 mod text;

@@ -12,7 +12,7 @@ const END_LINE_LENGTH: usize = 29;
 pub const TEXT_LENGTH: usize = 255 * RECORD_LINE_LENGTH + END_LINE_LENGTH;
 
 // The first `length` bytes are the text.
-#[derive(Drop)]
+#[derive(Clone, Copy)]
 pub struct Text {
     pub bytes: [u8; TEXT_LENGTH],
     pub length: usize,

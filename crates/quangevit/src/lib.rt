@@ -2,6 +2,8 @@
 // buffers that the caller lends, and the version. The header quangevit.h has the layouts. Each entry
 // point of an end reads its bytes, calls the entry point of the crate below and writes the bytes of
 // what comes back.
+#![tactic(auto)]
+
 mod cab;
 mod office;
 mod planning;

@@ -3,7 +3,7 @@ use line::{PostNo, Route, TrackNo};
 
 // 01: "Each train's record carries its standing: Free, Asked or Running." An asked train carries
 // the journal number of its request, and one that is Running the track at the post it runs to.
-#[derive(Drop)]
+#[derive(Clone, Copy)]
 pub enum Status {
     Free,
     Asked(u8),
@@ -11,14 +11,14 @@ pub enum Status {
 }
 
 // 02, card 6: "The state keeps each train's last finished move, or none": its from and to post.
-#[derive(Drop)]
+#[derive(Clone, Copy)]
 pub enum Last {
     Nothing,
     Done(PostNo, PostNo),
 }
 
 // `track` is that at its present post, 0 where the train is stabled.
-#[derive(Drop)]
+#[derive(Clone, Copy)]
 pub struct Train {
     pub route: Route,
     pub at: PostNo,
@@ -31,7 +31,7 @@ pub struct Train {
 // it, and `given` counts the local runs since the opening. Places for posts from `posts` on, trains
 // from `trains` on and sections from `posts` - 1 on are not read. `logged` counts the records of the
 // journal.
-#[derive(Drop)]
+#[derive(Clone, Copy)]
 pub struct State {
     pub posts: u8,
     pub tracks: [u8; 8],

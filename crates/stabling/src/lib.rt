@@ -1,1 +1,2 @@
 // Examples with sidings. There is no code here: specs/ has the statements and proofs/ evaluates them.
+#![tactic(auto)]

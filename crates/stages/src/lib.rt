@@ -1,4 +1,6 @@
 // The stages in which a book is read.
+#![tactic(auto)]
+
 mod positions;
 mod reading;
 mod stage;

@@ -10,7 +10,7 @@ use line::{Outcome, PostNo};
 
 // The rest is in eighteenths of a metre, 5 x v of which are run in a second. Of a question that is
 // refused both are 0.
-#[derive(Drop)]
+#[derive(Clone, Copy)]
 pub struct Time {
     pub refusal: u8,
     pub seconds: u32,

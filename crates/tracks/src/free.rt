@@ -8,7 +8,7 @@ ghost use Rattle.tracks.specs.Answers.{track_number, NamesTrack, with_track};
 use line::{Route, TrackNo};
 
 // 02, card 2: "The test for a free track now returns which one."
-#[derive(Drop)]
+#[derive(Clone, Copy)]
 pub enum FreeTrack {
     At(TrackNo),
     Nothing,

@@ -1,4 +1,6 @@
 // The tracks of a post: which of them a train gets.
+#![tactic(auto)]
+
 mod free;
 
 pub use free::{FreeTrack, free_track, with_track};

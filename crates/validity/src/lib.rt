@@ -1,4 +1,6 @@
 // Whether a state is valid. An inner part of the dispatcher.
+#![tactic(auto)]
+
 mod validity;
 
 pub use validity::{MOST_GIVEN, valid};
