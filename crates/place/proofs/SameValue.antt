@@ -45,7 +45,7 @@ module _ (x y : Float) (same : num x * den y ≡ num y * den x) where
       ∙ rw (same, beside m)
       (sym (distance_times (num y) (m * den y) (den x)))
 
-  module _ (n : ℕ) (ps : List ℕ) (s : Surveyed n ps) (from_zero : from_zero y ≡ true) where
+  module _ (n : ℕ) (ps : List ℕ) (s : Surveyed n ps) (not_below : from_zero y ≡ true) where
     same_nearest : (q : ℕ) → Nearest n ps x q → Nearest n ps y q
     same_nearest q h = record {
       on_line = h.on_line;
@@ -60,15 +60,15 @@ module _ (x y : Float) (same : num x * den y ≡ num y * den x) where
     past_last : (m : ℕ) → from_zero x ≡ true → within_line m x ≡ false → within_line m y ≡ false
     past_last m z h =
         let past : leb (num x) (m * den x) ≡ false = rw z at h in
-        rw (from_zero, lt-leb (num y) (m * den y) (same_after m (leb-false _ _ past)))
+        rw (not_below, lt-leb (num y) (m * den y) (same_after m (leb-false _ _ past)))
 
     by_told : (a : Place) → Told n ps x a → from_zero x ≡ true → a ≡ on_survey n ps (Metres y)
     by_told _ (at_one p h own) z =
-        told_at n ps y s p h (record { number = from_zero; equal = same_equal _ own.equal })
+        told_at n ps y s p h (record { number = not_below; equal = same_equal _ own.equal })
     by_told _ (in_one i h b) z =
         told_in n ps y s i _ h
         (record {
-          from_zero = from_zero;
+          from_zero = not_below;
           after = same_after _ b.after;
           before = same_before _ b.before;
         })

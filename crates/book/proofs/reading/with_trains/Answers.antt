@@ -11,41 +11,41 @@ use Rattle.book.proofs.reading.with_trains.Goals as goal
 
 pub returns-in_default : goal.returns-in_default
 returns-in_default c =
-    c.refused.ensures ∙ trains_refused _ c.read_trains-number.ensures c.enum_told-1.given.1
+    c.refused.ensures ∙ trains_refused _ c.read_trains-number.ensures c.in_default.is
 
 pub read_routes-routes-requires : goal.read_routes-routes-requires
 read_routes-routes-requires c =
     let bookAt : List ℕ = c.args.book.now in
     let place : c.trains_at-at.result ≡ trains_in bookAt = trains_place c.requires _ c.trains_at-at.ensures in
-    let trains : TrainsRead bookAt c.trains_at_lem.result c.number-1.given.0.0 = let number = c.read_trains-number.ensures in
-    trains_read _ number c.number-1.given.1 _ place in
+    let trains : TrainsRead bookAt c.trains_at-at.result c.in-Passed.trains = let number = c.read_trains-number.ensures in
+    trains_read _ number c.in-Passed.is _ place in
     let r = trains in (r.few, omega arith)
 
 pub check_routes-ends-requires : goal.check_routes-ends-requires
 check_routes-ends-requires c =
     let bookAt : List ℕ = c.args.book.now in
     let place : c.trains_at-at.result ≡ trains_in bookAt = trains_place c.requires _ c.trains_at-at.ensures in
-    let trains : TrainsRead bookAt c.trains_at_lem.result c.number-1.given.0.0 = let number = c.read_trains-number.ensures in
-    trains_read _ number c.number-1.given.1 _ place in
+    let trains : TrainsRead bookAt c.trains_at-at.result c.in-Passed.trains = let number = c.read_trains-number.ensures in
+    trains_read _ number c.in-Passed.is _ place in
     trains.few
 
 pub returns-in_default-ends : goal.returns-in_default-ends
 returns-in_default-ends c =
     let bookAt : List ℕ = c.args.book.now in
     let place : c.trains_at-at.result ≡ trains_in bookAt = trains_place c.requires _ c.trains_at-at.ensures in
-    let trains : TrainsRead bookAt c.trains_at_lem.result c.number-1.given.0.0 = let number = c.read_trains-number.ensures in
-    trains_read _ number c.number-1.given.1 _ place in
+    let trains : TrainsRead bookAt c.trains_at-at.result c.in-Passed.trains = let number = c.read_trains-number.ensures in
+    trains_read _ number c.in-Passed.is _ place in
     let ends = c.check_routes-ends.ensures in
     c.refused-in_default-ends.ensures
     ∙ routes_refused _ c.requires trains _ refl refl refl refl
-    c.read_routes-routes.ensures ends c.enum_told-in_default-ends-1.given.1
+    c.read_routes-routes.ensures ends c.in_default-ends.is
 
 pub returns : goal.returns
 returns c =
     let bookAt : List ℕ = c.args.book.now in
     let place : c.trains_at-at.result ≡ trains_in bookAt = trains_place c.requires _ c.trains_at-at.ensures in
-    let trains : TrainsRead bookAt c.trains_at_lem.result c.number-1.given.0.0 = let number = c.read_trains-number.ensures in
-    trains_read _ number c.number-1.given.1 _ place in
+    let trains : TrainsRead bookAt c.trains_at-at.result c.in-Passed.trains = let number = c.read_trains-number.ensures in
+    trains_read _ number c.in-Passed.is _ place in
     let ends = c.check_routes-ends.ensures in
     routes_read _ c.requires trains _ refl refl refl refl
-    c.read_routes-routes.ensures ends c.enum_told-in-Passed-ends-1.given.1
+    c.read_routes-routes.ensures ends c.in-Passed-ends.is

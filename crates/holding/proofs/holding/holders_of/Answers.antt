@@ -20,47 +20,46 @@ overflow_mul-bit c =
 
 pub loop-t-preserved-then-is_running : goal.loop-t-preserved-then-is_running
 loop-t-preserved-then-is_running c =
-    let given : State = turn.before.before.args.state in
-    let own-bit : turn.loop.bit ≡ 2 ^ turn.loop.t = turn.loop.inv.1 in
-    let train : Train = train_of given turn.loop.t in
-    let placed : PlacedAt train = turn.before.before.pre.1 turn.loop.t (omega arith) in
-    let own : tie.After-struct-known2 invariant-loop decreases-loop = runs.before.before in
-    let o = own in (
+    let given : State = c.args.state in
+    let own-bit : c.loop-t.bit ≡ 2 ^ c.loop-t.t = c.loop-t.invariant.1 in
+    let train : Train = train_of given c.loop-t.t in
+    let placed : PlacedAt train = c.requires.1 c.loop-t.t (omega arith) in
+    (
       omega arith,
-      bit_more _ _ (own-bit o),
-      sets_running (given o) (turn o).loop.t _ (own-bit o) (turn o).loop.posts (turn o).loop.sections
-          (turn o).loop.tracks (turn o).loop.inv.2 (placed o)
-          (sym c.before.is-running.ensures ∙ c.if2.true) _ _ _
+      bit_more _ _ own-bit,
+      sets_running given c.loop-t.t _ own-bit c.loop-t.posts c.loop-t.sections
+          c.loop-t.tracks c.loop-t.invariant.2 placed
+          (sym c.is_running.ensures ∙ c.if-is_running.true) _ _ _
           c.next_post-next.ensures c.section-i.ensures
           c.track_ahead.ensures _ _ c.with_track.ensures c.with_track-then-is_running.ensures,
     )
 
 pub loop-t-preserved-then-not-stabled : goal.loop-t-preserved-then-not-stabled
 loop-t-preserved-then-not-stabled c =
-    let given : State = turn.before.before.args.state in
-    let own-bit : turn.loop.bit ≡ 2 ^ turn.loop.t = turn.loop.inv.1 in
-    let train : Train = train_of given turn.loop.t in
-    let placed : PlacedAt train = turn.before.before.pre.1 turn.loop.t (omega arith) in
-    let idle : is_running (train stands).status ≡ false = sym c.is_running.ensures ∙ c.if-is_running.false in
+    let given : State = c.args.state in
+    let own-bit : c.loop-t.bit ≡ 2 ^ c.loop-t.t = c.loop-t.invariant.1 in
+    let train : Train = train_of given c.loop-t.t in
+    let placed : PlacedAt train = c.requires.1 c.loop-t.t (omega arith) in
+    let idle : is_running train.status ≡ false = sym c.is_running.ensures ∙ c.if-is_running.false in
     (
       omega arith,
       bit_more _ _ own-bit,
-      sets_standing given c.loop.t _ own-bit c.loop.posts c.loop.sections
-          c.loop.tracks c.loop.inv.2 placed idle
+      sets_standing given c.loop-t.t _ own-bit c.loop-t.posts c.loop-t.sections
+          c.loop-t.tracks c.loop-t.invariant.2 placed idle
           (sym c.stabled.ensures ∙ c.if-not-stabled.true) _ c.with_track-then-not-stabled.ensures,
     )
 
 pub loop-t-preserved : goal.loop-t-preserved
 loop-t-preserved c =
-    let given : State = turn.before.before.args.state in
-    let own-bit : turn.loop.bit ≡ 2 ^ turn.loop.t = turn.loop.inv.1 in
-    let train : Train = train_of given turn.loop.t in
-    let placed : PlacedAt train = turn.before.before.pre.1 turn.loop.t (omega arith) in
-    let idle : is_running (train stands).status ≡ false = sym c.is_running.ensures ∙ c.if-is_running.false in
+    let given : State = c.args.state in
+    let own-bit : c.loop-t.bit ≡ 2 ^ c.loop-t.t = c.loop-t.invariant.1 in
+    let train : Train = train_of given c.loop-t.t in
+    let placed : PlacedAt train = c.requires.1 c.loop-t.t (omega arith) in
+    let idle : is_running train.status ≡ false = sym c.is_running.ensures ∙ c.if-is_running.false in
     (
       omega arith,
       bit_more _ _ own-bit,
-      sets_stabled given c.loop.t _ own-bit c.loop.posts c.loop.sections
-          c.loop.tracks c.loop.inv.2 placed idle
+      sets_stabled given c.loop-t.t _ own-bit c.loop-t.posts c.loop-t.sections
+          c.loop-t.tracks c.loop-t.invariant.2 placed idle
           (sym c.stabled.ensures ∙ c.if-not-stabled.false),
     )

@@ -14,11 +14,11 @@ use Rattle.starting.proofs.StartTracks.{start_found, held_more}
 use Rattle.starting.proofs.starting.start_tracks.Goals as goal
 
 pub loop-t-init : goal.loop-t-init
-loop-t-init c = (omega arith, padded_none 6 (opened_track c.args.t1) 0, held_none c.args.t1)
+loop-t-init c = (omega arith, padded_none 6 (opened_track c.args.line) 0, held_none c.args.line)
 
 pub bounds-line-t : goal.bounds-line-t
 bounds-line-t c =
-    let line : Line = c.args.t1 in
+    let line : Line = c.args.line in
     let formed : well_formed line ≡ true = c.requires in
     let t : ℕ = c.loop-t.t in
     let known : t < line.trains = c.loop-t-test.true in
@@ -27,25 +27,25 @@ bounds-line-t c =
 
 pub bounds-held-p : goal.bounds-held-p
 bounds-held-p c =
-    let line : Line = c.args.t1 in
+    let line : Line = c.args.line in
     let t : ℕ = c.loop-t.t in
     let formed : well_formed line ≡ true = c.requires in
     let known : t < line.trains = c.loop-t-test.true in
-    let post : (route_of (line turn) (t turn)).start.0 < 8 = post_few (line turn) (formed turn) (t turn) (known turn) in
+    let post : (route_of line t).start.0 < 8 = post_few line formed t known in
     omega (arith, post)
 
 pub bounds-line-p : goal.bounds-line-p
 bounds-line-p c =
-    let line : Line = c.args.t1 in
+    let line : Line = c.args.line in
     let t : ℕ = c.loop-t.t in
     let formed : well_formed line ≡ true = c.requires in
     let known : t < line.trains = c.loop-t-test.true in
-    let post : (route_of (line turn) (t turn)).start.0 < 8 = post_few (line turn) (formed turn) (t turn) (known turn) in
+    let post : (route_of line t).start.0 < 8 = post_few line formed t known in
     post
 
 pub start_track-track-requires : goal.start_track-track-requires
 start_track-track-requires c =
-    let line : Line = c.args.t1 in
+    let line : Line = c.args.line in
     let t : ℕ = c.loop-t.t in
     let formed : well_formed line ≡ true = c.requires in
     let known : t < line.trains = c.loop-t-test.true in
@@ -53,7 +53,7 @@ start_track-track-requires c =
 
 pub bounds-starts-t : goal.bounds-starts-t
 bounds-starts-t c =
-    let line : Line = c.args.t1 in
+    let line : Line = c.args.line in
     let formed : well_formed line ≡ true = c.requires in
     let t : ℕ = c.loop-t.t in
     let known : t < line.trains = c.loop-t-test.true in
@@ -62,40 +62,39 @@ bounds-starts-t c =
 
 pub bounds-held-p-in-loop-t : goal.bounds-held-p-in-loop-t
 bounds-held-p-in-loop-t c =
-    let line : Line = c.args.t1 in
+    let line : Line = c.args.line in
     let t : ℕ = c.loop-t.t in
     let formed : well_formed line ≡ true = c.requires in
     let known : t < line.trains = c.loop-t-test.true in
-    let post : (route_of (line turn) (t turn)).start.0 < 8 = post_few (line turn) (formed turn) (t turn) (known turn) in
+    let post : (route_of line t).start.0 < 8 = post_few line formed t known in
     omega (arith, post)
 
 pub bounds-held-p-in-loop-t-2 : goal.bounds-held-p-in-loop-t-2
 bounds-held-p-in-loop-t-2 c =
-    let line : Line = c.args.t1 in
+    let line : Line = c.args.line in
     let t : ℕ = c.loop-t.t in
     let formed : well_formed line ≡ true = c.requires in
     let known : t < line.trains = c.loop-t-test.true in
-    let post : (route_of (line turn) (t turn)).start.0 < 8 = post_few (line turn) (formed turn) (t turn) (known turn) in
+    let post : (route_of line t).start.0 < 8 = post_few line formed t known in
     omega (arith, post)
 
 pub loop-t-preserved : goal.loop-t-preserved
 loop-t-preserved c =
-    let line : Line = c.args.t1 in
+    let line : Line = c.args.line in
     let t : ℕ = c.loop-t.t in
     let formed : well_formed line ≡ true = c.requires in
     let known : t < line.trains = c.loop-t-test.true in
     let few : t < 6 = let w = well_formed_lem line formed in omega (arith, known) in
-    let a = c.before in
-    let is = start_found line formed t known a.loop.held a.loop.inv.2 _
+    let is = start_found line formed t known c.loop-t.held c.loop-t.invariant.2 _
     c.start_track-track.ensures in (
       omega (arith, known),
-      rw (a.loop.inv.1, is) (padded_more 6 (opened_track line) 0 t few),
+      rw (c.loop-t.invariant.1, is) (padded_more 6 (opened_track line) 0 t few),
       rw (c.with_track.ensures, is)
-          (held_more line formed t known a.loop.held a.loop.inv.2),
+          (held_more line formed t known c.loop-t.held c.loop-t.invariant.2),
     )
 
 pub returns : goal.returns
 returns c =
-    let l = c.args.t1 in
+    let l = c.args.line in
     let all : c.loop-t.t ≡ l.trains = omega arith in
     (rw all at c.loop-t.invariant.1) ∙ six_tracks l
