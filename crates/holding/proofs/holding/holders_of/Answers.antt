@@ -23,8 +23,7 @@ loop-t-preserved-then-is_running c =
     let given : State = c.args.state in
     let own-bit : c.loop-t.bit ≡ 2 ^ c.loop-t.t = c.loop-t.invariant.1 in
     let train : Train = train_of given c.loop-t.t in
-    let placed : PlacedAt train = c.requires.1 c.loop-t.t (omega arith) in
-    (
+    let placed : PlacedAt train = c.requires.1 c.loop-t.t (omega arith) in (
       omega arith,
       bit_more _ _ own-bit,
       sets_running given c.loop-t.t _ own-bit c.loop-t.posts c.loop-t.sections
@@ -40,8 +39,7 @@ loop-t-preserved-then-not-stabled c =
     let own-bit : c.loop-t.bit ≡ 2 ^ c.loop-t.t = c.loop-t.invariant.1 in
     let train : Train = train_of given c.loop-t.t in
     let placed : PlacedAt train = c.requires.1 c.loop-t.t (omega arith) in
-    let idle : is_running train.status ≡ false = sym c.is_running.ensures ∙ c.if-is_running.false in
-    (
+    let idle : is_running train.status ≡ false = sym c.is_running.ensures ∙ c.if-is_running.false in (
       omega arith,
       bit_more _ _ own-bit,
       sets_standing given c.loop-t.t _ own-bit c.loop-t.posts c.loop-t.sections
@@ -55,8 +53,7 @@ loop-t-preserved c =
     let own-bit : c.loop-t.bit ≡ 2 ^ c.loop-t.t = c.loop-t.invariant.1 in
     let train : Train = train_of given c.loop-t.t in
     let placed : PlacedAt train = c.requires.1 c.loop-t.t (omega arith) in
-    let idle : is_running train.status ≡ false = sym c.is_running.ensures ∙ c.if-is_running.false in
-    (
+    let idle : is_running train.status ≡ false = sym c.is_running.ensures ∙ c.if-is_running.false in (
       omega arith,
       bit_more _ _ own-bit,
       sets_stabled given c.loop-t.t _ own-bit c.loop-t.posts c.loop-t.sections

@@ -26,11 +26,10 @@ is_at-requires c =
     let n : ℕ = c.args.posts in
     let ps : List ℕ = c.args.positions in
     let p : ℕ = c.reached-p.result in
-    let on_line : p < n = post_on_line n ps x c.requires.0 c.requires.1 p c.reached-p.ensures in
-    (
-  number_from_zero _ _ x c.requires.0 c.requires.1,
-  bounded _ _ c.requires.0.ordered _ on_line,
-)
+    let on_line : p < n = post_on_line n ps x c.requires.0 c.requires.1 p c.reached-p.ensures in (
+      number_from_zero _ _ x c.requires.0 c.requires.1,
+      bounded _ _ c.requires.0.ordered _ on_line,
+    )
 
 pub bounds-positions-i-2 : goal.bounds-positions-i-2
 bounds-positions-i-2 c =

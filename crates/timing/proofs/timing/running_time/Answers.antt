@@ -76,8 +76,7 @@ timed-requires c =
     let positions : List ℕ = c.read_positioned-reading.result.positions in
     let is_read : read_positioned c.args.book.now ≡ accepted_book line positions = read_as last_edition _ c.read_positioned-reading.result c.read_positioned-reading.ensures c.in-Read.is in
     let departs : c.args.«from».0 < line.posts = c.if-line-from.false in
-    let arrives : c.args.to.0 < line.posts = c.if-line-to.false in
-    (
+    let arrives : c.args.to.0 < line.posts = c.if-line-to.false in (
       rw c.apart.ensures (few_metres _ line positions is_read _ _ departs arrives),
       c.if-speed-lt1.false,
       c.if-speed-gt-MOST_SPEED.false,

@@ -15,7 +15,7 @@ returns-then-same_number c =
     let below : number_below c.status_of-status.result c.args.state.logged ≡ true = sym c.number_below.ensures ∙ c.if-not-number_below.false in
     let status : Status = c.status_of-status.result in
     let tested : not (same_number status (train_of c.args.state
-    c.loop-u.u).status) ≡ not c.same_number.result = ap (λ (w : Status). not (same_number status w)) (sym c.status_of-status.ensures)
+    c.loop-u.u).status) ≡ not c.same_number.result = ap (λ (w : Status). not (same_number status w)) (sym c.status_of.ensures)
     ∙ ap not (sym c.same_number.ensures) in
     let a = c.args in
     number_decides a.state a.t.0 _ c.status_of-status.ensures below _

@@ -3,6 +3,7 @@ use mathlib.Core.Path.{sym, ◌∙◌}
 use Prim.Native.Nat.{◌-◌}
 use native.Mathlib.Omega.{arith}
 use Rattle.common.proofs.Below.{passing_fails, passing_all}
+use Rattle.rules.specs.Valid.{number_valid}
 use Rattle.validity.proofs.validity.numbers_valid.Goals as goal
 
 pub returns-then-not-number_valid : goal.returns-then-not-number_valid
