@@ -121,8 +121,9 @@ module _ (l : Line) (p : Pair) (k : Kept l p) where
   room q h =
       let fewer = count_mono l.trains (λ t. holds_post (unit_place l p t) q) (λ t. holds_post (located p.box t) q)
       (post_held q) in
-      let held = k.valid_state.posts q (rw (ap (λ (z : Line). z.posts) k.line) h) in
-      omega (arith, fewer, rw (k.line, ap (λ (z : Line). z.trains) k.line) at held)
+      let held = subst (λ (z : Line). post_holders z.trains (located p.box) q ≤ tracks_at z q) k.line
+      (k.valid_state.posts q (rw (ap (λ (z : Line). z.posts) k.line) h)) in
+      omega (arith, fewer, held)
 
   -- an AM that was sent is of a move that the unit has left, and a train that is not Running is where its unit is
   none_unauthorised : (table : List ℕ) → NeverBy no_authority table p
