@@ -53,7 +53,8 @@ unfolding joined
 joined_after h [] = tt
 joined_after h (p ∷ ps) = (
   record { byte = λ j l. sym (get_or-append-add h (p ++ joined ps) j 0 ∙ get_or-append p (joined ps) 0 j l) },
-  rw (← append_assoc h p (joined ps), ← length-append h p) (joined_after (h ++ p) ps),
+  subst (λ (b : List ℕ). AllAt b (length h + length p) ps) (append_assoc h p (joined ps))
+      (subst (λ (n : ℕ). AllAt ((h ++ p) ++ joined ps) n ps) (length-append h p) (joined_after (h ++ p) ps)),
 )
 
 pub joined_at : (ps : List (List ℕ)) → AllAt (joined ps) 0 ps
@@ -63,14 +64,14 @@ joined_at ps = joined_after [] ps
 pub at_joined : {b : List ℕ} {n : ℕ} (ps : List (List ℕ)) → AllAt b n ps → At b n (joined ps)
 unfolding joined
 at_joined [] a = record { byte = λ j h. absurd (not-suc-le-zero h) }
-at_joined {b} (p ∷ ps) a = record {
+at_joined {b = b} {n = n} (p ∷ ps) a = record {
   byte = λ j h. by_order j (length p)
       (λ l. get_or-append p (joined ps) 0 j l ∙ a.0.byte j l)
       (λ l.
       let place : j ≡ length p + (j - length p) = omega arith in
       same_place (p ++ joined ps) place
       ∙ get_or-append-add p (joined ps) (j - length p) 0
-      ∙ (at_joined ps a.1).byte (j - length p) (omega (arith, length-append p (joined ps)))
+      ∙ (at_joined {b = b} {n = n + length p} ps a.1).byte (j - length p) (omega (arith, length-append p (joined ps)))
       ∙ same_place b (omega arith));
 }
 
