@@ -13,7 +13,7 @@ use Rattle.driver.specs.Types.{Phase, Standing, Asked, Declined, Granted, UnderW
 use Rattle.driver.specs.Types.{Reached, Report, Again, Unit, Made, Pressed, Heard}
 use Rattle.driver.specs.State.{same_phase, numbers_fit, ended, own_move, past_start, last_move, in_ranges, on_route}
 use Rattle.driver.specs.State.{in_phase, valid_unit}
-use Rattle.driver.specs.Making.{standing_unit, empty_unit, made, make_unit}
+use Rattle.driver.specs.Making.{standing_unit, empty_unit, make_unit}
 use Rattle.driver.specs.Pressing.{end_permits, moved_on, carried_out}
 use Rattle.driver.specs.Validity.{Validity}
 use Rattle.driver.proofs.Numbers.{makes, makes_none}

@@ -1,6 +1,5 @@
 -- `book::reading::read_routes` meets its contract. The loop's invariant:
 -- the routes of the trains passed are stored, and 0 stands at the other places.
-use Prim.Native.Nat.{◌-◌}
 use native.Mathlib.Omega.{arith}
 use Rattle.common.proofs.Tabulate.{padded_none, padded_more}
 use Rattle.line.specs.Line.{no_route}

@@ -1,6 +1,5 @@
 -- `book::reading::read_tracks` meets its contract. The loop's invariant:
 -- the counts of the posts passed are stored, and 0 stands at the other places.
-use Prim.Native.Nat.{◌-◌}
 use native.Mathlib.Omega.{arith}
 use Rattle.common.proofs.Tabulate.{padded_none, padded_more}
 use Rattle.book.proofs.reading.read_tracks.Goals as goal

@@ -1,5 +1,4 @@
 -- `routes_on_line` meets its contract. The loop's invariant: the routes of the trains passed start and end on the line.
-use Prim.Native.Nat.{◌-◌}
 use native.Mathlib.Omega.{arith}
 use Rattle.common.proofs.Below.{passing_fails, passing_all}
 use Rattle.form.proofs.FormTest.{off_start, off_end}

@@ -1,5 +1,4 @@
 -- `tracks_in_range` meets its contract. The loop's invariant: the counts of the posts passed are in range.
-use Prim.Native.Nat.{◌-◌}
 use native.Mathlib.Omega.{arith}
 use Rattle.common.proofs.Below.{passing_fails, passing_all}
 use Rattle.line.proofs.WellFormed.{below_range, above_range}

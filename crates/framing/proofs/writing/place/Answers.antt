@@ -1,6 +1,5 @@
 -- `framing::place` meets its contract. The loop's invariant: the first i bytes are copied, the rest of the buffer is as
 -- it was; the measure is what is left of the seven.
-use Prim.Native.Nat.{◌-◌}
 use native.Mathlib.Omega.{arith}
 use borrow.Author.Rules.{rules}
 use Rattle.framing.proofs.Placing.{no_room, one_more, all_placed}

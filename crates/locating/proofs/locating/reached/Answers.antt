@@ -2,7 +2,7 @@
 -- zero, ends the loop.
 use mathlib.Core.Path.{◌≡◌, sym, ◌∙◌}
 use mathlib.Core.Bool.{true}
-use Prim.Native.Nat.{ℕ, ◌-◌, ◌≤◌}
+use Prim.Native.Nat.{ℕ, ◌≤◌}
 use native.Mathlib.Omega.{arith}
 use Rattle.line.specs.Positions.{metres_at}
 use Rattle.line.proofs.InOrder.{from_zero_lem, bounded}

@@ -55,8 +55,8 @@ returns-then-not-bit c =
     let book : List ℕ = c.args.book.now in
     let is_read : read_book book ≡ accepted_book line positions = read_as first_edition book c.read-reading.result c.read-reading.ensures c.in-Read.is in
     let fits : feasible line start ≡ true = sym c.feasible_start.ensures ∙ c.if-not-feasible_start.false in
-    let tested : bit_of c.fill.last.1.0 (code line start) ≡ c.bit.result = let is = c.code-start.ensures ∙ start_code line in
-    ap (bit_of c.fill.last.1.0) (sym is) ∙ sym c.bit.ensures in
+    let tested : bit_of c.fill.new.table (code line start) ≡ c.bit.result = let is = c.code-start.ensures ∙ start_code line in
+    ap (bit_of c.fill.new.table) (sym is) ∙ sym c.bit.ensures in
     handed _ _ c.refused-then-not-bit.ensures
     ∙ no_way _ _ _ long room line positions is_read fits _ _
     c.fill.ensures (tested ∙ c.if-not-bit.true)
@@ -79,8 +79,8 @@ returns c =
     let book : List ℕ = c.args.book.now in
     let is_read : read_book book ≡ accepted_book line positions = read_as first_edition book c.read-reading.result c.read-reading.ensures c.in-Read.is in
     let fits : feasible line start ≡ true = sym c.feasible_start.ensures ∙ c.if-not-feasible_start.false in
-    let tested : bit_of c.fill.last.1.0 (code line start) ≡ c.bit.result = let is = c.code-start.ensures ∙ start_code line in
-    ap (bit_of c.fill.last.1.0) (sym is) ∙ sym c.bit.ensures in
+    let tested : bit_of c.fill.new.table (code line start) ≡ c.bit.result = let is = c.code-start.ensures ∙ start_code line in
+    ap (bit_of c.fill.new.table) (sym is) ∙ sym c.bit.ensures in
     rw c.opened_state-state.ensures
     (opens _ _ _ long room line positions is_read fits _ _
     c.fill.ensures (tested ∙ c.if-not-bit.false))

@@ -1,5 +1,4 @@
 -- `in_order` meets its contract. The loop's invariant: the positions of the posts passed are in order.
-use Prim.Native.Nat.{◌-◌}
 use native.Mathlib.Omega.{arith}
 use Rattle.stages.proofs.Ordered.{not_from_zero, not_above, too_far, all_ordered}
 use Rattle.stages.proofs.positions.in_order.Goals as goal

@@ -1,6 +1,5 @@
 -- `read_positions` meets its contract. The loop's invariant:
 -- the positions of the posts passed are stored, and 0 stands at the other places.
-use Prim.Native.Nat.{◌-◌}
 use native.Mathlib.Omega.{arith}
 use Rattle.common.proofs.Tabulate.{padded_none, padded_more}
 use Rattle.stages.proofs.positions.read_positions.Goals as goal

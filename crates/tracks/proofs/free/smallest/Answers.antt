@@ -1,5 +1,4 @@
 -- `smallest` meets its contract. The loop's invariant: the tracks passed are held.
-use Prim.Native.Nat.{◌-◌}
 use native.Mathlib.Omega.{arith}
 use mathlib.Core.Path.{sym, ◌∙◌}
 use Rattle.tracks.proofs.Choice.{found_smallest, no_smallest}
