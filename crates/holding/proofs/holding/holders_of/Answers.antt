@@ -2,7 +2,7 @@
 -- the bit is that of the next train.
 use mathlib.Core.Path.{◌≡◌, refl, sym, ◌∙◌}
 use mathlib.Core.Bool.{false}
-use Prim.Native.Nat.{◌-◌, ◌^◌}
+use Prim.Native.Nat.{◌^◌}
 use native.Mathlib.Omega.{arith}
 use Rattle.rules.specs.State.{is_running, train_of}
 use Rattle.holding.specs.Types.{State, Train}

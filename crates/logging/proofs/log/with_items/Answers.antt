@@ -1,7 +1,7 @@
 -- `with_items` meets its contract. The loop's invariant: the first k items are in their places, and the rest is as it
 -- was.
 use mathlib.Core.Path.{◌≡◌}
-use Prim.Native.Nat.{◌+◌, ◌<◌, ◌-◌}
+use Prim.Native.Nat.{◌+◌, ◌<◌}
 use native.Mathlib.Numerals.{add-one}
 use native.Mathlib.Omega.{arith}
 use lib.ListN.{length}

@@ -1,12 +1,12 @@
 -- `logging::append` meets its contract: the k-th record has a place in the batch and in the journal, and where it is
 -- written the first k + 1 stand in their places.
-use mathlib.Core.Path.{◌≡◌, sym, ap, ◌∙◌}
-use Prim.Native.Nat.{◌+◌, ◌<◌, ◌≤◌}
+use mathlib.Core.Path.{◌≡◌, ap, ◌∙◌}
+use Prim.Native.Nat.{◌<◌}
 use native.Mathlib.Omega.{arith}
-use lib.ListN.{length, set}
+use lib.ListN.{length}
 use borrow.Author.Rules.{rules}
-use Rattle.journal.specs.Journal.{batch_length, fitting, record_at}
-use Rattle.journal.proofs.Appended.{fitting_few, fitting_room, count, written, written_length, written_more, all_written}
+use Rattle.journal.specs.Journal.{batch_length, fitting}
+use Rattle.journal.proofs.Appended.{fitting_few, fitting_room, count, written, written_more, all_written}
 use Rattle.logging.proofs.writing.append.Goals as goal
 
 pub nth-requires : goal.nth-requires

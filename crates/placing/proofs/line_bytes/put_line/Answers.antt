@@ -12,7 +12,7 @@ use Rattle.placing.proofs.line_bytes.put_line.Goals as goal
 pub loop-t-init : goal.loop-t-init
 loop-t-init c =
     let eight : length c.args.line.tracks ≡ 8 = search rules in
-    let six : length c.args.line.routes ≡ 6 = simp length-map at c.well_formed_lem.0.1.1.1.1.1.1.0.1.0.1 in
+    let six : length c.args.line.routes ≡ 6 = search rules in
     let size : length (line_bytes c.args.line) ≡ line_length = line_length_lem c.args.line eight six in
     (
       omega arith,
@@ -23,7 +23,7 @@ loop-t-init c =
 pub loop-t-preserved : goal.loop-t-preserved
 loop-t-preserved c =
     let eight : length c.args.line.tracks ≡ 8 = search rules in
-    let six : length c.args.line.routes ≡ 6 = simp length-map at c.well_formed_lem.0.1.1.1.1.1.1.0.1.0.1 in
+    let six : length c.args.line.routes ≡ 6 = search rules in
     let size : length (line_bytes c.args.line) ≡ line_length = line_length_lem c.args.line eight six in
     let l = c.args.line in
     let t = c.loop-t.t in (
@@ -35,7 +35,7 @@ loop-t-preserved c =
 pub returns : goal.returns
 returns c =
     let eight : length c.args.line.tracks ≡ 8 = search rules in
-    let six : length c.args.line.routes ≡ 6 = simp length-map at c.well_formed_lem.0.1.1.1.1.1.1.0.1.0.1 in
+    let six : length c.args.line.routes ≡ 6 = search rules in
     let size : length (line_bytes c.args.line) ≡ line_length = line_length_lem c.args.line eight six in
     let written : c.loop-t.to ≡ line_bytes c.args.line = filled c.loop-t.invariant.1 (omega (arith, size)) in
     written

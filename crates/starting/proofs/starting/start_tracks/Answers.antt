@@ -2,7 +2,7 @@
 -- those that they hold there.
 use mathlib.Core.Path.{◌≡◌, ◌∙◌}
 use mathlib.Core.Bool.{true}
-use Prim.Native.Nat.{ℕ, ◌-◌, ◌<◌}
+use Prim.Native.Nat.{ℕ, ◌<◌}
 use native.Mathlib.Omega.{arith}
 use Rattle.common.proofs.Tabulate.{padded_none, padded_more}
 use Rattle.line.specs.Line.{route_of, well_formed}

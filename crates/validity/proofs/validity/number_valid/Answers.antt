@@ -1,7 +1,6 @@
 -- `number_valid` meets its contract. The loop's invariant: none of the trains passed has train t's number.
 use mathlib.Core.Path.{◌≡◌, sym, ap, ◌∙◌}
 use mathlib.Core.Bool.{true, not}
-use Prim.Native.Nat.{◌-◌}
 use native.Mathlib.Omega.{arith}
 use Rattle.common.proofs.Below.{passing_fails, passing_all}
 use Rattle.validity.specs.Types.{Status}

@@ -1,9 +1,7 @@
 -- `numbers_valid` meets its contract. The loop's invariant: the numbers of the trains passed are valid.
 use mathlib.Core.Path.{sym, ◌∙◌}
-use Prim.Native.Nat.{◌-◌}
 use native.Mathlib.Omega.{arith}
 use Rattle.common.proofs.Below.{passing_fails, passing_all}
-use Rattle.rules.specs.Valid.{number_valid}
 use Rattle.validity.proofs.validity.numbers_valid.Goals as goal
 
 pub returns-then-not-number_valid : goal.returns-then-not-number_valid

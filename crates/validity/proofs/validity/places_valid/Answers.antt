@@ -1,7 +1,7 @@
 -- `places_valid` meets its contract. The loop's invariant: the posts passed, and the sections after them, have no more
 -- holders than they may, each on a track of its own.
 use mathlib.Core.Path.{◌≡◌, sym, ◌∙◌}
-use Prim.Native.Nat.{◌-◌, ◌<◌}
+use Prim.Native.Nat.{◌<◌}
 use native.Mathlib.Omega.{arith}
 use Rattle.common.proofs.Below.{passing_more, passing_fails, passing_all}
 use Rattle.validity.specs.Types.{State, Holders}

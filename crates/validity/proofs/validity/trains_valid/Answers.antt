@@ -1,6 +1,5 @@
 -- `trains_valid` meets its contract. The loop's invariant: the records of the trains passed are valid.
 use mathlib.Core.Path.{◌≡◌, sym, ap, ◌∙◌}
-use Prim.Native.Nat.{◌-◌}
 use native.Mathlib.Omega.{arith}
 use Rattle.common.proofs.Below.{passing_more, passing_fails, passing_all}
 use Rattle.validity.specs.Types.{Train, State}
