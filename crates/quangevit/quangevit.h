@@ -2,7 +2,7 @@
  * quangevit.h: the two ends of single-line train dispatching (Zugleitbetrieb), the dispatcher's box
  * and the driver's unit, over byte buffers, the running time between two posts, for planners, and
  * the place of a cab on its line.
- * Link libquangevit.a (`rt staticlib quangevit` builds it).
+ * Link libquangevit.a (`.ci/archive` builds it).
  *
  * Every store is a buffer that the caller lends: a pointer, then its length in bytes. A pointer is
  * never null, also where the length is 0; no two buffers of one call overlap; nothing is kept

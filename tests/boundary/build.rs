@@ -1,5 +1,4 @@
-//! Links libquangevit.a, which `rt staticlib quangevit` writes, from QUANGEVIT_DIR (a whole path) or else from
-//! target/staticlib.
+//! Links libquangevit.a, which `.ci/archive` builds, from QUANGEVIT_DIR (a whole path) or else from target/staticlib.
 
 use std::env;
 use std::path::PathBuf;
@@ -15,10 +14,7 @@ fn main() {
     println!("cargo:rerun-if-env-changed=QUANGEVIT_DIR");
     println!("cargo:rerun-if-changed={}", archive.display());
     if !archive.exists() {
-        eprintln!(
-            "no {}: run `rt staticlib quangevit` first",
-            archive.display()
-        );
+        eprintln!("no {}: run .ci/archive first", archive.display());
         process::exit(1);
     }
     println!("cargo:rustc-link-search=native={}", folder.display());

@@ -5,7 +5,7 @@
  * several tracks are opened, gangs get a section, records are counted, running times are added up,
  * and a cab reports where it is. Exit status 0 where all went as the paper says, else 1.
  *
- *   rt staticlib quangevit
+ *   .ci/archive
  *   cc -Wall -Wextra -I crates/quangevit tests/c/example.c target/staticlib/libquangevit.a -o example
  */
 #include <math.h>

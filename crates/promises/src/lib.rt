@@ -1,3 +1,3 @@
-// All that is promised, on two pages: specs/Contracts.antt and specs/Claims.antt. There is no code
-// here.
+// All that is promised, on two pages: specs/EntryPoints.antt and specs/Claims.antt. There is no
+// code here.
 #![tactic(auto)]
