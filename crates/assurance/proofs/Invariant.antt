@@ -23,7 +23,8 @@ use Rattle.completion.proofs.Agreement.{completable_cong}
 use Rattle.rules.specs.declared.state.Status.{Status}
 use Rattle.rules.specs.declared.state.Status.TheVariants.{Free, Asked, Running}
 use Rattle.rules.specs.declared.state.Train.{Train}
-use Rattle.rules.specs.State.{is_asked, is_running, asked_as, next_of, reached_by, train_of, line_of, possessed, reached}
+use Rattle.rules.specs.State.{is_asked, is_running, asked_as, next_of, reached_by, train_of, line_of, possessed}
+use Rattle.rules.specs.State.{reached}
 use Rattle.rules.specs.State.{state_with}
 use Rattle.rules.proofs.Trains.{changed, changed_own, changed_other, changed_each, changed_line}
 use Rattle.rules.proofs.Validity.{Consistent}

@@ -106,7 +106,8 @@ module _ (table : List ℕ) (s : State) (j : List Record) (o : Observer) (inv : 
 
 module _ (table : List ℕ) (s : State) (j : List Record) (o : Observer) (inv : Invariant table s j o) where
   -- a change that leaves a train where it has reached keeps the configuration
-  stays : (t : ℕ) (x : Train) → reached_by x ≡ reached s t → Completable (line_of s) (update (reached s) t (reached_by x))
+  stays : (t : ℕ) (x : Train) → reached_by x ≡ reached s t
+      → Completable (line_of s) (update (reached s) t (reached_by x))
   stays t x e = completable_cong (line_of s) (reached s) (update (reached s) t (reached_by x)) (λ u k. by_equality u t
       (λ q. rw (q, update_own (reached s) t (reached_by x)) (sym e))
       (λ h. sym (update_other (reached s) t (reached_by x) u h)))

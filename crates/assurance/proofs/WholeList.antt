@@ -20,7 +20,8 @@ use Rattle.assurance.proofs.Told.{assured}
 pub opened_run : (book table : List ℕ) (journal : List Record) (inputs : List Input)
     → (opening book table journal).number ≡ 0
     → let l = line_in book in
-    RunKept (filled l table) (opened_state l) journal (at_opening l) (run (filled l table) (opened_state l) journal inputs)
+    RunKept (filled l table) (opened_state l) journal (at_opening l)
+    (run (filled l table) (opened_state l) journal inputs)
 opened_run book table journal inputs e =
     let l = line_in book in
     run_kept (filled l table) inputs (opened_state l) journal (at_opening l)

@@ -1,7 +1,8 @@
 -- The observer (01: tally): "Who asked and who holds is told by a tally, kept from book, frames, answers and refusals,
 -- never from state or journal." 02, card 4: "in the section clause a gang is a holder, from its LE written to its LB
 -- accepted": a second part of the tally has the gangs of each section.
-use Rattle.std.specs.Prelude.{Bool, true, false, cond, ◌&&◌, List, [], ◌∷◌, map, ℕ, zero, suc, ◌+◌, ◌-◌, eqb, take, drop}
+use Rattle.std.specs.Prelude.{Bool, true, false, cond, ◌&&◌, List, [], ◌∷◌, map, ℕ, zero, suc, ◌+◌, ◌-◌, eqb, take}
+use Rattle.std.specs.Prelude.{drop}
 use Rattle.common.specs.Below.{of_bool}
 use Rattle.common.specs.Update.{update}
 use Rattle.line.specs.Route.{next_post, distance}

@@ -18,7 +18,8 @@ use Rattle.rules.proofs.Grants.{asked_count, granted_fewer, settled_stop, settle
 use Rattle.rules.proofs.Settling.{Roomy, roomy_next}
 
 -- a record more
-records_more : (b : Batch) (l : List Record) (r : Record) → with_record (add_records b l) r ≡ add_records b (l ++ r ∷ [])
+records_more : (b : Batch) (l : List Record) (r : Record)
+    → with_record (add_records b l) r ≡ add_records b (l ++ r ∷ [])
 unfolding add_records
 records_more b [] r = refl
 records_more b (c ∷ l) r = records_more (with_record b c) l r

@@ -14,14 +14,16 @@ use Rattle.line.specs.Refusal as number
 use Rattle.line.specs.declared.line.Line.{Line}
 use Rattle.line.specs.Line.{no_route}
 use Rattle.line.specs.Book.{positioned, count_at, added, trains_at, total, byte_at, posts_of, edition_of, sidings_of}
-use Rattle.line.specs.Book.{position_in, positioned_in, positions_of, trains_in, trains_of, route_in, line_in, posts_checks}
+use Rattle.line.specs.Book.{position_in, positioned_in, positions_of, trains_in, trains_of, route_in, line_in}
+use Rattle.line.specs.Book.{posts_checks}
 use Rattle.line.specs.Book.{tracks_checks, sidings_checks}
 use Rattle.line.specs.Book.{positions_checks, trains_checks, routes_checks, book_checks_from, accepted_book, refused_by}
 use Rattle.line.specs.Book.{read_from}
 use Rattle.line.proofs.WellFormed.{high, line_is}
 use Rattle.stages.specs.declared.stage.Stage.{Stage}
 use Rattle.stages.specs.declared.stage.Stage.TheVariants.{Passed, Stopped}
-use Rattle.stages.specs.Stages.{stage_of, number_of, posts_stage, tracks_stage, sidings_stage, positions_stage, trains_stage}
+use Rattle.stages.specs.Stages.{stage_of, number_of, posts_stage, tracks_stage, sidings_stage, positions_stage}
+use Rattle.stages.specs.Stages.{trains_stage}
 use Rattle.stages.specs.Stages.{routes_stage, PostsRead, after_posts, read_trains}
 
 -- ---- a stage, by its answer
@@ -157,7 +159,8 @@ module _ (least : ℕ) (b : List ℕ) where
           sidings.left (e ∙ positions_same) p
 
       -- what is left is the trains'
-      pub trains_left : {s : Stage} {m : ℕ} → s ≡ positions_stage k ps → s ≡ Passed m → read_trains b ≡ read_from least b
+      pub trains_left : {s : Stage} {m : ℕ} → s ≡ positions_stage k ps → s ≡ Passed m
+          → read_trains b ≡ read_from least b
       unfolding positions_stage read_from read_trains
       trains_left e p =
           let k = passed_of (positions_checks (positioned_in b) (positions_of b)) _ (e ∙ positions_same) p in
@@ -191,11 +194,13 @@ pub trains_place : {b : List ℕ} {l : Line} {ps : List ℕ} → PostsRead b l p
 trains_place posts a e = rw posts.posts at e
 
 module _ (b : List ℕ) where
-  pub trains_refused : {s : Stage} {m : ℕ} → s ≡ trains_stage b → s ≡ Stopped m → refused_by (number_of s) ≡ read_trains b
+  pub trains_refused : {s : Stage} {m : ℕ} → s ≡ trains_stage b → s ≡ Stopped m
+      → refused_by (number_of s) ≡ read_trains b
   unfolding trains_stage read_trains
   trains_refused e p = stop_at b (after_posts b) (trains_checks b) (routes_checks (line_in b)) _ refl e p
 
-  pub trains_read : {s : Stage} {t : ℕ} → s ≡ trains_stage b → s ≡ Passed t → (a : ℕ) → a ≡ trains_in b → TrainsRead b a t
+  pub trains_read : {s : Stage} {t : ℕ} → s ≡ trains_stage b → s ≡ Passed t → (a : ℕ) → a ≡ trains_in b
+      → TrainsRead b a t
   unfolding trains_stage
   trains_read {t = t} e p a place =
       let k = passed_of (trains_checks b) _ e p in
@@ -223,7 +228,8 @@ module _ (b : List ℕ) where
         (amount ∙ trains.is)
         (rw (ends, trains.is, trains.place))
 
-    pub routes_refused : {s : Stage} {n : ℕ} → s ≡ routes_stage m → s ≡ Stopped n → refused_by (number_of s) ≡ read_trains b
+    pub routes_refused : {s : Stage} {n : ℕ} → s ≡ routes_stage m → s ≡ Stopped n
+        → refused_by (number_of s) ≡ read_trains b
     unfolding routes_stage read_trains
     routes_refused e p =
         stop_at b (after_posts b) (routes_checks (line_in b)) [] _ trains.left (e ∙ ap routes_stage line_same) p

@@ -27,7 +27,8 @@ module _ (book line : List ℕ) where
 
   pub read : length line ≡ line_length → (r : Reading) → r ≡ read_book book
       → (after : List ℕ) → after ≡ line_bytes r.line
-      → (n : ℕ) → n ≡ outcome_number r.outcome → (w : ℕ) → w ≡ word_of n 0 → book_call w after ≡ read_book_call book line
+      → (n : ℕ) → n ≡ outcome_number r.outcome → (w : ℕ) → w ≡ word_of n 0
+      → book_call w after ≡ read_book_call book line
   unfolding read_book_call
   read h r p after q n e w s = rw (s, q, e, p, eq-eqb (length line) line_length h)
 

@@ -126,14 +126,16 @@ unit_heard : (unit frame : List ℕ) → encodes_unit unit ≡ true
 unfolding hear_call
 unit_heard unit frame h = rw h (unit_read _)
 
-unit_pressed : (unit : List ℕ) (button : ℕ) (frame : List ℕ) → refusal (press_call_checks unit button (length frame)) ≡ 0
+unit_pressed : (unit : List ℕ) (button : ℕ) (frame : List ℕ)
+    → refusal (press_call_checks unit button (length frame)) ≡ 0
     → UnitReadAs (press_call unit button frame).unit (press_button (unit_in unit) (button_of button)).unit
 unfolding press_call
 unit_pressed unit button frame e =
     rw (accepts (press_after (press_button (unit_in unit) (button_of button)) frame)
     (λ n. pressed (word_of n 0) unit frame) e) (unit_read _)
 
-hearing_refused : (unit frame : List ℕ) → refusal_in (hear_call unit frame).answer ≢ 0 → (hear_call unit frame).unit ≡ unit
+hearing_refused : (unit frame : List ℕ) → refusal_in (hear_call unit frame).answer ≢ 0
+    → (hear_call unit frame).unit ≡ unit
 unfolding hear_call
 hearing_refused unit frame h = by_cases (encodes_unit unit)
     (λ e.
@@ -152,7 +154,8 @@ no_refusal b f Report = refl
 no_refusal b f Again = refl
 
 -- by the unit's outcome: a refusal leaves it, and what is carried out is no refusal
-pressed_unit : (b f : List ℕ) → encodes_unit b ≡ true → (x : Button) (p : Pressed) → outcomes.PressOutcome (unit_in b) x p
+pressed_unit : (b f : List ℕ) → encodes_unit b ≡ true → (x : Button) (p : Pressed)
+    → outcomes.PressOutcome (unit_in b) x p
     → refusal_in (press_after p f).answer ≢ 0 → press_after p f ≡ pressed (press_after p f).answer b f
 pressed_unit b f is x p (outcomes.refused n) h = rw (unit_only b is)
 pressed_unit b f is x p (outcomes.accepted e o) h = absurd (h (no_refusal b f x))

@@ -44,7 +44,8 @@ module _ (book : List ℕ) (p q v : ℕ) (time : List ℕ) where
         = ap (λ (c : TimeCall). c.time) with_room ∙ rw (eq-eqb (running_time book p q v).refusal 0 e) in
         rw written (round_trip.time_back (running_time book p q v) small.0 small.1)
 
-  other_length : length time ≢ time_length → running_time_call book p q v time ≡ time_call (word_of strange_state 0) time
+  other_length : length time ≢ time_length
+      → running_time_call book p q v time ≡ time_call (word_of strange_state 0) time
   unfolding running_time_call
   other_length e = rw (ne_eqb (length time) time_length e)
 

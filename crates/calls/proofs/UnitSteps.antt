@@ -94,7 +94,8 @@ module _ (b : List ℕ) (k : ℕ) (f : List ℕ) where
     pub has_room : 7 ≤ length f
     has_room = leb-true 7 (length f) (passed_at (press_call_checks b k (length f)) refl passed 2)
 
-    pub carried_out_lem : (u : Unit) → u ≡ unit_in b → (x : Button) → x ≡ button_of k → (p : Pressed) → p ≡ press_button u x
+    pub carried_out_lem : (u : Unit) → u ≡ unit_in b → (x : Button) → x ≡ button_of k → (p : Pressed)
+        → p ≡ press_button u x
         → (after : List ℕ) → after ≡ unit_bytes p.unit
         → (n : ℕ) (out : List ℕ) → (n ≡ of_bool p.sent) × (out ≡ cond p.sent (replaced f 0 p.frame) f)
         → (w : ℕ) → w ≡ word_of p.refusal n → pressed w after out ≡ press_call b k f

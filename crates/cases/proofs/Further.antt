@@ -37,7 +37,8 @@ unfolding bytes_of opened_blank ran_with seen_in
 both_home = (refl, refl)
 
 pub precedence : Precedence
-unfolding bytes_of opened_blank ran_with answer valid consistent well_formed between next_post count_below all_below values_from
+unfolding bytes_of opened_blank ran_with answer valid consistent well_formed between next_post count_below all_below
+    values_from
     refusal unless_refused read_frame
 precedence = record {
   fresh = refl;

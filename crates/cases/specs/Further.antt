@@ -142,7 +142,8 @@ pub record Precedence : Type 0 where
   -- and 3 and 12 come as at any other count; at 230 all three are 1
   pub in_range_lem : verdicts_of (ran_with_records 229 ([] ∷ map bytes_of (am 0 0 1 ∷ fa 0 0 1 ∷ [])))
       ≡ RefusedBy 3 ∷ RefusedBy 12 ∷ Sent 1 ∷ []
-  pub above : verdicts_of (ran_with_records 230 ([] ∷ map bytes_of (am 0 0 1 ∷ fa 0 0 1 ∷ []))) ≡ replicate 3 (RefusedBy 1)
+  pub above : verdicts_of (ran_with_records 230 ([] ∷ map bytes_of (am 0 0 1 ∷ fa 0 0 1 ∷ [])))
+      ≡ replicate 3 (RefusedBy 1)
   -- 1 before 2, and 2 before 3, for each of the stores
   pub strange : short_stores empty_state 0 0 0 ≡ RefusedBy 1
   pub table : short_stores (opened_blank book_x).state (table_length - 1) journal_length out_length ≡ RefusedBy 2

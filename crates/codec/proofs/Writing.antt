@@ -48,7 +48,8 @@ module _ {b : List ℕ} {at : ℕ} {items : List Record} {n : ℕ} {bytes : List
   same_size = rw w.written (length_with b pasted pasted_count)
 
   pub one_more : k < n → (e : List ℕ) → e ≡ record_bytes (record_at items k)
-      → (after : List ℕ) → after ≡ replaced_if_room bytes (record_length * (at + k)) e → Writing b at items n after (k + 1)
+      → (after : List ℕ) → after ≡ replaced_if_room bytes (record_length * (at + k)) e
+      → Writing b at items n after (k + 1)
   one_more h e p after q =
       let place : at + k < record_count (length b) = w.room k h in
       record {
@@ -59,7 +60,8 @@ module _ {b : List ℕ} {at : ℕ} {items : List Record} {n : ℕ} {bytes : List
         written =
             rw (q, p, w.written, add-one)
             (with_set b pasted pasted_count (at + k) (record_at items k) (rw pasted_count place)
-            ∙ ap (with_records b) (paste-suc (records_in b) at items k blank (rw record_count_lem place) (omega arith)));
+            ∙ ap (with_records b)
+            (paste-suc (records_in b) at items k blank (rw record_count_lem place) (omega arith)));
       }
 
 pub all_written : (b : List ℕ) (at : ℕ) (batch : Batch) (n : ℕ) → n ≡ fitting (record_count (length b)) at batch.n

@@ -169,7 +169,8 @@ number_told number x f e h zero = e
 number_told number x f e h (suc n) = h (suc n)
 
 -- the same in the direction of a definition `unless_refused (refusal checks) ..`
-pub accepted_by : {A : Type 0} (x : A) (f : ℕ → A) {cs : List Check} → Refuses cs 0 → x ≡ unless_refused (refusal cs) x f
+pub accepted_by : {A : Type 0} (x : A) (f : ℕ → A) {cs : List Check} → Refuses cs 0
+    → x ≡ unless_refused (refusal cs) x f
 accepted_by x f r = sym (accepts x f (refusal_is r))
 
 pub refused_by_lem : {A : Type 0} (x : A) (f : ℕ → A) {cs : List Check} {n : ℕ} → 0 < n → Refuses cs n

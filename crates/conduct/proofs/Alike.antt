@@ -26,7 +26,8 @@ use Rattle.tracks.proofs.Choice.{track_cong}
 use Rattle.journal.specs.Journal.{record_on}
 use Rattle.rules.specs.declared.state.Train.{Train}
 use Rattle.rules.specs.declared.state.Status.TheVariants.{Running}
-use Rattle.rules.specs.State.{is_asked, next_of, located_at, track_at, reached_by, train_of, line_of, located, track_held}
+use Rattle.rules.specs.State.{is_asked, next_of, located_at, track_at, reached_by, train_of, line_of, located}
+use Rattle.rules.specs.State.{track_held}
 use Rattle.rules.specs.State.{possessed, holders_of, free_track, reached, next_move, with_status, with_possession}
 use Rattle.rules.specs.State.{state_with, one_logged}
 use Rattle.rules.specs.Valid.{most_given, valid}
@@ -96,7 +97,8 @@ module _ (s u : State) (a : Alike s u) where
       (any_cong s.trains _ _
       (of_train_lem (λ x. holds_post (located_at s.sidings x) p && eqb (track_at x p) k))) in
       rw (a.train t kt, a.tracks p kp)
-      (track_cong (train_of s t).route (track_held u p) (track_held s p) (tracks_at (line_of s) p) (λ k l. held (suc k)))
+      (track_cong (train_of s t).route (track_held u p) (track_held s p) (tracks_at (line_of s) p)
+      (λ k l. held (suc k)))
 
   route_same : (t : ℕ) → t < s.trains → route_of (line_of u) t ≡ route_of (line_of s) t
   route_same t k = route_of_lem u t ∙ of_train_lem (λ x. x.route) t k ∙ sym (route_of_lem s t)

@@ -18,7 +18,8 @@ use Rattle.completion.specs.Configuration.{distance_of}
 use Rattle.completion.specs.Table.{filled}
 use Rattle.rules.specs.declared.state.Status.{Status}
 use Rattle.rules.specs.declared.state.Status.TheVariants.{Free, Asked, Running}
-use Rattle.rules.specs.State.{is_asked, next_of, train_of, line_of, possessed, with_status, arrived_next, with_possession}
+use Rattle.rules.specs.State.{is_asked, next_of, train_of, line_of, possessed, with_status, arrived_next}
+use Rattle.rules.specs.State.{with_possession}
 use Rattle.rules.specs.Granting.{Work, begun, grant_record, settled}
 use Rattle.rules.specs.Valid.{most_given}
 use Rattle.rules.specs.Answer.{gang_byte, taken, declined, anew}
@@ -76,7 +77,11 @@ module _ (table : List ℕ) where
       → of_gangs (declined m w).logged ≡ of_gangs w.logged
   unfolding record_of
   declined_gangs m w low = by_cases (is_asked (train_of w.state m.train.0).status)
-      (λ e. rw e (omega (arith, count_more is_of_gang w.logged (record_of (Afe m)), of_train_lem (record_of (Afe m)) low)))
+      (λ e. rw e (omega (
+        arith,
+        count_more is_of_gang w.logged (record_of (Afe m)),
+        of_train_lem (record_of (Afe m)) low,
+      )))
       (λ e. rw e)
 
   -- LA and its LE are two, and LB is one
@@ -122,7 +127,8 @@ claimed (Running k) p q = refl
 
 records_told_lem : (table : List ℕ) (s : State) (j : List Record) (o : Observer) → Invariant table s j o
     → sum_below s.trains (λ t. records_of (train_of s t)) ≡ sum_below s.trains (records_told (line_of s) o)
-records_told_lem table s j o inv = sum_cong s.trains (λ t. records_of (train_of s t)) (records_told (line_of s) o) (λ t kt.
+records_told_lem table s j o inv =
+    sum_cong s.trains (λ t. records_of (train_of s t)) (records_told (line_of s) o) (λ t kt.
     let x = train_of s t in
     rw (seen table s j o inv t kt, route_of_lem s t, claimed x.status x.at.0 (next_of x)) (omega arith))
 

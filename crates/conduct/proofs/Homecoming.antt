@@ -204,6 +204,7 @@ homecoming book table journal inputs e =
     let home = home_after (filled l table) (long_table l table) (opened_state l) journal (at_opening l)
     (opened_settled l table journal a.1 (opened_line_lem book)) inputs in
     let after : Line → Type 0 = λ v. (t : ℕ) → t < l.trains
-    → ((observe (at_opening l) (run (filled l table) (opened_state l) journal (inputs ++ home.0)).exchanges).train t).post
+    → ((observe (at_opening l) (run (filled l table) (opened_state l) journal (inputs ++ home.0)).exchanges).train
+    t).post
     ≡ (route_of v t).end.0 in
     (home.0, rw a.0 (subst after (opened_line_lem book) home.1))

@@ -19,7 +19,8 @@ use Rattle.tracks.proofs.Choice.{track_cong}
 use Rattle.journal.specs.Journal.{journal_length, record_of, record_on}
 use Rattle.completion.specs.Table.{filled}
 use Rattle.rules.specs.declared.state.Status.TheVariants.{Asked}
-use Rattle.rules.specs.State.{is_asked, next_of, track_at, train_of, line_of, track_held, next_move, with_status, arrived_next}
+use Rattle.rules.specs.State.{is_asked, next_of, track_at, train_of, line_of, track_held, next_move, with_status}
+use Rattle.rules.specs.State.{arrived_next}
 use Rattle.rules.specs.State.{with_possession}
 use Rattle.rules.specs.Granting.{Work, begun, granted, settled, grant_record}
 use Rattle.rules.specs.Answer.{taken, declined, anew, answer}
@@ -51,7 +52,8 @@ module _ (table : List ℕ) (s : State) (j : List Record) (o : Observer) (inv : 
   held_told_lem : (p i : ℕ) → track_held s p i ≡ held_told (line_of s) o k p i
   held_told_lem p i = any_cong s.trains _ _ (λ u ku.
       ap (λ (w : Whereabouts). holds_post w p && eqb (track_at (train_of s u) p) i) (sym (told table s j o inv u ku))
-      ∙ ap (λ (n : ℕ). holds_post (located_told (line_of s) o u) p && eqb n i) (sym (track_as table s j o inv k h p u ku)))
+      ∙ ap (λ (n : ℕ). holds_post (located_told (line_of s) o u) p && eqb n i)
+      (sym (track_as table s j o inv k h p u ku)))
 
   grant_due : (t : ℕ) → grant_record s t ≡ due_record (line_of s) o k (next_move s t)
   grant_due t =

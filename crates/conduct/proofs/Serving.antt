@@ -68,7 +68,8 @@ module _ (table : List ℕ) (b : State) (w : Work) (t : ℕ) (k : Serves b w) (f
   asks = (grantable_facts table s t f.can).asks
 
   -- who does not wait does not wait after it
-  not_after : (u : ℕ) → is_asked (train_of s u).status ≡ false → is_asked (train_of (granted w t).state u).status ≡ false
+  not_after : (u : ℕ) → is_asked (train_of s u).status ≡ false
+      → is_asked (train_of (granted w t).state u).status ≡ false
   not_after u e = changed_each s t x (s.logged + 1)
       (λ v y. is_asked (train_of s v).status ≡ false → is_asked y.status ≡ false)
       (granted_place table w t f) (λ q. refl) u (λ h q. q) e

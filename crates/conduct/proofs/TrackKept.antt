@@ -10,7 +10,8 @@ use Rattle.line.specs.Holding.{Whereabouts, holds_post}
 use Rattle.frame.specs.Frame.{read_frame}
 use Rattle.rules.specs.declared.state.Status.TheVariants.{Asked}
 use Rattle.journal.specs.Journal.{record_of}
-use Rattle.rules.specs.State.{is_asked, located_at, track_at, train_of, located, with_status, arrived_next, with_possession}
+use Rattle.rules.specs.State.{is_asked, located_at, track_at, train_of, located, with_status, arrived_next}
+use Rattle.rules.specs.State.{with_possession}
 use Rattle.rules.specs.Granting.{Work, begun, granting, granted, settled}
 use Rattle.rules.specs.Answer.{taken, declined, anew}
 use Rattle.rules.proofs.Trains.{free_idle, idle_ahead, changed_own, changed_other}

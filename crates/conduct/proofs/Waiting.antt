@@ -32,7 +32,8 @@ use Rattle.assurance.proofs.WholeList.{opened_run}
 
 module _ (table : List ℕ) (s : State) (j : List Record) (o : Observer) (inv : Invariant table s j o) where
   same_moved : (t : ℕ) → t < s.trains → Agree (line_of s) (moved (reached_told (line_of s) o) t) (moved (reached s) t)
-  same_moved t kt = moved_cong (line_of s) (reached_told (line_of s) o) (reached s) t kt (reached_told_lem table s j o inv)
+  same_moved t kt = moved_cong (line_of s) (reached_told (line_of s) o) (reached s) t kt
+      (reached_told_lem table s j o inv)
 
   module _ (t : ℕ) (kt : t < s.trains) where
     abbrev x : Train

@@ -84,7 +84,8 @@ pub record Arrives (table : List ℕ) (l : Line) (r : Ran) (o : Observer) : Type
   pub only : (frame out : List ℕ) (n : ℕ) → (answer_after table r frame out).verdict ≡ Sent n
       → MayCome l o (new_count asks_section l r) frame
   -- where no new FA, AM or LB is accepted any more, every train is at its end
-  pub ended : ((frame out : List ℕ) → runs_granting (read_frame frame) ≡ true → repeats_told o (read_frame frame) ≡ false
+  pub ended : ((frame out : List ℕ) → runs_granting (read_frame frame) ≡ true
+      → repeats_told o (read_frame frame) ≡ false
       → out_length ≤ length out → (n : ℕ) × ((answer_after table r frame out).verdict ≡ RefusedBy n))
       → AllAtEnds l o
   -- as many new frames of trains were accepted as it takes to bring them where they are, and never more than to their

@@ -68,7 +68,8 @@ piece_book l =
     rw (byte_at l n 0, byte_at l n 1)
 
 -- a book is whole with the byte that makes it so, and not before
-pub book_exactly : (l : List ℕ) (x : ℕ) → length l < book_length l → book_length (l ++ (x ∷ [])) ≤ length (l ++ (x ∷ []))
+pub book_exactly : (l : List ℕ) (x : ℕ) → length l < book_length l
+    → book_length (l ++ (x ∷ [])) ≤ length (l ++ (x ∷ []))
     → length (l ++ (x ∷ [])) ≡ book_length (l ++ (x ∷ []))
 book_exactly l x h k =
     let more = length-append l (x ∷ []) in

@@ -85,7 +85,8 @@ pub torn : (x r : Console) (table : List ℕ) → x.piece.length ≢ 0 → r ≡
     → r ≡ c.last_frame x table
 torn x r table h e = e ∙ rw (ne_eqb x.piece.length 0 h)
 
-pub book_at_end : (d : Desk) (x r : Console) (after : List ℕ) → desk_of x after ≡ c.book_opened d → r ≡ c.ended_console x
+pub book_at_end : (d : Desk) (x r : Console) (after : List ℕ) → desk_of x after ≡ c.book_opened d
+    → r ≡ c.ended_console x
     → desk_of r after ≡ c.ended_desk (c.book_opened d)
 book_at_end d x r after e f = ap (λ (r : Console). desk_of r after) f ∙ ap c.ended_desk e
 

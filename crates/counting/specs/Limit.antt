@@ -49,7 +49,8 @@ left_at231 = record {
 
 -- and the journal: the FA's record at place 229, the FE's with its track at 230, and the others as they were lent
 abbrev pub journal_at231 : List Record
-journal_at231 = lent_records 229 ++ (record_of (fa 0 0 1) ∷ record_on 1 (fe 0 0 1) ∷ []) ++ values_from 231 5 lent_record
+journal_at231 = lent_records 229 ++ (record_of (fa 0 0 1) ∷ record_on 1 (fe 0 0 1) ∷ [])
+    ++ values_from 231 5 lent_record
 
 -- what comes then: the FA again, a gang's request, the other train's, and a torn frame
 abbrev pub what_comes_then : List (List ℕ)
@@ -69,7 +70,8 @@ pub record LastAnswered : Type 0 where
   pub journal_left : after_the_last.journal ≡ journal_at231
   pub out_left : map (λ e. e.out) after_the_last.exchanges ≡ replicate 4 (tabulate 50 lent_byte)
   -- right after the opening, where only the count is another, the same frames are answered, and the torn one is 3
-  pub otherwise : verdicts_of (ran_on_x (counted_on_x 0) (lent_records journal_length) (bytes_of (fa 0 0 1) ∷ what_comes_then))
+  pub otherwise : verdicts_of
+      (ran_on_x (counted_on_x 0) (lent_records journal_length) (bytes_of (fa 0 0 1) ∷ what_comes_then))
       ≡ Sent 1 ∷ Sent 1 ∷ Sent 1 ∷ Sent 1 ∷ RefusedBy 3 ∷ []
 
 -- ---- above 229
@@ -86,12 +88,14 @@ frames_of_all_sorts =
 
 pub record StrangeCounts : Type 0 where
   -- "becomes strange, refusal 1", for any frame
-  pub frames : map (λ n. verdicts_of (ran_on_x (counted_on_x n) (lent_records journal_length) frames_of_all_sorts)) strange_counts
+  pub frames : map (λ n. verdicts_of (ran_on_x (counted_on_x n) (lent_records journal_length) frames_of_all_sorts))
+      strange_counts
       ≡ replicate 3 (replicate 11 (RefusedBy 1))
   -- 1 comes before 2, and 2 before all else where the count is 229
   pub stores : map (λ n. verdicts_of (ran_without_stores (counted_on_x n) frames_of_all_sorts)) strange_counts
       ≡ replicate 3 (replicate 11 (RefusedBy 1))
   pub short : verdicts_of (ran_without_stores (counted_on_x 229) frames_of_all_sorts) ≡ replicate 11 (RefusedBy 2)
   -- 235 records are too few for 229 and the seven that one frame may add: 2
-  pub short_journal : verdicts_of (ran_on_x (counted_on_x 229) (lent_records (journal_length - 1)) (bytes_of (fa 0 0 1) ∷ []))
+  pub short_journal : verdicts_of
+      (ran_on_x (counted_on_x 229) (lent_records (journal_length - 1)) (bytes_of (fa 0 0 1) ∷ []))
       ≡ RefusedBy 2 ∷ []

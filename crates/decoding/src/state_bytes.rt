@@ -1,7 +1,8 @@
 // A state read from 74 bytes.
 ghost use Rattle.std.specs.Prelude.{◌≡◌, ◌+◌, ◌≤◌, length};
 ghost use Rattle.encoding.specs.StateBytes.{train_length, state_length};
-ghost use Rattle.encoding.specs.StateBytes.{status_of, last_of, train_in, tracks_in, fleet_in, possessions_in, state_in};
+ghost use Rattle.encoding.specs.StateBytes.{status_of, last_of, train_in, tracks_in, fleet_in};
+ghost use Rattle.encoding.specs.StateBytes.{possessions_in, state_in};
 
 use encoding::{
     GIVEN_AT, HEAD_LENGTH, LOGGED_AT, POSSESSIONS_AT, POSTS_AT, SIDINGS_AT, TRACKS_AT,

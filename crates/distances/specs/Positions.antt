@@ -47,7 +47,8 @@ pub record PositionBytes : Type 0 where
   pub in_order : numbers_of
       (up_to (position 0 0) ∷ two_posts 0 (position 0 1 ++ position 3 232) 1
       ∷ up_to (0 ∷ 128 ∷ 0 ∷ 0 ∷ []) ∷ up_to (0 ∷ 127 ∷ 255 ∷ 255 ∷ []) ∷ up_to (1 ∷ 0 ∷ 0 ∷ 0 ∷ [])
-      ∷ like_x_at (position 0 0 ++ position 0 9 ++ position 0 8) ∷ like_x_at (position 0 0 ++ position 0 9 ++ position 0 9)
+      ∷ like_x_at (position 0 0 ++ position 0 9 ++ position 0 8)
+      ∷ like_x_at (position 0 0 ++ position 0 9 ++ position 0 9)
       ∷ like_x_at (position 0 0 ++ (0 ∷ 128 ∷ 0 ∷ 0 ∷ []) ++ (0 ∷ 128 ∷ 0 ∷ 1 ∷ [])) ∷ [])
       ≡ 27 ∷ 27 ∷ 27 ∷ 0 ∷ 27 ∷ 27 ∷ 27 ∷ 27 ∷ []
   -- 27 "stands after 23", and before 17

@@ -54,7 +54,8 @@ pub record TimeRefusals : Type 0 where
   -- what is wrong with the book comes before what is wrong with the question, to the last of its numbers
   pub posts : asked (book_of 16 3 9 (1 ∷ 1 ∷ 0 ∷ position 0 0 ++ position 3 232) 1 (0 ∷ 1 ∷ [])) 9 9 0 ≡ no_time 15
   pub positions : asked (up_to (position 0 0)) 2 2 0 ≡ no_time 27
-  pub off_the_line_lem : asked (book_of 16 3 2 (1 ∷ 1 ∷ 0 ∷ position 0 0 ++ position 3 232) 1 (0 ∷ 2 ∷ [])) 2 2 0 ≡ no_time 18
+  pub off_the_line_lem : asked (book_of 16 3 2 (1 ∷ 1 ∷ 0 ∷ position 0 0 ++ position 3 232) 1 (0 ∷ 2 ∷ [])) 2 2 0
+      ≡ no_time 18
   -- either post, at P and past it, before the speed
   pub from : asked kilometre 2 1 0 ≡ no_time 9
   pub to : asked kilometre 0 255 161 ≡ no_time 9

@@ -58,7 +58,8 @@ module _ (u : Unit) (f : List ℕ) where
         unawaited h =
             refused (omega arith) (after_reading (pass (ap for_unit reads ∙ own) (stop (ap (awaited u) reads ∙ h))))
 
-        pub taken : (p : Phase) → awaited u x ≡ true → phase_after u x ≡ p → heard_with (in_phase u p) 0 ≡ hear_frame u f
+        pub taken : (p : Phase) → awaited u x ≡ true → phase_after u x ≡ p
+            → heard_with (in_phase u p) 0 ≡ hear_frame u f
         unfolding hear_frame
         taken p h q =
             let after : phase_after u (read_frame f) ≡ p = ap (phase_after u) reads ∙ q in

@@ -117,7 +117,8 @@ module _ (t a e : ℕ) where
     again : outcomes.MayRepeat u → Stepped past u (event_of (of_press Again (sending u (last_sent u))))
     unfolding IsMessage
     again (outcomes.asked h) = repeated (Fa (own_move u)) (rw h) tt (asked_again_lem (own_move u)) (told_as Asked h)
-    again (outcomes.declined h) = repeated (Fa (own_move u)) (rw h) tt (asked_again_lem (own_move u)) (told_as Declined h)
+    again (outcomes.declined h) =
+        repeated (Fa (own_move u)) (rw h) tt (asked_again_lem (own_move u)) (told_as Declined h)
     again (outcomes.past_start_lem h s) =
         repeated (Am (last_move u)) (rw h) tt (reported_again (last_move u)) ((told_as Standing h).1 s)
 

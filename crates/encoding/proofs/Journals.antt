@@ -49,7 +49,8 @@ module _ (b : List ℕ) where
     with_again k =
         let same : drop (record_length * count) (with_records b j) ≡ past =
         drop_at (each record_bytes j) (past ++ []) (record_length * count) records_length ∙ append-nil past in
-        ap (λ (n : ℕ). each record_bytes k ++ (drop (record_length * record_count n) (with_records b j) ++ [])) length_with
+        ap (λ (n : ℕ). each record_bytes k ++ (drop (record_length * record_count n) (with_records b j) ++ []))
+        length_with
         ∙ ap (λ (l : List ℕ). each record_bytes k ++ (l ++ [])) same
 
     set_there : (i : ℕ) (r : Record) → i < length j
@@ -61,7 +62,8 @@ module _ (b : List ℕ) where
     pub with_set : (i : ℕ) (r : Record) → i < length j
         → replaced_if_room (with_records b j) (record_length * i) (record_bytes r) ≡ with_records b (set j i r)
     with_set i r h =
-        let room : record_length * i + record_length ≤ length (with_records b j) = rw length_with (omega (arith, whole)) in
+        let room : record_length * i + record_length ≤ length (with_records b j) =
+        rw length_with (omega (arith, whole)) in
         sym (replaced_if (with_records b j) (record_length * i) (record_bytes r) room) ∙ set_there i r h
 
   -- the buffer is its records and the bytes past them
@@ -70,10 +72,12 @@ module _ (b : List ℕ) where
   own_records =
       let records : At b 0 (each record_bytes (records_in b)) =
       at_each record_bytes record_length (λ r. refl) (records_in b) blank
-      (λ t h. rw (zero-add, at_tabulate count _ t blank (rw record_count_lem at h)) (record_at_lem b (record_length * t))) in
+      (λ t h. rw (zero-add, at_tabulate count _ t blank (rw record_count_lem at h))
+      (record_at_lem b (record_length * t))) in
       let rest : At b (0 + length (each record_bytes (records_in b))) past =
       record {
         byte = λ j h. get_or-drop (record_length * count) b j 0
             ∙ same_place b (omega (arith, records_length (records_in b) record_count_lem));
       } in
-      whole_at (at_joined (journal_parts b (records_in b)) (records, (rest, tt))) (length_with (records_in b) record_count_lem)
+      whole_at (at_joined (journal_parts b (records_in b)) (records, (rest, tt)))
+      (length_with (records_in b) record_count_lem)

@@ -38,7 +38,8 @@ place_bytes (NotPlaced n) = nothing_sort ∷ 0 ∷ 0 ∷ []
 abbrev pub place_in : List ℕ → Place
 place_in b =
     cond (eqb (byte_at b sort_byte) post_sort) (at (byte_at b number_byte))
-    (cond (eqb (byte_at b sort_byte) section_sort) (in_section (byte_at b number_byte) (byte_at b nearest_byte)) Nowhere)
+    (cond (eqb (byte_at b sort_byte) section_sort) (in_section (byte_at b number_byte) (byte_at b nearest_byte))
+    Nowhere)
 
 abbrev pub nearest_in : List ℕ → ℕ
 nearest_in b = byte_at b nearest_byte

@@ -50,7 +50,8 @@ pub record Books : Type 0 where
   -- the last count is checked too, and 16 comes before 17
   pub tracks : numbers_of (like_x 10 3 1 2 5 0 2 ∷ []) ≡ 16 ∷ []
   -- one train, and six; 17 for seven, though the total then differs
-  pub trains : numbers_of (with_trains 8 1 (2 ∷ 2 ∷ []) ∷ with_trains 18 6 (replicate 12 0) ∷ like_x 10 3 1 2 1 7 2 ∷ [])
+  pub trains : numbers_of
+      (with_trains 8 1 (2 ∷ 2 ∷ []) ∷ with_trains 18 6 (replicate 12 0) ∷ like_x 10 3 1 2 1 7 2 ∷ [])
       ≡ 0 ∷ 0 ∷ 17 ∷ []
   -- 14 for a byte too many; 14 before 18; 18 for a start at P, and for the last end
   pub routes : numbers_of

@@ -57,6 +57,8 @@ sent_in_the_run = fa 0 0 1 ∷ fa 1 2 1 ∷ am 0 0 1 ∷ fa 0 1 2 ∷ am 1 2 1 �
 -- its 13 records; an FE's has the track at the post run to
 abbrev pub PrintedRun : Type 0
 PrintedRun = logged_records (ran book_x (map bytes_of sent_in_the_run))
-    ≡ record_of (fa 0 0 1) ∷ record_on 1 (fe 0 0 1) ∷ record_of (fa 1 2 1) ∷ record_on 2 (fe 1 2 1) ∷ record_of (am 0 0 1)
-    ∷ record_of (fa 0 1 2) ∷ record_of (afe 0 1 2) ∷ record_of (am 1 2 1) ∷ record_on 1 (fe 0 1 2) ∷ record_of (fa 1 1 0)
+    ≡ record_of (fa 0 0 1) ∷ record_on 1 (fe 0 0 1) ∷ record_of (fa 1 2 1) ∷ record_on 2 (fe 1 2 1)
+    ∷ record_of (am 0 0 1)
+    ∷ record_of (fa 0 1 2) ∷ record_of (afe 0 1 2) ∷ record_of (am 1 2 1) ∷ record_on 1 (fe 0 1 2)
+    ∷ record_of (fa 1 1 0)
     ∷ record_on 1 (fe 1 1 0) ∷ record_of (am 0 1 2) ∷ record_of (am 1 1 0) ∷ []

@@ -65,7 +65,8 @@ numbers_of books = map (λ b. outcome_number (read_alone b).outcome) books
 
 -- the opening of a book with blank stores
 unfoldable pub opened_blank : List ℕ → Opening
-unfolding opening_with refusal unless_refused values_from padded count_below all_below any_below set_below positioned added
+unfolding opening_with refusal unless_refused values_from padded count_below all_below any_below set_below positioned
+    added
     positions_in_order post_after standing code_below within fits arrived feasible room_ahead moves_on completable_by
     completable_in table_of start_tracks track_for smallest largest
 opened_blank book = opening book (replicate table_length 0) (replicate journal_length blank)
@@ -78,7 +79,8 @@ refusal_of book = (opened_blank book).number
 
 -- inputs put to a box in the state s, with a table and a journal
 unfoldable pub ran_with : State → List ℕ → List Record → List Input → Ran
-unfolding run answer refusal unless_refused replaced anew accepted frames_of record_of read_frame message_of bytes_of valid
+unfolding run answer refusal unless_refused replaced anew accepted frames_of record_of read_frame message_of bytes_of
+    valid
     consistent well_formed between next_post standing count_below all_below any_below grantable oldest grants update
     code_below track_for smallest largest
 ran_with s table journal inputs = run table s journal inputs

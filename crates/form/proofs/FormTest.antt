@@ -5,7 +5,8 @@ use Prim.Native.Nat.{ℕ, ◌≤◌}
 use lib.Dec.{ltb}
 use borrow.Author.Tests.{le-ltb}
 use Rattle.line.specs.declared.line.Line.{Line}
-use Rattle.line.specs.Line.{well_formed, posts_in_range, tracks_in_range, sidings_on_line, trains_in_range, routes_on_line}
+use Rattle.line.specs.Line.{well_formed, posts_in_range, tracks_in_range, sidings_on_line, trains_in_range}
+use Rattle.line.specs.Line.{routes_on_line}
 
 -- a route that starts or ends off a line of n posts
 pub off_start : (a e n : ℕ) → n ≤ a → ltb a n && ltb e n ≡ false

@@ -48,7 +48,8 @@ module _ (s : List ℕ) where
         known_kind k e low high =
             let kind : in_range 1 7 (get_or s 3 0) ≡ true = rw (e, le-leb _ _ low, le-leb _ _ high) in
             let r : Refuses (read_checks s) 0 = pass whole (pass (eq-eqb _ _ version) (pass kind none)) in
-            ap (λ n. message_of n (named_move s)) (sym e) ∙ accepted_by (message_of (get_or s 3 0) (named_move s)) Refused r
+            ap (λ n. message_of n (named_move s)) (sym e)
+            ∙ accepted_by (message_of (get_or s 3 0) (named_move s)) Refused r
 
 -- a kind byte below 1 or above 7 is none
 pub not_a_kind : (k : ℕ) → (1 ≤ k → k ≤ 7 → ⊥) → in_range 1 7 k ≡ false

@@ -1,7 +1,8 @@
 -- 01, "The journal": "The journal is a lent run of records, at least 176: kind, train, from, to. An accepted frame is
 -- logged, then each answer in order of sending. Records past the count are untouched." 02, card 2: "The FE record gains
 -- the track number at the post run to, from 1; other records have 0 there." Card 4: "The journal grows to 236 records".
-use Rattle.std.specs.Prelude.{◌≡◌, ◌≢◌, Bool, cond, ◌&&◌, List, ◌++◌, ℕ, ◌+◌, ◌≤◌, ◌<◌, leb, ltb, length, get_or, set, take, drop, replicate}
+use Rattle.std.specs.Prelude.{◌≡◌, ◌≢◌, Bool, cond, ◌&&◌, List, ◌++◌, ℕ, ◌+◌, ◌≤◌, ◌<◌, leb, ltb, length, get_or, set}
+use Rattle.std.specs.Prelude.{take, drop, replicate}
 use Rattle.line.specs.Line.{tracks_at}
 use Rattle.frame.specs.Frame.{FA, FE, AFE, AM, LA, LE, LB, frame_bytes, bytes_of}
 use Rattle.frame.specs.RoundTrip.{IsMessage}

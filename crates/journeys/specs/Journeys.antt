@@ -27,7 +27,8 @@ pub record Lost : Type 0 where
   pub unheard : box_statuses (on_x (pressed 0 Ask ∷ [])) (0 ∷ []) ≡ Free ∷ []
   pub waits : phases_in (on_x (pressed 0 Ask ∷ [])) (0 ∷ []) ≡ Asked ∷ []
   pub short : box_statuses (on_x (pressed 0 Ask ∷ to_box 0 [] ∷ [])) (0 ∷ []) ≡ Free ∷ []
-  pub again : phases_in (on_x (pressed 0 Ask ∷ pressed 0 Again ∷ at_the_box 1 ∷ to_unit 2 0 ∷ [])) (0 ∷ []) ≡ Granted ∷ []
+  pub again : phases_in (on_x (pressed 0 Ask ∷ pressed 0 Again ∷ at_the_box 1 ∷ to_unit 2 0 ∷ [])) (0 ∷ [])
+      ≡ Granted ∷ []
 
 -- "repeat": the FA comes twice and is answered twice; of the two FEs the unit takes the first and refuses the other
 abbrev pub twice : List PairEvent
@@ -69,7 +70,8 @@ pub record Elsewhere : Type 0 where
   pub am_heard : unit_number (on_x reported_at_one) 1 2 ≡ 6
   pub fe_back : verdict_on book_x (on_x authorised) 1 ≡ RefusedBy 6
   pub fe_passed : unit_number (on_x (pressed 1 Ask ∷ authorised)) 0 2 ≡ 0
-  pub phases : phases_in (on_x (pressed 1 Ask ∷ pressed 0 Ask ∷ at_the_box 1 ∷ to_unit 2 1 ∷ to_unit 2 0 ∷ [])) (0 ∷ 1 ∷ [])
+  pub phases : phases_in (on_x (pressed 1 Ask ∷ pressed 0 Ask ∷ at_the_box 1 ∷ to_unit 2 1 ∷ to_unit 2 0 ∷ []))
+      (0 ∷ 1 ∷ [])
       ≡ Granted ∷ Asked ∷ []
 
 -- "LA and LB at the dispatcher": a gang has the section before train 0 asks, and gives it back
@@ -89,7 +91,8 @@ pub record BesideAGang : Type 0 where
   pub granted : phases_in (on_x (gang_first ++ called (bytes_of (lb 0 1)) ∷ at_the_box 4 ∷ to_unit 5 0 ∷ [])) (0 ∷ [])
       ≡ Granted ∷ []
   -- while a unit is under way the gang does not get its section
-  pub taken : verdict_on book_x (on_x (authorised ++ to_unit 1 0 ∷ pressed 0 Depart ∷ called (bytes_of (la 0 1)) ∷ [])) 2
+  pub taken : verdict_on book_x (on_x (authorised ++ to_unit 1 0 ∷ pressed 0 Depart ∷ called (bytes_of (la 0 1)) ∷ []))
+      2
       ≡ RefusedBy 24
 
 -- no event: a train that the line has not, a frame that was not sent, and a gang that sends anything but LA and LB
@@ -115,7 +118,8 @@ both_at_one =
 -- train 0 asks too, FA 8; the old FE 3 comes after its FE 9; both go on, and arrive
 abbrev pub both_gone : List PairEvent
 both_gone =
-    both_at_one ++ pressed 0 Ask ∷ at_the_box 8 ∷ to_unit 9 0 ∷ to_unit 3 0 ∷ to_unit 7 1 ∷ pressed 0 Depart ∷ pressed 1 Depart
+    both_at_one ++ pressed 0 Ask ∷ at_the_box 8 ∷ to_unit 9 0 ∷ to_unit 3 0 ∷ to_unit 7 1 ∷ pressed 0 Depart
+    ∷ pressed 1 Depart
     ∷ pressed 0 Reached ∷ pressed 1 Reached ∷ []
 
 -- their AMs are 10 and 11: 11 comes first, 10 twice, and the AM of train 0's first move once more
@@ -126,7 +130,8 @@ both_reported =
 -- "each unit that is Granted, Under way or Arrived has a Running train with the same move at the dispatcher"
 pub record BothCovered : Type 0 where
   pub granted : phases_in (on_x both_granted) (0 ∷ 1 ∷ []) ≡ Granted ∷ Granted ∷ []
-  pub ready : box_statuses (on_x both_granted) (0 ∷ 1 ∷ []) ≡ Running (record { 0 = 1 }) ∷ Running (record { 0 = 2 }) ∷ []
+  pub ready : box_statuses (on_x both_granted) (0 ∷ 1 ∷ [])
+      ≡ Running (record { 0 = 1 }) ∷ Running (record { 0 = 2 }) ∷ []
   pub under_way : phases_in (on_x both_under_way) (0 ∷ 1 ∷ []) ≡ UnderWay ∷ UnderWay ∷ []
   pub running : box_statuses (on_x both_under_way) (0 ∷ 1 ∷ [])
       ≡ Running (record { 0 = 1 }) ∷ Running (record { 0 = 2 }) ∷ []

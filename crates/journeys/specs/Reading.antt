@@ -32,7 +32,8 @@ use Rattle.pair.specs.Together.{section_ahead, unit_place}
 unfoldable pub pair_after : List ℕ → List PairEvent → Pair
 unfolding answer refusal unless_refused replaced anew accepted frames_of record_of read_frame message_of bytes_of valid
     consistent well_formed between next_post standing count_below all_below any_below grantable oldest grants update
-    code_below track_for smallest largest values_from padded added same_phase numbers_fit valid_unit make_unit carried_out
+    code_below track_for smallest largest values_from padded added same_phase numbers_fit valid_unit make_unit
+    carried_out
     press_button for_move phase_after hear_frame first_frames stepped run_pair
 pair_after book events =
     run_pair (opened_blank book).table
@@ -79,9 +80,11 @@ unfolding answer refusal unless_refused replaced anew accepted frames_of record_
     consistent well_formed between next_post standing count_below all_below any_below grantable oldest grants update
     code_below track_for smallest largest
 verdict_on book p n =
-    (answer_in (opened_blank book).table p (record { frame = get_or p.sent n []; out = replicate out_length 0 })).verdict
+    (answer_in (opened_blank book).table p
+    (record { frame = get_or p.sent n []; out = replicate out_length 0 })).verdict
 
 unfoldable pub unit_number : Pair → ℕ → ℕ → ℕ
-unfolding refusal unless_refused read_frame message_of between next_post same_phase numbers_fit valid_unit for_move phase_after
+unfolding refusal unless_refused read_frame message_of between next_post same_phase numbers_fit valid_unit for_move
+    phase_after
     hear_frame
 unit_number p t n = (hear_frame (p.units t) (get_or p.sent n [])).refusal

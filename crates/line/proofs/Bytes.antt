@@ -129,7 +129,8 @@ position_byte (x ∷ xs) zero j h l =
     rw e (get_or-append (long_word_bytes x) (position_bytes xs) 0 j l)
 position_byte (x ∷ xs) (suc p) j h l =
     let e : 4 * suc p + j ≡ 4 + (4 * p + j) = omega arith in
-    rw e (get_or-append-add (long_word_bytes x) (position_bytes xs) (4 * p + j) 0 ∙ position_byte xs p j (omega arith) l)
+    rw e (get_or-append-add (long_word_bytes x) (position_bytes xs) (4 * p + j) 0
+    ∙ position_byte xs p j (omega arith) l)
 
 -- the number of its four bytes, whatever stands after the positions
 pub position_is : (xs rest : List ℕ) (p : ℕ) → p < length xs → metres_at xs p < 4294967296

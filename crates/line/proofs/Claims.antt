@@ -81,11 +81,13 @@ module _ (least : ℕ) (b : List ℕ) (unrefused : refusal (book_checks_from lea
   }
 
   counts_same : tabulate (posts_of b) (tracks_at (line_in b)) ≡ tabulate (posts_of b) (λ p. byte_at b (count_at p))
-  counts_same = tabulate_cong (posts_of b) _ _ (λ p h. at_padded 8 (posts_of b) _ 0 p (omega (arith, facts.few_posts)) h)
+  counts_same = tabulate_cong (posts_of b) _ _
+      (λ p h. at_padded 8 (posts_of b) _ 0 p (omega (arith, facts.few_posts)) h)
 
   routes_same : tabulate (trains_of b) (route_of (line_in b)) ≡ tabulate (trains_of b) (route_in b (trains_in b))
   routes_same =
-      tabulate_cong (trains_of b) _ _ (λ t h. at_padded 6 (trains_of b) _ no_route t (omega (arith, facts.few_trains)) h)
+      tabulate_cong (trains_of b) _ _
+      (λ t h. at_padded 6 (trains_of b) _ no_route t (omega (arith, facts.few_trains)) h)
 
   -- the number of trains and their routes are the end of the book
   trains_end : trains_of b ∷ route_bytes (tabulate (trains_of b) (route_of (line_in b))) ≡ drop (trains_in b) b
@@ -108,7 +110,8 @@ module _ (least : ℕ) (b : List ℕ) (unrefused : refusal (book_checks_from lea
 
     -- the positions, before the number of trains
     positions_end : trains_in b ≡ position_at (posts_of b) (0 + positioned_in b)
-        → position_bytes (tabulate (positioned_in b) (metres_at (positions_of b))) ++ drop (trains_in b) b ≡ drop (suc at) b
+        → position_bytes (tabulate (positioned_in b) (metres_at (positions_of b))) ++ drop (trains_in b) b
+        ≡ drop (suc at) b
     positions_end place =
         let first : position_at (posts_of b) 0 ≡ suc at = omega arith in
         let some = positioned_some (edition_of b) (posts_of b) in

@@ -35,7 +35,8 @@ then_positions least b first k s h =
     read_number least b ∙ refusal_is (pass_all (posts_checks least b) refl first (pass k (pass s (stop h))))
 
 -- without positions there are 0 everywhere, which is in order
-none_in_order : (b : List ℕ) → edition_of b ≢ last_edition → positions_in_order (positioned_in b) (positions_of b) ≡ true
+none_in_order : (b : List ℕ) → edition_of b ≢ last_edition
+    → positions_in_order (positioned_in b) (positions_of b) ≡ true
 none_in_order b e =
     let none : positioned_in b ≡ 0 = positioned_none (edition_of b) (posts_of b) e in
     in_order_parts (positioned_in b) (positions_of b)

@@ -9,7 +9,8 @@ use borrow.Author.Tests.{ltb-true, leb-true, lt-ltb, le-leb, lt-leb}
 use Rattle.common.proofs.Tests.{and_left, and_right, and_both}
 use Rattle.common.proofs.Below.{all_below_lem, below_all}
 use Rattle.line.specs.Sorts.{Route, Line}
-use Rattle.line.specs.Line.{route_of, tracks_at, in_range, well_formed, posts_in_range, tracks_in_range, trains_in_range}
+use Rattle.line.specs.Line.{route_of, tracks_at, in_range, well_formed, posts_in_range, tracks_in_range}
+use Rattle.line.specs.Line.{trains_in_range}
 use Rattle.line.specs.Line.{sidings_on_line, routes_on_line}
 use Rattle.line.specs.Route.{route_distance}
 

@@ -1,6 +1,7 @@
 -- 01, "The line and its book", and 02, cards 1 and 5: what the bytes of a book say, when a book is refused, and which
 -- bytes a line has.
-use Rattle.std.specs.Prelude.{cond, ◌&&◌, List, [], ◌∷◌, ◌++◌, ℕ, ◌+◌, ◌*◌, ◌/◌, ◌%◌, leb, ltb, eqb, length, get_or, replicate}
+use Rattle.std.specs.Prelude.{cond, ◌&&◌, List, [], ◌∷◌, ◌++◌, ℕ, ◌+◌, ◌*◌, ◌/◌, ◌%◌, leb, ltb, eqb, length, get_or}
+use Rattle.std.specs.Prelude.{replicate}
 use Rattle.common.specs.Check.{Check, check, refusal, unless_refused}
 use Rattle.common.specs.Tabulate.{tabulate, padded}
 use Rattle.common.specs.Word.{word, long_word, long_word_bytes}

@@ -84,7 +84,8 @@ pub record Positions : Type 0 where
       → ((p q : ℕ) → p < q → q < n → metres_at ps p < metres_at ps q)
       → ((p : ℕ) → p < n → metres_at ps p ≤ 8388607) → positions_in_order n ps ≡ true
   -- 27 "stands after 23", and before 17
-  pub then_positions : (least : ℕ) (b : List ℕ) → refusal (posts_checks least b) ≡ 0 → tracks_in_range (line_in b) ≡ true
+  pub then_positions : (least : ℕ) (b : List ℕ) → refusal (posts_checks least b) ≡ 0
+      → tracks_in_range (line_in b) ≡ true
       → sidings_on_line (line_in b) ≡ true → positions_in_order (positioned_in b) (positions_of b) ≡ false
       → outcome_number (read_from least b).outcome ≡ number.positions
   -- editions 1 and 2 have no positions, and nothing that 27 could refuse

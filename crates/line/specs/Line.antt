@@ -43,4 +43,5 @@ routes_on_line l =
 
 -- all of that; places for posts from P on and trains from T on are not read
 unfoldable pub well_formed : Line → Bool
-well_formed l = posts_in_range l && (tracks_in_range l && (sidings_on_line l && (trains_in_range l && routes_on_line l)))
+well_formed l = posts_in_range l
+    && (tracks_in_range l && (sidings_on_line l && (trains_in_range l && routes_on_line l)))

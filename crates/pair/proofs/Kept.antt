@@ -110,4 +110,5 @@ module _ (l : Line) (table : List ℕ) (p : Pair) (k : Kept l p) where
 pub run_kept : (l : Line) (table : List ℕ) (p : Pair) → Kept l p → (es : List PairEvent) → Kept l (run_pair table p es)
 unfolding run_pair
 run_kept l table p k [] = k
-run_kept l table p k (e ∷ es) = run_kept l table (stepped table p (step_of p e)) (step_kept l table p k (step_of p e) (happens p e)) es
+run_kept l table p k (e ∷ es) =
+run_kept l table (stepped table p (step_of p e)) (step_kept l table p k (step_of p e) (happens p e)) es

@@ -35,7 +35,8 @@ module _ (n : ℕ) (ps : List ℕ) where
       → Refused number.no_place ≡ on_survey n ps (Metres x)
   metres_off x h = refused_by_lem (placed_at n ps x) Refused (omega arith) (pass refl (stop h))
 
-  pub metres_on : (x : Float) → within_line (metres_at ps (n - 1)) x ≡ true → placed_at n ps x ≡ on_survey n ps (Metres x)
+  pub metres_on : (x : Float) → within_line (metres_at ps (n - 1)) x ≡ true
+      → placed_at n ps x ≡ on_survey n ps (Metres x)
   metres_on x h = accepted_by (placed_at n ps x) Refused (pass refl (pass h none))
 
   pub is_missing : Nothing ≡ on_survey n ps Missing

@@ -42,7 +42,8 @@ module _ (n : ℕ) (ps : List ℕ) (x : Float) (s : Surveyed n ps) (on : within_
       pub short : q + 1 < n
       short = by_equality q (n - 1)
           (λ e.
-          let far : metres_at ps (n - 1) * den x < num x = subst (λ (r : ℕ). metres_at ps r * den x < num x) e past_it in
+          let far : metres_at ps (n - 1) * den x < num x =
+          subst (λ (r : ℕ). metres_at ps r * den x < num x) e past_it in
           omega (arith, not_past_last))
           (λ e. omega (arith, post_on_line))
 

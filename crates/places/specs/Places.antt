@@ -81,5 +81,6 @@ pub record PlaceRefusals : Type 0 where
   pub any_post : asked_place book_m (post 255) ≡ Refused 9
   -- the book comes first, whatever the report
   pub second_edition : metres_in (book_of 11 2 3 (1 ∷ 2 ∷ 1 ∷ 0 ∷ []) 2 (0 ∷ 2 ∷ 2 ∷ 0 ∷ [])) 0x7FC0_0000 ≡ Refused 4
-  pub other_edition_lem : asked_place (surveyed 4 (position 0 0 ++ position 3 232 ++ position 7 209)) Missing ≡ Refused 4
+  pub other_edition_lem : asked_place (surveyed 4 (position 0 0 ++ position 3 232 ++ position 7 209)) Missing
+      ≡ Refused 4
   pub positions : asked_place (surveyed 3 (position 0 0 ++ position 3 232 ++ position 3 232)) (post 3) ≡ Refused 27

@@ -33,7 +33,8 @@ tracks_ahead s trains = map (λ t. track_ahead (train_of s t).status) trains
 
 pub record OpenedTracks : Type 0 where
   -- post 1 has four tracks: an up train, a down train, a parked one and a down train stand there
-  pub in_order : tracks_here (opened_blank (book_of 14 1 3 (2 ∷ 4 ∷ 2 ∷ []) 4 (1 ∷ 2 ∷ 1 ∷ 0 ∷ 1 ∷ 1 ∷ 1 ∷ 0 ∷ []))).state
+  pub in_order : tracks_here
+      (opened_blank (book_of 14 1 3 (2 ∷ 4 ∷ 2 ∷ []) 4 (1 ∷ 2 ∷ 1 ∷ 0 ∷ 1 ∷ 1 ∷ 1 ∷ 0 ∷ []))).state
       (0 ∷ 1 ∷ 2 ∷ 3 ∷ []) ≡ 1 ∷ 4 ∷ 2 ∷ 3 ∷ []
   -- by post: on X each has its own; places past the trains have none
   pub by_post : tracks_here (opened_blank book_x).state (0 ∷ 1 ∷ 2 ∷ 5 ∷ []) ≡ 1 ∷ 1 ∷ 0 ∷ 0 ∷ []

@@ -57,7 +57,8 @@ use Rattle.distances.proofs.Evaluated.{answered_all_the_same}
 use Rattle.places.proofs.Evaluated.{places, other_reports, place_refusals}
 use Rattle.repeating.proofs.Evaluated.{repeats_on_x_lem, declined_again, last_move_only, high_counts, grants_nobody}
 use Rattle.repeating.proofs.Evaluated.{last_moves, again_upward, again_elsewhere, lost_authority, lost_report}
-use Rattle.counting.proofs.Evaluated.{last_answered_lem, strange_counts_lem, five_granted_lem, six_granted_lem, fullest_run_lem}
+use Rattle.counting.proofs.Evaluated.{last_answered_lem, strange_counts_lem, five_granted_lem, six_granted_lem}
+use Rattle.counting.proofs.Evaluated.{fullest_run_lem}
 use Rattle.journeys.proofs.Evaluated.{lost, repeated, reordered, delayed, elsewhere, beside_a_gang, no_event}
 use Rattle.journeys.proofs.Evaluated.{both_covered, all_home}
 use Rattle.promises.specs.Claims.{Parts, Cab, OneFrame, WholeLists, BothEnds, InUse, Evaluated}

@@ -11,7 +11,8 @@ use Rattle.rules.specs.State.{train_of, with_train, counting}
 use Rattle.assurance.specs.Types.{Message, State, Verdict, Sent, RefusedBy}
 use Rattle.assurance.specs.Run.{Ran}
 use Rattle.assurance.specs.Observer.{asked, authority}
-use Rattle.examples.specs.Reading.{fa, fe, afe, am, opened_blank, ran_from, ran, verdicts_of, replies_in, logged_records}
+use Rattle.examples.specs.Reading.{fa, fe, afe, am, opened_blank, ran_from, ran, verdicts_of, replies_in}
+use Rattle.examples.specs.Reading.{logged_records}
 use Rattle.examples.specs.Reading.{seen_in}
 use Rattle.examples.specs.Examples.{book_x, book_y}
 use Rattle.cases.specs.Further.{book_z, parked_at}
@@ -48,7 +49,8 @@ pub record RepeatsOnX : Type 0 where
   -- "neither is logged or changes the state": five records, of which the request has number 3, and "The state keeps
   -- each train's last finished move, or none"
   pub records : logged_records repeats_on_x
-      ≡ record_of (fa 0 0 1) ∷ record_on 1 (fe 0 0 1) ∷ record_of (am 0 0 1) ∷ record_of (fa 0 1 2) ∷ record_of (afe 0 1 2)
+      ≡ record_of (fa 0 0 1) ∷ record_on 1 (fe 0 0 1) ∷ record_of (am 0 0 1) ∷ record_of (fa 0 1 2)
+      ∷ record_of (afe 0 1 2)
       ∷ []
   pub statuses : statuses_in repeats_on_x.state (0 ∷ 1 ∷ []) ≡ Asked 3 ∷ Free ∷ []
   pub lasts : lasts_in repeats_on_x.state (0 ∷ 1 ∷ []) ≡ done_from 0 1 ∷ Nothing ∷ []

@@ -20,7 +20,8 @@ hears a = frame (bytes_of a)
 
 -- what the unit of train t from a to e does with some inputs
 unfoldable pub cab_from : ℕ → ℕ → ℕ → List CabInput → List CabExchange
-unfolding refusal unless_refused next_post between bytes_of message_of read_frame same_phase numbers_fit valid_unit make_unit
+unfolding refusal unless_refused next_post between bytes_of message_of read_frame same_phase numbers_fit valid_unit
+    make_unit
     carried_out press_button for_move phase_after hear_frame cab_run
 cab_from t a e inputs = cab_run (make_unit t a e).unit inputs
 

@@ -24,7 +24,8 @@ use Rattle.repeating.specs.InTheCab.{hears, cab_from}
 
 -- the phase of train 0's unit after some inputs
 unfoldable pub phase_in : List CabInput → Phase
-unfolding refusal unless_refused next_post between bytes_of message_of read_frame same_phase numbers_fit valid_unit make_unit
+unfolding refusal unless_refused next_post between bytes_of message_of read_frame same_phase numbers_fit valid_unit
+    make_unit
     carried_out press_button for_move phase_after hear_frame after_all
 phase_in inputs = (after_all (make_unit 0 0 2).unit inputs).phase
 

@@ -164,7 +164,8 @@ module _ (s : State) where
       old [] (arrived_before m (ltb-true _ _ (passed unknown_train)) finished)
   arrival_passed m false other e =
       let passed = passed_by (arrival_content m none) refl e in
-      new (arrival m (next_move_lem m (passed unknown_train) (passed at_its_end) (passed wrong_post)) (passed no_authority))
+      new (arrival m (next_move_lem m (passed unknown_train) (passed at_its_end) (passed wrong_post))
+      (passed no_authority))
 
   content_passed : (a : Message) → for_box a ≡ true → refusal (content_checks s a) ≡ 0 → Content s a
   content_passed (Fa m) kind e =

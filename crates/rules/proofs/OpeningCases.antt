@@ -38,7 +38,8 @@ start_code l = code_cong l.trains (λ t. get_or (replicate 6 0) t 0) start (λ t
     ap (λ (z : List ℕ). get_or z t 0) (padded_none 6 start 0) ∙ past_padded 6 0 start 0 t (omega arith))
 
 -- a train for each of the six routes
-pub opened_fleet : (l : Line) → padded 6 6 (λ t. fresh (route_of l t) (opened_track l t)) no_train ≡ (opened_state l).fleet
+pub opened_fleet : (l : Line)
+    → padded 6 6 (λ t. fresh (route_of l t) (opened_track l t)) no_train ≡ (opened_state l).fleet
 unfolding values_from padded
 opened_fleet l = refl
 
@@ -141,7 +142,8 @@ module _ (book table : List ℕ) (records : ℕ) where
 -- the opening of a line
 opened_line : Line → List ℕ → ℕ → Opening
 opened_line l table records =
-    unless_refused (refusal (stores_check table records ∷ placing_checks l table)) (opened l table) (refused_book l table)
+    unless_refused (refusal (stores_check table records ∷ placing_checks l table)) (opened l table)
+    (refused_book l table)
 
 by_line : (b : List ℕ) (l : Line) (ps : List ℕ) → read_book b ≡ accepted_book l ps → (table : List ℕ) (records : ℕ)
     → opening_with b table records ≡ opened_line l table records

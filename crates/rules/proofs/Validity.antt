@@ -142,7 +142,8 @@ numbers_differ (Asked m) (Asked n) e p q = eqb-false m n (not-true (eqb m n) e)
 numbers_differ (Asked m) (Running k) e p q = absurd (false≢true q)
 numbers_differ (Running k) w e p q = absurd (false≢true p)
 
-different : (v w : Status) → (is_asked v ≡ true → is_asked w ≡ true → asked_as v ≢ asked_as w) → not (same_number v w) ≡ true
+different : (v w : Status) → (is_asked v ≡ true → is_asked w ≡ true → asked_as v ≢ asked_as w)
+    → not (same_number v w) ≡ true
 different Free w h = refl
 different (Asked m) Free h = refl
 different (Asked m) (Asked n) h = rw (ne_eqb m n (h refl refl))

@@ -1,6 +1,7 @@
 -- The answer to a frame: the checks in order, what an accepted frame does, and what is left in state, journal and out
 -- buffer.
-use Rattle.std.specs.Prelude.{◌≡◌, Bool, true, false, not, cond, ◌&&◌, List, [], ◌∷◌, ◌++◌, ℕ, ◌+◌, ◌*◌, leb, ltb, eqb, length}
+use Rattle.std.specs.Prelude.{◌≡◌, Bool, true, false, not, cond, ◌&&◌, List, [], ◌∷◌, ◌++◌, ℕ, ◌+◌, ◌*◌, leb, ltb, eqb}
+use Rattle.std.specs.Prelude.{length}
 use Rattle.std.proofs.Math.Option.{Option, none, some}
 use Rattle.common.specs.Check.{Check, check, refusal, unless_refused}
 use Rattle.common.specs.Part.{replaced}

@@ -1,6 +1,7 @@
 -- The opening of a book: "Opening gives every train Free at its start, count 0, those places all 0 and Free, and the
 -- journal's records untouched."
-use Rattle.std.specs.Prelude.{◌≡◌, Bool, false, cond, ◌&&◌, List, [], ◌∷◌, ◌++◌, ℕ, zero, suc, leb, eqb, length, get_or, replicate}
+use Rattle.std.specs.Prelude.{◌≡◌, Bool, false, cond, ◌&&◌, List, [], ◌∷◌, ◌++◌, ℕ, zero, suc, leb, eqb, length, get_or}
+use Rattle.std.specs.Prelude.{replicate}
 use Rattle.common.specs.Below.{any_below}
 use Rattle.common.specs.Check.{Check, check, refusal, unless_refused}
 use Rattle.common.specs.Tabulate.{tabulate}

@@ -16,7 +16,8 @@ unfolding read_alone numbers_of
 siding_byte = record { read = refl; named = refl; order = refl; lengths = refl; editions = refl }
 
 pub still_needs_a_track : StillNeedsATrack
-unfolding bytes_of opened_blank ran_with replies_in count_below all_below values_from padded added post_after standing within
+unfolding bytes_of opened_blank ran_with replies_in count_below all_below values_from padded added post_after standing
+    within
     fits arrived feasible update
 still_needs_a_track = record { refused = refl; lawful = refl; waits = refl }
 

@@ -95,10 +95,12 @@ pub record PutAway : Type 0 where
   -- "Edition 1 books have no sidings": without one there is no way through
   pub none : map refusal_of (book_terminus 0 ∷ book_of 9 1 2 (2 ∷ 1 ∷ []) 2 (0 ∷ 1 ∷ 0 ∷ 1 ∷ []) ∷ []) ≡ 20 ∷ 20 ∷ []
   -- only at its end: train 1 holds the track at post 1 on its way, and train 0 waits for it
-  pub on_its_way : replies_in (ran book_passing (map bytes_of (fa 1 0 1 ∷ am 1 0 1 ∷ fa 0 0 1 ∷ fa 1 1 2 ∷ am 1 1 2 ∷ [])))
+  pub on_its_way : replies_in
+      (ran book_passing (map bytes_of (fa 1 0 1 ∷ am 1 0 1 ∷ fa 0 0 1 ∷ fa 1 1 2 ∷ am 1 1 2 ∷ [])))
       ≡ (fe 1 0 1 ∷ []) ∷ [] ∷ (afe 0 0 1 ∷ []) ∷ (fe 1 1 2 ∷ []) ∷ (fe 0 0 1 ∷ []) ∷ []
   -- "parked trains included": two are parked in the siding of post 1, and train 2 runs there
-  pub parked : replies_in (ran (book_of 12 2 2 (1 ∷ 1 ∷ 2 ∷ []) 3 (1 ∷ 1 ∷ 1 ∷ 1 ∷ 0 ∷ 1 ∷ [])) (bytes_of (fa 2 0 1) ∷ []))
+  pub parked : replies_in
+      (ran (book_of 12 2 2 (1 ∷ 1 ∷ 2 ∷ []) 3 (1 ∷ 1 ∷ 1 ∷ 1 ∷ 0 ∷ 1 ∷ [])) (bytes_of (fa 2 0 1) ∷ []))
       ≡ (fe 2 0 1 ∷ []) ∷ []
   pub parked_without : refusal_of (book_of 11 1 2 (1 ∷ 1 ∷ []) 3 (1 ∷ 1 ∷ 1 ∷ 1 ∷ 0 ∷ 1 ∷ [])) ≡ 19
 

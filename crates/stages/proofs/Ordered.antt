@@ -24,7 +24,8 @@ begun ps e = record {
   most = λ p h. let z : p ≡ 0 = omega arith in rw (z, e) (omega arith);
 }
 
-pub one_more : {ps : List ℕ} {k : ℕ} → Ordered ps k → metres_at ps (k - 1) < metres_at ps k → metres_at ps k ≤ most_metres
+pub one_more : {ps : List ℕ} {k : ℕ} → Ordered ps k → metres_at ps (k - 1) < metres_at ps k
+    → metres_at ps k ≤ most_metres
     → Ordered ps (k + 1)
 one_more {k = k} o above near = record {
   some = omega arith;

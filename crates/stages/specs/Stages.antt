@@ -3,7 +3,8 @@ use Rattle.std.specs.Prelude.{◌≡◌, List, ◌++◌, ℕ, ◌<◌, length}
 use Rattle.common.specs.Check.{Check, refusal, unless_refused}
 use Rattle.line.specs.declared.line.Line.{Line}
 use Rattle.line.specs.declared.line.Reading.{Reading}
-use Rattle.line.specs.Book.{posts_of, sidings_of, positions_of, trains_in, trains_of, line_in, posts_checks, tracks_checks}
+use Rattle.line.specs.Book.{posts_of, sidings_of, positions_of, trains_in, trains_of, line_in, posts_checks}
+use Rattle.line.specs.Book.{tracks_checks}
 use Rattle.line.specs.Book.{sidings_checks, positions_checks, trains_checks, routes_checks, accepted_book, refused_by}
 pub use Rattle.stages.specs.declared.stage.Stage.{Stage}
 pub use Rattle.stages.specs.declared.stage.Stage.TheVariants.{Passed, Stopped}

@@ -14,7 +14,8 @@ use Rattle.encoding.specs.Types.{State}
 use Rattle.encoding.specs.StateBytes.{ending_bytes, state_bytes, possessions_at, given_at, logged_at, state_length}
 use Rattle.encoding.specs.RoundTrip.{Shaped}
 use Rattle.encoding.proofs.Parts.{At}
-use Rattle.encoding.proofs.Fields.{ending_length, possession_at, given_at_lem, logged_at_lem, state_length_lem, at_ending}
+use Rattle.encoding.proofs.Fields.{ending_length, possession_at, given_at_lem, logged_at_lem, state_length_lem}
+use Rattle.encoding.proofs.Fields.{at_ending}
 use Rattle.placing.proofs.Filled.{Filled, replaced_at, part_begun, byte_more, last_byte, last_part}
 
 -- what the code casts a test to
@@ -51,7 +52,8 @@ module _ (v : State) (seven : length v.possessions ≡ 7) (s : List ℕ) (size :
     pub ending_put : i ≡ 7 → set (set to given_at v.given) logged_at v.logged ≡ ended
     ending_put e =
         let sections : Filled s ended to given_at = subst (λ (k : ℕ). Filled s ended to (possessions_at + k)) e f in
-        let given = byte_more sections _ ((given_at_lem v seven there).byte 0 (omega arith)) (omega (arith, ended_length)) in
+        let given = byte_more sections _ ((given_at_lem v seven there).byte 0 (omega arith))
+        (omega (arith, ended_length)) in
         last_byte given logged_at _ refl ((logged_at_lem v seven there).byte 0 (omega arith)) ended_length
 
 -- a state that is there up to these bytes is there with them

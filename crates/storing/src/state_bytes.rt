@@ -2,7 +2,8 @@
 ghost use Rattle.std.specs.Prelude.{◌≡◌, [], ◌∷◌, length};
 ghost use Rattle.common.specs.Part.{replaced};
 ghost use Rattle.rules.specs.State.{line_of};
-ghost use Rattle.encoding.specs.StateBytes.{status_no, detail, last_no, last_from, last_to, standing_bytes, train_bytes};
+ghost use Rattle.encoding.specs.StateBytes.{status_no, detail, last_no, last_from, last_to};
+ghost use Rattle.encoding.specs.StateBytes.{standing_bytes, train_bytes};
 ghost use Rattle.encoding.specs.StateBytes.{ending_bytes, possessions_at, state_length, state_bytes, state_in};
 
 use encoding::{

@@ -41,7 +41,8 @@ module _ (b : List ℕ) (l : Line) (ps : List ℕ) (is_read : read_positioned b 
 
 module _ (b : List ℕ) (p q v : ℕ) where
   -- the refusal of the question is that of the book
-  pub refused_book_lem : (n : ℕ) → refusal (book_checks_from last_edition b) ≡ n → 0 < n → no_time n ≡ running_time b p q v
+  pub refused_book_lem : (n : ℕ) → refusal (book_checks_from last_edition b) ≡ n → 0 < n
+      → no_time n ≡ running_time b p q v
   unfolding running_time
   refused_book_lem = reading.refused_book_lem last_edition b (question_checks b p q v) (timed (metres b p q) v) no_time
 

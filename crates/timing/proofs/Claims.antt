@@ -119,7 +119,8 @@ module _ (b : List ℕ) (p q v : ℕ) where
 
   other_edition_lem : 4 ≤ length b → named_length b ≡ length b → edition_of b ≢ last_edition
       → running_time b p q v ≡ no_time number.other_edition
-  other_edition_lem long right e = book_first number.other_edition (positions.asked_for_lem b long right e) (λ z. omega arith)
+  other_edition_lem long right e =
+      book_first number.other_edition (positions.asked_for_lem b long right e) (λ z. omega arith)
 
   not_met : (n : ℕ) → ltb 0 n ≡ true → clear n (time_checks b p q v) ≡ true → (running_time b p q v).refusal ≢ n
   not_met n h k = rw time_number (not_given n (time_checks b p q v) (ltb-true 0 n h) k)

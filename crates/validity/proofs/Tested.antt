@@ -27,7 +27,8 @@ use Rattle.rules.proofs.Trains.{running_busy, route_of_lem}
 use Rattle.holding.proofs.Located.{placed_at}
 use Rattle.holding.proofs.HolderSets.{posts_counted, section_counted}
 use Rattle.validity.proofs.OwnTracks.{own_tracks_lem}
-use Rattle.rules.specs.Valid.{last_valid, train_valid, sections_valid, posts_valid, track_valid, tracks_valid, away_valid}
+use Rattle.rules.specs.Valid.{last_valid, train_valid, sections_valid, posts_valid, track_valid, tracks_valid}
+use Rattle.rules.specs.Valid.{away_valid}
 use Rattle.rules.specs.Valid.{number_below, same_number, number_valid, most_given, consistent, most_counted, valid}
 
 -- ---- one train's record
@@ -88,7 +89,8 @@ module _ (s : State) (h : Holders) (held : Held s h) (p : ℕ) (small : p < 8)
       → b ≡ own_tracks tracks (ones (get_or h.posts p 0)) (get_or h.tracks p 0) → place_valid s p ≡ b
   place_tested e b f =
       rw (sym within_same ∙ e) (sym (f ∙ rw (posts_counted s h held p small, held.tracks p small)
-      (own_tracks_lem (λ t. holds_post (located s t) p) (λ t. track_at (train_of s t) p) s.trains tracks (few_tracks e))))
+      (own_tracks_lem (λ t. holds_post (located s t) p) (λ t. track_at (train_of s t) p) s.trains tracks
+      (few_tracks e))))
 
 module _ (tracks h i : ℕ) where
   pub no_tracks : tracks < 1 → false ≡ held_within tracks h i
