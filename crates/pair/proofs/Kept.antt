@@ -111,4 +111,4 @@ pub run_kept : (l : Line) (table : List ℕ) (p : Pair) → Kept l p → (es : L
 unfolding run_pair
 run_kept l table p k [] = k
 run_kept l table p k (e ∷ es) =
-run_kept l table (stepped table p (step_of p e)) (step_kept l table p k (step_of p e) (happens p e)) es
+    run_kept l table (stepped table p (step_of p e)) (step_kept l table p k (step_of p e) (happens p e)) es
