@@ -17,7 +17,8 @@ pub read_routes-routes-requires : goal.read_routes-routes-requires
 read_routes-routes-requires c =
     let bookAt : List ℕ = c.args.book.now in
     let place : c.trains_at-at.result ≡ trains_in bookAt = trains_place c.requires _ c.trains_at-at.ensures in
-    let trains : TrainsRead bookAt c.trains_at-at.result c.in-Passed.trains = let number = c.read_trains-number.ensures in
+    let trains : TrainsRead bookAt c.trains_at-at.result c.in-Passed.trains = let number =
+    c.read_trains-number.ensures in
     trains_read _ number c.in-Passed.is _ place in
     let r = trains in (r.few, omega arith)
 
@@ -25,7 +26,8 @@ pub check_routes-ends-requires : goal.check_routes-ends-requires
 check_routes-ends-requires c =
     let bookAt : List ℕ = c.args.book.now in
     let place : c.trains_at-at.result ≡ trains_in bookAt = trains_place c.requires _ c.trains_at-at.ensures in
-    let trains : TrainsRead bookAt c.trains_at-at.result c.in-Passed.trains = let number = c.read_trains-number.ensures in
+    let trains : TrainsRead bookAt c.trains_at-at.result c.in-Passed.trains = let number =
+    c.read_trains-number.ensures in
     trains_read _ number c.in-Passed.is _ place in
     trains.few
 
@@ -33,7 +35,8 @@ pub returns-in_default-ends : goal.returns-in_default-ends
 returns-in_default-ends c =
     let bookAt : List ℕ = c.args.book.now in
     let place : c.trains_at-at.result ≡ trains_in bookAt = trains_place c.requires _ c.trains_at-at.ensures in
-    let trains : TrainsRead bookAt c.trains_at-at.result c.in-Passed.trains = let number = c.read_trains-number.ensures in
+    let trains : TrainsRead bookAt c.trains_at-at.result c.in-Passed.trains = let number =
+    c.read_trains-number.ensures in
     trains_read _ number c.in-Passed.is _ place in
     let ends = c.check_routes-ends.ensures in
     c.refused-in_default-ends.ensures
@@ -44,7 +47,8 @@ pub returns : goal.returns
 returns c =
     let bookAt : List ℕ = c.args.book.now in
     let place : c.trains_at-at.result ≡ trains_in bookAt = trains_place c.requires _ c.trains_at-at.ensures in
-    let trains : TrainsRead bookAt c.trains_at-at.result c.in-Passed.trains = let number = c.read_trains-number.ensures in
+    let trains : TrainsRead bookAt c.trains_at-at.result c.in-Passed.trains = let number =
+    c.read_trains-number.ensures in
     trains_read _ number c.in-Passed.is _ place in
     let ends = c.check_routes-ends.ensures in
     routes_read _ c.requires trains _ refl refl refl refl

@@ -33,7 +33,8 @@ returns-in-1 c =
     let size : length bytes ≡ 7 = c.if-frame-ne-FRAME_LENGTH.false in
     let five : word (get_or bytes 0 0) (get_or bytes 1 0) ≡ 5 = omega arith in
     let version : get_or bytes 2 0 ≡ 1 = c.if-frame-ne1.false in
-    let arm : (k : ℕ) → get_or bytes 3 0 ≡ k → 1 ≤ k → k ≤ 7 → message_of k (named_move bytes) ≡ read_frame bytes = known_kind bytes size five version in
+    let arm : (k : ℕ) → get_or bytes 3 0 ≡ k → 1 ≤ k → k ≤ 7
+    → message_of k (named_move bytes) ≡ read_frame bytes = known_kind bytes size five version in
     arm 1 c.in-1.is (omega arith) (omega arith)
 
 pub returns-in-2 : goal.returns-in-2
@@ -43,7 +44,8 @@ returns-in-2 c =
     let size : length bytes ≡ 7 = c.if-frame-ne-FRAME_LENGTH.false in
     let five : word (get_or bytes 0 0) (get_or bytes 1 0) ≡ 5 = omega arith in
     let version : get_or bytes 2 0 ≡ 1 = c.if-frame-ne1.false in
-    let arm : (k : ℕ) → get_or bytes 3 0 ≡ k → 1 ≤ k → k ≤ 7 → message_of k (named_move bytes) ≡ read_frame bytes = known_kind bytes size five version in
+    let arm : (k : ℕ) → get_or bytes 3 0 ≡ k → 1 ≤ k → k ≤ 7
+    → message_of k (named_move bytes) ≡ read_frame bytes = known_kind bytes size five version in
     arm 2 c.in-2.is (omega arith) (omega arith)
 
 pub returns-in-3 : goal.returns-in-3
@@ -53,7 +55,8 @@ returns-in-3 c =
     let size : length bytes ≡ 7 = c.if-frame-ne-FRAME_LENGTH.false in
     let five : word (get_or bytes 0 0) (get_or bytes 1 0) ≡ 5 = omega arith in
     let version : get_or bytes 2 0 ≡ 1 = c.if-frame-ne1.false in
-    let arm : (k : ℕ) → get_or bytes 3 0 ≡ k → 1 ≤ k → k ≤ 7 → message_of k (named_move bytes) ≡ read_frame bytes = known_kind bytes size five version in
+    let arm : (k : ℕ) → get_or bytes 3 0 ≡ k → 1 ≤ k → k ≤ 7
+    → message_of k (named_move bytes) ≡ read_frame bytes = known_kind bytes size five version in
     arm 3 c.in-3.is (omega arith) (omega arith)
 
 pub returns-in-4 : goal.returns-in-4
@@ -63,7 +66,8 @@ returns-in-4 c =
     let size : length bytes ≡ 7 = c.if-frame-ne-FRAME_LENGTH.false in
     let five : word (get_or bytes 0 0) (get_or bytes 1 0) ≡ 5 = omega arith in
     let version : get_or bytes 2 0 ≡ 1 = c.if-frame-ne1.false in
-    let arm : (k : ℕ) → get_or bytes 3 0 ≡ k → 1 ≤ k → k ≤ 7 → message_of k (named_move bytes) ≡ read_frame bytes = known_kind bytes size five version in
+    let arm : (k : ℕ) → get_or bytes 3 0 ≡ k → 1 ≤ k → k ≤ 7
+    → message_of k (named_move bytes) ≡ read_frame bytes = known_kind bytes size five version in
     arm 4 c.in-4.is (omega arith) (omega arith)
 
 pub returns-in-5 : goal.returns-in-5
@@ -73,7 +77,8 @@ returns-in-5 c =
     let size : length bytes ≡ 7 = c.if-frame-ne-FRAME_LENGTH.false in
     let five : word (get_or bytes 0 0) (get_or bytes 1 0) ≡ 5 = omega arith in
     let version : get_or bytes 2 0 ≡ 1 = c.if-frame-ne1.false in
-    let arm : (k : ℕ) → get_or bytes 3 0 ≡ k → 1 ≤ k → k ≤ 7 → message_of k (named_move bytes) ≡ read_frame bytes = known_kind bytes size five version in
+    let arm : (k : ℕ) → get_or bytes 3 0 ≡ k → 1 ≤ k → k ≤ 7
+    → message_of k (named_move bytes) ≡ read_frame bytes = known_kind bytes size five version in
     arm 5 c.in-5.is (omega arith) (omega arith)
 
 pub returns-in-6 : goal.returns-in-6
@@ -83,7 +88,8 @@ returns-in-6 c =
     let size : length bytes ≡ 7 = c.if-frame-ne-FRAME_LENGTH.false in
     let five : word (get_or bytes 0 0) (get_or bytes 1 0) ≡ 5 = omega arith in
     let version : get_or bytes 2 0 ≡ 1 = c.if-frame-ne1.false in
-    let arm : (k : ℕ) → get_or bytes 3 0 ≡ k → 1 ≤ k → k ≤ 7 → message_of k (named_move bytes) ≡ read_frame bytes = known_kind bytes size five version in
+    let arm : (k : ℕ) → get_or bytes 3 0 ≡ k → 1 ≤ k → k ≤ 7
+    → message_of k (named_move bytes) ≡ read_frame bytes = known_kind bytes size five version in
     arm 6 c.in-6.is (omega arith) (omega arith)
 
 pub returns-in-7 : goal.returns-in-7
@@ -93,7 +99,8 @@ returns-in-7 c =
     let size : length bytes ≡ 7 = c.if-frame-ne-FRAME_LENGTH.false in
     let five : word (get_or bytes 0 0) (get_or bytes 1 0) ≡ 5 = omega arith in
     let version : get_or bytes 2 0 ≡ 1 = c.if-frame-ne1.false in
-    let arm : (k : ℕ) → get_or bytes 3 0 ≡ k → 1 ≤ k → k ≤ 7 → message_of k (named_move bytes) ≡ read_frame bytes = known_kind bytes size five version in
+    let arm : (k : ℕ) → get_or bytes 3 0 ≡ k → 1 ≤ k → k ≤ 7
+    → message_of k (named_move bytes) ≡ read_frame bytes = known_kind bytes size five version in
     arm 7 c.in-7.is (omega arith) (omega arith)
 
 pub returns-in-0 : goal.returns-in-0
@@ -102,7 +109,9 @@ returns-in-0 c =
     let size : length bytes ≡ 7 = c.if-frame-ne-FRAME_LENGTH.false in
     let five : word (get_or bytes 0 0) (get_or bytes 1 0) ≡ 5 = omega arith in
     let version : get_or bytes 2 0 ≡ 1 = c.if-frame-ne1.false in
-    let no_arm : (1 ≤ get_or bytes 3 0 → get_or bytes 3 0 ≤ 7 → ⊥) → Refused unknown_kind ≡ read_frame bytes = λ h. other_kind bytes size five version (not_a_kind (get_or bytes 3 0) h) in
+    let no_arm : (1 ≤ get_or bytes 3 0 → get_or bytes 3 0 ≤ 7 → ⊥)
+    → Refused unknown_kind ≡ read_frame bytes =
+    λ h. other_kind bytes size five version (not_a_kind (get_or bytes 3 0) h) in
     no_arm (λ low high. omega arith)
 
 pub returns-in-0-2 : goal.returns-in-0-2
@@ -112,5 +121,7 @@ returns-in-0-2 c =
     let size : length bytes ≡ 7 = c.if-frame-ne-FRAME_LENGTH.false in
     let five : word (get_or bytes 0 0) (get_or bytes 1 0) ≡ 5 = omega arith in
     let version : get_or bytes 2 0 ≡ 1 = c.if-frame-ne1.false in
-    let no_arm : (1 ≤ get_or bytes 3 0 → get_or bytes 3 0 ≤ 7 → ⊥) → Refused unknown_kind ≡ read_frame bytes = λ h. other_kind bytes size five version (not_a_kind (get_or bytes 3 0) h) in
+    let no_arm : (1 ≤ get_or bytes 3 0 → get_or bytes 3 0 ≤ 7 → ⊥)
+    → Refused unknown_kind ≡ read_frame bytes =
+    λ h. other_kind bytes size five version (not_a_kind (get_or bytes 3 0) h) in
     no_arm (out_of_range 7 _ c.before.in-0.in-0-own.rest.0)

@@ -29,7 +29,8 @@ returns-then-not-in_range-2 c =
     let long : 4 ≤ length bookAt = omega arith in
     let right : named_length bookAt ≡ length bookAt = omega arith in
     let leastAt : ℕ = c.args.least in
-    let edition : in_range leastAt last_edition (edition_of bookAt) ≡ true = sym c.in_range.ensures ∙ c.if-not-in_range.false in
+    let edition : in_range leastAt last_edition (edition_of bookAt) ≡ true =
+    sym c.in_range.ensures ∙ c.if-not-in_range.false in
     let off = sym c.in_range-2.ensures ∙ c.if-not-in_range-2.true in
     posts_range _ _ long right edition off
 
@@ -39,7 +40,8 @@ returns-then-book-trains_at c =
     let long : 4 ≤ length bookAt = omega arith in
     let right : named_length bookAt ≡ length bookAt = omega arith in
     let leastAt : ℕ = c.args.least in
-    let edition : in_range leastAt last_edition (edition_of bookAt) ≡ true = sym c.in_range.ensures ∙ c.if-not-in_range.false in
+    let edition : in_range leastAt last_edition (edition_of bookAt) ≡ true =
+    sym c.in_range.ensures ∙ c.if-not-in_range.false in
     let range : in_range 2 8 (posts_of bookAt) ≡ true = sym c.in_range-2.ensures ∙ c.if-not-in_range-2.false in
     posts_room _ _ long right edition range (omega arith)
 
@@ -49,6 +51,7 @@ returns c =
     let long : 4 ≤ length bookAt = omega arith in
     let right : named_length bookAt ≡ length bookAt = omega arith in
     let leastAt : ℕ = c.args.least in
-    let edition : in_range leastAt last_edition (edition_of bookAt) ≡ true = sym c.in_range.ensures ∙ c.if-not-in_range.false in
+    let edition : in_range leastAt last_edition (edition_of bookAt) ≡ true =
+    sym c.in_range.ensures ∙ c.if-not-in_range.false in
     let range : in_range 2 8 (posts_of bookAt) ≡ true = sym c.in_range-2.ensures ∙ c.if-not-in_range-2.false in
     posts_passed _ _ long right edition range (omega arith)
