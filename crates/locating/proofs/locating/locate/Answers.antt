@@ -14,11 +14,13 @@ returns-in_default c =
 pub on_survey-requires : goal.on_survey-requires
 on_survey-requires c =
     let is_read : read_positioned c.args.book.now
-    ≡ accepted_book c.read_positioned-reading.result.line c.read_positioned-reading.result.positions = read_as last_edition _ c.read_positioned-reading.result c.read_positioned-reading.ensures c.in-Read.is in
+    ≡ accepted_book c.read_positioned-reading.result.line c.read_positioned-reading.result.positions =
+    read_as last_edition _ c.read_positioned-reading.result c.read_positioned-reading.ensures c.in-Read.is in
     is_surveyed _ _ _ is_read
 
 pub returns : goal.returns
 returns c =
     let is_read : read_positioned c.args.book.now
-    ≡ accepted_book c.read_positioned-reading.result.line c.read_positioned-reading.result.positions = read_as last_edition _ c.read_positioned-reading.result c.read_positioned-reading.ensures c.in-Read.is in
+    ≡ accepted_book c.read_positioned-reading.result.line c.read_positioned-reading.result.positions =
+    read_as last_edition _ c.read_positioned-reading.result c.read_positioned-reading.ensures c.in-Read.is in
     c.on_survey.ensures ∙ by_survey _ _ _ _ is_read

@@ -20,7 +20,8 @@ pub overflow_sub-p-in-loop-positions : goal.overflow_sub-p-in-loop-positions
 overflow_sub-p-in-loop-positions c =
     let p : ℕ = c.loop-positions.p in
     let asked : Asked c.args.posts c.args.positions c.args.x p = c.loop-positions.invariant in
-    let past : is_below c.args.x (metres_at c.args.positions p) ≡ true = sym c.is_below.ensures ∙ c.loop-positions-test.true in
+    let past : is_below c.args.x (metres_at c.args.positions p) ≡ true =
+    sym c.is_below.ensures ∙ c.loop-positions-test.true in
     let some : 1 ≤ p = not_first c.args.positions c.args.x (from_zero_lem _ _ asked.surveyed.ordered) _ past in
     omega (arith, some)
 
@@ -28,7 +29,8 @@ pub loop-positions-smaller : goal.loop-positions-smaller
 loop-positions-smaller c =
     let p : ℕ = c.loop-positions.p in
     let asked : Asked c.args.posts c.args.positions c.args.x p = c.loop-positions.invariant in
-    let past : is_below c.args.x (metres_at c.args.positions p) ≡ true = sym c.is_below.ensures ∙ c.loop-positions-test.true in
+    let past : is_below c.args.x (metres_at c.args.positions p) ≡ true =
+    sym c.is_below.ensures ∙ c.loop-positions-test.true in
     let some : 1 ≤ p = not_first c.args.positions c.args.x (from_zero_lem _ _ asked.surveyed.ordered) _ past in
     omega (arith, some)
 
@@ -36,7 +38,8 @@ pub loop-positions-preserved : goal.loop-positions-preserved
 loop-positions-preserved c =
     let p : ℕ = c.loop-positions.p in
     let asked : Asked c.args.posts c.args.positions c.args.x p = c.loop-positions.invariant in
-    let past : is_below c.args.x (metres_at c.args.positions p) ≡ true = sym c.is_below.ensures ∙ c.loop-positions-test.true in
+    let past : is_below c.args.x (metres_at c.args.positions p) ≡ true =
+    sym c.is_below.ensures ∙ c.loop-positions-test.true in
     let i = asked in
     record {
       surveyed = i.surveyed;

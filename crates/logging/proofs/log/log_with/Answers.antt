@@ -14,7 +14,8 @@ pub with_items-records-requires : goal.with_items-records-requires
 with_items-records-requires c =
     let records : List Record = c.args.log.records in
     let batch : Batch = c.args.batch in
-    let count : c.fitting-n.result ≡ fitting (length records) c.args.at batch.n = c.fitting-n.ensures ∙ ap (λ (l : ℕ). fitting l c.args.at batch.n) c.log_length.ensures in
+    let count : c.fitting-n.result ≡ fitting (length records) c.args.at batch.n =
+    c.fitting-n.ensures ∙ ap (λ (l : ℕ). fitting l c.args.at batch.n) c.log_length.ensures in
     let at = c.args.at in
     let n = batch.n in (
       subst⁻¹ (λ (m : ℕ). m ≤ batch_length) count (fitting_few (length records) at n),
@@ -25,7 +26,8 @@ pub returns : goal.returns
 returns c =
     let records : List Record = c.args.log.records in
     let batch : Batch = c.args.batch in
-    let count : c.fitting-n.result ≡ fitting (length records) c.args.at batch.n = c.fitting-n.ensures ∙ ap (λ (l : ℕ). fitting l c.args.at batch.n) c.log_length.ensures in
+    let count : c.fitting-n.result ≡ fitting (length records) c.args.at batch.n =
+    c.fitting-n.ensures ∙ ap (λ (l : ℕ). fitting l c.args.at batch.n) c.log_length.ensures in
     let at = c.args.at in
     c.with_items-records.ensures
     ∙ ap (λ (m : ℕ). paste records at batch.items m) count

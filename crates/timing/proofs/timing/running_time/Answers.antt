@@ -22,21 +22,24 @@ pub returns-then-line-from : goal.returns-then-line-from
 returns-then-line-from c =
     let line : Line = c.read_positioned-reading.result.line in
     let positions : List ℕ = c.read_positioned-reading.result.positions in
-    let is_read : read_positioned c.args.book.now ≡ accepted_book line positions = read_as last_edition _ c.read_positioned-reading.result c.read_positioned-reading.ensures c.in-Read.is in
+    let is_read : read_positioned c.args.book.now ≡ accepted_book line positions =
+    read_as last_edition _ c.read_positioned-reading.result c.read_positioned-reading.ensures c.in-Read.is in
     c.refused-then-line-from.ensures ∙ from_off _ _ _ _ line positions is_read (omega (arith, c.if-line-from.true))
 
 pub returns-then-line-to : goal.returns-then-line-to
 returns-then-line-to c =
     let line : Line = c.read_positioned-reading.result.line in
     let positions : List ℕ = c.read_positioned-reading.result.positions in
-    let is_read : read_positioned c.args.book.now ≡ accepted_book line positions = read_as last_edition _ c.read_positioned-reading.result c.read_positioned-reading.ensures c.in-Read.is in
+    let is_read : read_positioned c.args.book.now ≡ accepted_book line positions =
+    read_as last_edition _ c.read_positioned-reading.result c.read_positioned-reading.ensures c.in-Read.is in
     c.refused-then-line-to.ensures ∙ to_off _ _ _ _ line positions is_read (omega (arith, c.if-line-to.true))
 
 pub returns-then-speed-lt1 : goal.returns-then-speed-lt1
 returns-then-speed-lt1 c =
     let line : Line = c.read_positioned-reading.result.line in
     let positions : List ℕ = c.read_positioned-reading.result.positions in
-    let is_read : read_positioned c.args.book.now ≡ accepted_book line positions = read_as last_edition _ c.read_positioned-reading.result c.read_positioned-reading.ensures c.in-Read.is in
+    let is_read : read_positioned c.args.book.now ≡ accepted_book line positions =
+    read_as last_edition _ c.read_positioned-reading.result c.read_positioned-reading.ensures c.in-Read.is in
     let departs : c.args.«from».0 < line.posts = c.if-line-from.false in
     let arrives : c.args.to.0 < line.posts = c.if-line-to.false in
     c.refused-then-speed-lt1.ensures
@@ -46,7 +49,8 @@ pub returns-then-speed-gt-MOST_SPEED : goal.returns-then-speed-gt-MOST_SPEED
 returns-then-speed-gt-MOST_SPEED c =
     let line : Line = c.read_positioned-reading.result.line in
     let positions : List ℕ = c.read_positioned-reading.result.positions in
-    let is_read : read_positioned c.args.book.now ≡ accepted_book line positions = read_as last_edition _ c.read_positioned-reading.result c.read_positioned-reading.ensures c.in-Read.is in
+    let is_read : read_positioned c.args.book.now ≡ accepted_book line positions =
+    read_as last_edition _ c.read_positioned-reading.result c.read_positioned-reading.ensures c.in-Read.is in
     let departs : c.args.«from».0 < line.posts = c.if-line-from.false in
     let arrives : c.args.to.0 < line.posts = c.if-line-to.false in
     c.refused-then-speed-gt-MOST_SPEED.ensures
@@ -56,7 +60,8 @@ pub bounds-positions-p : goal.bounds-positions-p
 bounds-positions-p c =
     let line : Line = c.read_positioned-reading.result.line in
     let positions : List ℕ = c.read_positioned-reading.result.positions in
-    let is_read : read_positioned c.args.book.now ≡ accepted_book line positions = read_as last_edition _ c.read_positioned-reading.result c.read_positioned-reading.ensures c.in-Read.is in
+    let is_read : read_positioned c.args.book.now ≡ accepted_book line positions =
+    read_as last_edition _ c.read_positioned-reading.result c.read_positioned-reading.ensures c.in-Read.is in
     let departs : c.args.«from».0 < line.posts = c.if-line-from.false in
     let departs-in : c.args.«from».0 < 8 = omega (arith, departs, few_posts _ line positions is_read) in
     departs-in
@@ -65,7 +70,8 @@ pub bounds-positions-q : goal.bounds-positions-q
 bounds-positions-q c =
     let line : Line = c.read_positioned-reading.result.line in
     let positions : List ℕ = c.read_positioned-reading.result.positions in
-    let is_read : read_positioned c.args.book.now ≡ accepted_book line positions = read_as last_edition _ c.read_positioned-reading.result c.read_positioned-reading.ensures c.in-Read.is in
+    let is_read : read_positioned c.args.book.now ≡ accepted_book line positions =
+    read_as last_edition _ c.read_positioned-reading.result c.read_positioned-reading.ensures c.in-Read.is in
     let arrives : c.args.to.0 < line.posts = c.if-line-to.false in
     let arrives_in : c.args.to.0 < 8 = omega (arith, arrives, few_posts _ line positions is_read) in
     arrives_in
@@ -74,7 +80,8 @@ pub timed-requires : goal.timed-requires
 timed-requires c =
     let line : Line = c.read_positioned-reading.result.line in
     let positions : List ℕ = c.read_positioned-reading.result.positions in
-    let is_read : read_positioned c.args.book.now ≡ accepted_book line positions = read_as last_edition _ c.read_positioned-reading.result c.read_positioned-reading.ensures c.in-Read.is in
+    let is_read : read_positioned c.args.book.now ≡ accepted_book line positions =
+    read_as last_edition _ c.read_positioned-reading.result c.read_positioned-reading.ensures c.in-Read.is in
     let departs : c.args.«from».0 < line.posts = c.if-line-from.false in
     let arrives : c.args.to.0 < line.posts = c.if-line-to.false in (
       rw c.apart.ensures (few_metres _ line positions is_read _ _ departs arrives),
@@ -86,7 +93,8 @@ pub returns : goal.returns
 returns c =
     let line : Line = c.read_positioned-reading.result.line in
     let positions : List ℕ = c.read_positioned-reading.result.positions in
-    let is_read : read_positioned c.args.book.now ≡ accepted_book line positions = read_as last_edition _ c.read_positioned-reading.result c.read_positioned-reading.ensures c.in-Read.is in
+    let is_read : read_positioned c.args.book.now ≡ accepted_book line positions =
+    read_as last_edition _ c.read_positioned-reading.result c.read_positioned-reading.ensures c.in-Read.is in
     let departs : c.args.«from».0 < line.posts = c.if-line-from.false in
     let arrives : c.args.to.0 < line.posts = c.if-line-to.false in
     rw (c.timed.ensures, c.apart.ensures, ← metres_read _ line positions is_read)

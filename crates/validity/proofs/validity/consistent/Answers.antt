@@ -14,13 +14,15 @@ returns-then-not-counts_valid c = counts_fail _ (sym c.counts_valid.ensures ∙ 
 pub returns-then-not-trains_valid : goal.returns-then-not-trains_valid
 returns-then-not-trains_valid c =
     let given : State = c.args.state in
-    let counts : counts_valid given.posts given.sidings given.trains given.given ≡ true = sym c.counts_valid.ensures ∙ c.if-not-counts_valid.false in
+    let counts : counts_valid given.posts given.sidings given.trains given.given ≡ true =
+    sym c.counts_valid.ensures ∙ c.if-not-counts_valid.false in
     trains_fail given counts (sym c.trains_valid.ensures ∙ c.if-not-trains_valid.true)
 
 pub places_valid-requires : goal.places_valid-requires
 places_valid-requires c =
     let given : State = c.args.state in
-    let counts : counts_valid given.posts given.sidings given.trains given.given ≡ true = sym c.counts_valid.ensures ∙ c.if-not-counts_valid.false in
+    let counts : counts_valid given.posts given.sidings given.trains given.given ≡ true =
+    sym c.counts_valid.ensures ∙ c.if-not-counts_valid.false in
     let trains : records_valid given ≡ true = sym c.trains_valid.ensures ∙ c.if-not-trains_valid.false in
     let s = given in
     (eight_posts s counts, six_trains s counts, all_placed s counts trains)
@@ -28,7 +30,8 @@ places_valid-requires c =
 pub returns-then-not-places_valid : goal.returns-then-not-places_valid
 returns-then-not-places_valid c =
     let given : State = c.args.state in
-    let counts : counts_valid given.posts given.sidings given.trains given.given ≡ true = sym c.counts_valid.ensures ∙ c.if-not-counts_valid.false in
+    let counts : counts_valid given.posts given.sidings given.trains given.given ≡ true =
+    sym c.counts_valid.ensures ∙ c.if-not-counts_valid.false in
     let trains : records_valid given ≡ true = sym c.trains_valid.ensures ∙ c.if-not-trains_valid.false in
     places_fail given counts trains
     (sym c.places_valid.ensures ∙ c.if-not-places_valid.true)
@@ -36,7 +39,9 @@ returns-then-not-places_valid c =
 pub returns : goal.returns
 returns c =
     let given : State = c.args.state in
-    let counts : counts_valid given.posts given.sidings given.trains given.given ≡ true = sym c.counts_valid.ensures ∙ c.if-not-counts_valid.false in
+    let counts : counts_valid given.posts given.sidings given.trains given.given ≡ true =
+    sym c.counts_valid.ensures ∙ c.if-not-counts_valid.false in
     let trains : records_valid given ≡ true = sym c.trains_valid.ensures ∙ c.if-not-trains_valid.false in
-    let places : all_below given.posts (place_valid given) ≡ true = sym c.places_valid.ensures ∙ c.if-not-places_valid.false in
+    let places : all_below given.posts (place_valid given) ≡ true =
+    sym c.places_valid.ensures ∙ c.if-not-places_valid.false in
     c.numbers_valid.ensures ∙ numbers_decide given counts trains places

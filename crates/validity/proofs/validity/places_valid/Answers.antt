@@ -23,7 +23,8 @@ returns-then-not-own_tracks c =
     let given : State = c.args.state in
     let sets : Holders = c.holders_of-holders.result in
     let low : c.loop-p.p < 8 = omega (arith, c.requires.0, c.loop-p-test.true) in
-    let tested : place_valid given c.loop-p.p ≡ c.own_tracks.result = place_tested given sets c.holders_of-holders.ensures c.loop-p.p low
+    let tested : place_valid given c.loop-p.p ≡ c.own_tracks.result =
+    place_tested given sets c.holders_of-holders.ensures c.loop-p.p low
     _ c.possessed_of-gang.ensures
     (sym c.held_within.ensures ∙ c.if-not-held_within.false) _ c.own_tracks.ensures in
     passing_fails c.loop-p.invariant (omega arith) (tested ∙ c.if-not-own_tracks.true)
@@ -33,7 +34,8 @@ loop-p-preserved c =
     let given : State = c.args.state in
     let sets : Holders = c.holders_of-holders.result in
     let low : c.loop-p.p < 8 = omega (arith, c.requires.0, c.loop-p-test.true) in
-    let tested : place_valid given c.loop-p.p ≡ c.own_tracks.result = place_tested given sets c.holders_of-holders.ensures c.loop-p.p low
+    let tested : place_valid given c.loop-p.p ≡ c.own_tracks.result =
+    place_tested given sets c.holders_of-holders.ensures c.loop-p.p low
     _ c.possessed_of-gang.ensures
     (sym c.held_within.ensures ∙ c.if-not-held_within.false) _ c.own_tracks.ensures in
     passing_more c.loop-p.invariant (omega arith) (tested ∙ c.if-not-own_tracks.false)
