@@ -1,6 +1,5 @@
 -- `next_asked` meets its contract. The loop's invariant: the best so far is the next one among the trains passed.
 use mathlib.Core.Path.{refl}
-use Prim.Native.Nat.{◌-◌}
 use native.Mathlib.Numerals.{add-one}
 use native.Mathlib.Omega.{arith}
 use Rattle.authority.proofs.Askers.{next_none, next_more}
@@ -10,9 +9,8 @@ pub loop-t-init : goal.loop-t-init
 loop-t-init c = (omega arith, next_none _ _)
 
 pub loop-t-preserved : goal.loop-t-preserved
-loop-t-preserved c =
-    (
-      omega arith,
-      rw (c.elder-best.ensures, add-one) (next_more c.args.state c.args.from
-          c.loop-t.t _ _ refl c.loop-t.invariant.1),
-    )
+loop-t-preserved c = (
+  omega arith,
+  rw (c.elder-best.ensures, add-one) (next_more c.args.state c.args.from
+      c.loop-t.t _ _ refl c.loop-t.invariant.1),
+)

@@ -3,7 +3,7 @@
 use mathlib.Core.Path.{◌≡◌, sym, ap, subst, ◌∙◌}
 use mathlib.Core.Bool.{true, false}
 use mathlib.Core.List.{List}
-use Prim.Native.Nat.{ℕ, ◌-◌, ◌≤◌, ◌<◌}
+use Prim.Native.Nat.{ℕ, ◌≤◌, ◌<◌}
 use native.Mathlib.Omega.{arith}
 use Rattle.journal.specs.Journal.{journal_length}
 use Rattle.tracks.specs.Answers.{track_number, NamesTrack}
@@ -26,11 +26,14 @@ pub next_asked-requires : goal.next_asked-requires
 next_asked-requires c =
     let table : List ℕ = c.args.table.now in
     let first : Work = begun c.args.state c.args.entry in
-    let starts : Working table first c.logged-work.result = working_start table c.args.state _ _ c.requires.0 c.requires.1
+    let starts : Working table first c.logged-work.result =
+    working_start table c.args.state _ _ c.requires.0 c.requires.1
     (c.logged-work.ensures
     ∙ ap (λ (b : Batch). progress_with c.args.state b c.args.entry)
     c.empty.ensures) in
-    let kept : (w : Work) → Working table w c.logged-work.result → Working table w c.loop-t.work = λ w g. subst (λ (p : Progress). Working table w p) (sym c.loop-t.invariant.0) (c.again.invariant w g) in
+    let kept : (w : Work) → Working table w c.logged-work.result
+    → Working table w c.loop-t.work =
+    λ w g. subst (λ (p : Progress). Working table w p) (sym c.loop-t.invariant.0) (c.again.invariant w g) in
     let on : Working table first c.loop-t.work = kept first starts in
     let state : State = c.loop-t.work.state in
     let valid-state : consistent state ≡ true = working_valid table first _ on in
@@ -41,11 +44,14 @@ returns-in_default c =
     let table : List ℕ = c.args.table.now in
     let state : State = c.loop-t.work.state in
     let first : Work = begun c.args.state c.args.entry in
-    let starts : Working table first c.logged-work.result = working_start table c.args.state _ _ c.requires.0 c.requires.1
+    let starts : Working table first c.logged-work.result =
+    working_start table c.args.state _ _ c.requires.0 c.requires.1
     (c.logged-work.ensures
     ∙ ap (λ (b : Batch). progress_with c.args.state b c.args.entry)
     c.empty.ensures) in
-    let kept : (w : Work) → Working table w c.logged-work.result → Working table w c.loop-t.work = λ w g. subst (λ (p : Progress). Working table w p) (sym c.loop-t.invariant.0) (c.again.invariant w g) in
+    let kept : (w : Work) → Working table w c.logged-work.result
+    → Working table w c.loop-t.work =
+    λ w g. subst (λ (p : Progress). Working table w p) (sym c.loop-t.invariant.0) (c.again.invariant w g) in
     let on : Working table first c.loop-t.work = kept first starts in
     let none = subst (λ (a : Asker). NextAsked state c.loop-t.from state.trains a)
     c.in_default.is c.next_asked.ensures in
@@ -55,11 +61,14 @@ pub grantable-requires : goal.grantable-requires
 grantable-requires c =
     let table : List ℕ = c.args.table.now in
     let first : Work = begun c.args.state c.args.entry in
-    let starts : Working table first c.logged-work.result = working_start table c.args.state _ _ c.requires.0 c.requires.1
+    let starts : Working table first c.logged-work.result =
+    working_start table c.args.state _ _ c.requires.0 c.requires.1
     (c.logged-work.ensures
     ∙ ap (λ (b : Batch). progress_with c.args.state b c.args.entry)
     c.empty.ensures) in
-    let kept : (w : Work) → Working table w c.logged-work.result → Working table w c.loop-t.work = λ w g. subst (λ (p : Progress). Working table w p) (sym c.loop-t.invariant.0) (c.again.invariant w g) in
+    let kept : (w : Work) → Working table w c.logged-work.result
+    → Working table w c.loop-t.work =
+    λ w g. subst (λ (p : Progress). Working table w p) (sym c.loop-t.invariant.0) (c.again.invariant w g) in
     let on : Working table first c.loop-t.work = kept first starts in
     let state : State = c.loop-t.work.state in
     let valid-state : consistent state ≡ true = working_valid table first _ on in
@@ -74,11 +83,14 @@ pub granted-work-requires-clause-t_bound : goal.granted-work-requires-clause-t_b
 granted-work-requires-clause-t_bound c =
     let table : List ℕ = c.args.table.now in
     let first : Work = begun c.args.state c.args.entry in
-    let starts : Working table first c.logged-work.result = working_start table c.args.state _ _ c.requires.0 c.requires.1
+    let starts : Working table first c.logged-work.result =
+    working_start table c.args.state _ _ c.requires.0 c.requires.1
     (c.logged-work.ensures
     ∙ ap (λ (b : Batch). progress_with c.args.state b c.args.entry)
     c.empty.ensures) in
-    let kept : (w : Work) → Working table w c.logged-work.result → Working table w c.loop-t.work = λ w g. subst (λ (p : Progress). Working table w p) (sym c.loop-t.invariant.0) (c.again.invariant w g) in
+    let kept : (w : Work) → Working table w c.logged-work.result
+    → Working table w c.loop-t.work =
+    λ w g. subst (λ (p : Progress). Working table w p) (sym c.loop-t.invariant.0) (c.again.invariant w g) in
     let on : Working table first c.loop-t.work = kept first starts in
     let state : State = c.loop-t.work.state in
     let valid-state : consistent state ≡ true = working_valid table first _ on in
@@ -94,11 +106,14 @@ pub again-smaller : goal.again-smaller
 again-smaller c =
     let table : List ℕ = c.args.table.now in
     let first : Work = begun c.args.state c.args.entry in
-    let starts : Working table first c.logged-work.result = working_start table c.args.state _ _ c.requires.0 c.requires.1
+    let starts : Working table first c.logged-work.result =
+    working_start table c.args.state _ _ c.requires.0 c.requires.1
     (c.logged-work.ensures
     ∙ ap (λ (b : Batch). progress_with c.args.state b c.args.entry)
     c.empty.ensures) in
-    let kept : (w : Work) → Working table w c.logged-work.result → Working table w c.loop-t.work = λ w g. subst (λ (p : Progress). Working table w p) (sym c.loop-t.invariant.0) (c.again.invariant w g) in
+    let kept : (w : Work) → Working table w c.logged-work.result
+    → Working table w c.loop-t.work =
+    λ w g. subst (λ (p : Progress). Working table w p) (sym c.loop-t.invariant.0) (c.again.invariant w g) in
     let on : Working table first c.loop-t.work = kept first starts in
     let state : State = c.loop-t.work.state in
     let t : TrainNo = c.in-Of.t in
@@ -117,7 +132,9 @@ again-smaller c =
 pub again-preserved : goal.again-preserved
 again-preserved c =
     let table : List ℕ = c.args.table.now in
-    let kept : (w : Work) → Working table w c.logged-work.result → Working table w c.loop-t.work = λ w g. subst (λ (p : Progress). Working table w p) (sym c.loop-t.invariant.0) (c.again.invariant w g) in
+    let kept : (w : Work) → Working table w c.logged-work.result
+    → Working table w c.loop-t.work =
+    λ w g. subst (λ (p : Progress). Working table w p) (sym c.loop-t.invariant.0) (c.again.invariant w g) in
     let state : State = c.loop-t.work.state in
     let t : TrainNo = c.in-Of.t in
     let number : ℕ = c.in-Of.n in
@@ -136,11 +153,14 @@ overflow_add-from c =
     let state : State = c.loop-t.work.state in
     let table : List ℕ = c.args.table.now in
     let first : Work = begun c.args.state c.args.entry in
-    let starts : Working table first c.logged-work.result = working_start table c.args.state _ _ c.requires.0 c.requires.1
+    let starts : Working table first c.logged-work.result =
+    working_start table c.args.state _ _ c.requires.0 c.requires.1
     (c.logged-work.ensures
     ∙ ap (λ (b : Batch). progress_with c.args.state b c.args.entry)
     c.empty.ensures) in
-    let kept : (w : Work) → Working table w c.logged-work.result → Working table w c.loop-t.work = λ w g. subst (λ (p : Progress). Working table w p) (sym c.loop-t.invariant.0) (c.again.invariant w g) in
+    let kept : (w : Work) → Working table w c.logged-work.result
+    → Working table w c.loop-t.work =
+    λ w g. subst (λ (p : Progress). Working table w p) (sym c.loop-t.invariant.0) (c.again.invariant w g) in
     let on : Working table first c.loop-t.work = kept first starts in
     let valid-state : consistent state ≡ true = working_valid table first _ on in
     let room-left : state.logged ≤ journal_length = working_room table first _ on in
@@ -157,11 +177,14 @@ loop-t-preserved c =
     let table : List ℕ = c.args.table.now in
     let state : State = c.loop-t.work.state in
     let first : Work = begun c.args.state c.args.entry in
-    let starts : Working table first c.logged-work.result = working_start table c.args.state _ _ c.requires.0 c.requires.1
+    let starts : Working table first c.logged-work.result =
+    working_start table c.args.state _ _ c.requires.0 c.requires.1
     (c.logged-work.ensures
     ∙ ap (λ (b : Batch). progress_with c.args.state b c.args.entry)
     c.empty.ensures) in
-    let kept : (w : Work) → Working table w c.logged-work.result → Working table w c.loop-t.work = λ w g. subst (λ (p : Progress). Working table w p) (sym c.loop-t.invariant.0) (c.again.invariant w g) in
+    let kept : (w : Work) → Working table w c.logged-work.result
+    → Working table w c.loop-t.work =
+    λ w g. subst (λ (p : Progress). Working table w p) (sym c.loop-t.invariant.0) (c.again.invariant w g) in
     let on : Working table first c.loop-t.work = kept first starts in
     let valid-state : consistent state ≡ true = working_valid table first _ on in
     let t : TrainNo = c.in-Of.t in
@@ -170,8 +193,7 @@ loop-t-preserved c =
     (subst (λ (a : Asker). NextAsked state c.loop-t.from state.trains a) c.in-Of.is
     c.next_asked.ensures) in
     let barred : grantable table state t.0 ≡ false = none_grantable table state _
-    (ap track_number (sym c.in_default-grantable.is) ∙ c.grantable.ensures.0) in
-    (
+    (ap track_number (sym c.in_default-grantable.is) ∙ c.grantable.ensures.0) in (
       c.loop-t.invariant.0,
       tried_more table state _ c.loop-t.invariant.1 _ _ next valid-state barred,
     )
