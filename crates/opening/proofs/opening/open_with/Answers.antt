@@ -21,7 +21,9 @@ pub returns-then-table-lt-TABLE_LENGTH : goal.returns-then-table-lt-TABLE_LENGTH
 returns-then-table-lt-TABLE_LENGTH c = handed _ _ c.refused.ensures ∙ table_short _ _ _ c.if-table-lt-TABLE_LENGTH.true
 
 pub returns-then-records-lt-JOURNAL_LENGTH : goal.returns-then-records-lt-JOURNAL_LENGTH
-returns-then-records-lt-JOURNAL_LENGTH c = handed _ _ c.refused-then-records-lt-JOURNAL_LENGTH.ensures ∙ journal_short _ _ _ c.if-records-lt-JOURNAL_LENGTH.true
+returns-then-records-lt-JOURNAL_LENGTH c =
+    handed _ _ c.refused-then-records-lt-JOURNAL_LENGTH.ensures
+    ∙ journal_short _ _ _ c.if-records-lt-JOURNAL_LENGTH.true
 
 pub returns-in_default : goal.returns-in_default
 returns-in_default c =
@@ -40,7 +42,8 @@ returns-then-not-feasible_start c =
     let line : Line = c.read-reading.result.line in
     let positions : List ℕ = c.read-reading.result.positions in
     let book : List ℕ = c.args.book.now in
-    let is_read : read_book book ≡ accepted_book line positions = read_as first_edition book c.read-reading.result c.read-reading.ensures c.in-Read.is in
+    let is_read : read_book book ≡ accepted_book line positions =
+    read_as first_edition book c.read-reading.result c.read-reading.ensures c.in-Read.is in
     handed _ _ c.refused-then-not-feasible_start.ensures
     ∙ start_overfull _ _ _ long room line positions is_read
     (sym c.feasible_start.ensures ∙ c.if-not-feasible_start.true)
@@ -53,9 +56,11 @@ returns-then-not-bit c =
     let line : Line = c.read-reading.result.line in
     let positions : List ℕ = c.read-reading.result.positions in
     let book : List ℕ = c.args.book.now in
-    let is_read : read_book book ≡ accepted_book line positions = read_as first_edition book c.read-reading.result c.read-reading.ensures c.in-Read.is in
+    let is_read : read_book book ≡ accepted_book line positions =
+    read_as first_edition book c.read-reading.result c.read-reading.ensures c.in-Read.is in
     let fits : feasible line start ≡ true = sym c.feasible_start.ensures ∙ c.if-not-feasible_start.false in
-    let tested : bit_of c.fill.new.table (code line start) ≡ c.bit.result = let is = c.code-start.ensures ∙ start_code line in
+    let tested : bit_of c.fill.new.table (code line start) ≡ c.bit.result = let is =
+    c.code-start.ensures ∙ start_code line in
     ap (bit_of c.fill.new.table) (sym is) ∙ sym c.bit.ensures in
     handed _ _ c.refused-then-not-bit.ensures
     ∙ no_way _ _ _ long room line positions is_read fits _ _
@@ -66,7 +71,8 @@ opened_state-state-requires c =
     let book : List ℕ = c.args.book.now in
     let line : Line = c.read-reading.result.line in
     let positions : List ℕ = c.read-reading.result.positions in
-    let is_read : read_book book ≡ accepted_book line positions = read_as first_edition book c.read-reading.result c.read-reading.ensures c.in-Read.is in
+    let is_read : read_book book ≡ accepted_book line positions =
+    read_as first_edition book c.read-reading.result c.read-reading.ensures c.in-Read.is in
     (line_book.only first_edition (omega arith) book line positions is_read).1.formed
 
 pub returns : goal.returns
@@ -77,9 +83,11 @@ returns c =
     let line : Line = c.read-reading.result.line in
     let positions : List ℕ = c.read-reading.result.positions in
     let book : List ℕ = c.args.book.now in
-    let is_read : read_book book ≡ accepted_book line positions = read_as first_edition book c.read-reading.result c.read-reading.ensures c.in-Read.is in
+    let is_read : read_book book ≡ accepted_book line positions =
+    read_as first_edition book c.read-reading.result c.read-reading.ensures c.in-Read.is in
     let fits : feasible line start ≡ true = sym c.feasible_start.ensures ∙ c.if-not-feasible_start.false in
-    let tested : bit_of c.fill.new.table (code line start) ≡ c.bit.result = let is = c.code-start.ensures ∙ start_code line in
+    let tested : bit_of c.fill.new.table (code line start) ≡ c.bit.result = let is =
+    c.code-start.ensures ∙ start_code line in
     ap (bit_of c.fill.new.table) (sym is) ∙ sym c.bit.ensures in
     rw c.opened_state-state.ensures
     (opens _ _ _ long room line positions is_read fits _ _
