@@ -17,7 +17,8 @@ pub returns : goal.returns
 unfolding anew
 returns c =
     let free : Train = arrived_next c.args.state.sidings (train_of c.args.state c.args.m.train.0) in
-    let record-made : c.arrived-free.result ≡ free = c.arrived-free.ensures ∙ ap (arrived_next c.args.state.sidings) c.train_of.ensures in
+    let record-made : c.arrived-free.result ≡ free =
+    c.arrived-free.ensures ∙ ap (arrived_next c.args.state.sidings) c.train_of.ensures in
     c.take.ensures
     ∙ taken_with c.args.state (Am c.args.m) _ c.requires c.args.table.now _
     record-made _ c.record_of.ensures

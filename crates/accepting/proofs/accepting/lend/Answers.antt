@@ -12,9 +12,12 @@ use Rattle.accepting.proofs.accepting.lend.Goals as goal
 pub returns : goal.returns
 returns c =
     let after : State = c.with_possession-lent.result in
-    let lent : let s = c.args.state in after ≡ with_possession s c.args.m.from.0 true (s.given + 1) = possession_named _ _ c.requires.0 _ c.section.ensures after _ _
+    let lent : let s = c.args.state in
+    after ≡ with_possession s c.args.m.from.0 true (s.given + 1) =
+    possession_named _ _ c.requires.0 _ c.section.ensures after _ _
     c.with_possession-lent.ensures in
-    let asked : c.logged-asked.result ≡ progress_with after empty_batch (record_of (La c.args.m)) = c.logged-asked.ensures
+    let asked : c.logged-asked.result ≡ progress_with after empty_batch (record_of (La c.args.m)) =
+    c.logged-asked.ensures
     ∙ ap (progress_with after c.empty.result) c.record_of.ensures
     ∙ ap (λ (b : Batch). progress_with after b (record_of (La c.args.m)))
     c.empty.ensures in

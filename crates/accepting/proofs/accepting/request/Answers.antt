@@ -25,8 +25,7 @@ decline-requires c =
     let work : Work = settled c.args.table.now (taken c.args.state (Fa c.args.m) asked) in
     let settles : c.take-work.result ≡ progress_of work = c.take-work.ensures
     ∙ taken_with c.args.state (Fa c.args.m) _ c.requires c.args.table.now _
-    record-made _ c.record_of.ensures in
-    (
+    record-made _ c.record_of.ensures in (
       ready_train c.args.state (Fa c.args.m) asked c.requires,
       subst⁻¹ (λ (p : Progress). p.state.logged ≤ journal_length) settles
           (ready_logged c.args.state (Fa c.args.m) asked c.requires c.args.table.now),

@@ -1,7 +1,6 @@
 -- `send` meets its contract. The loop's invariant: the frames of the answers passed are in their places, and the rest
 -- of the buffer is as it was.
 use mathlib.Core.Path.{◌≡◌}
-use Prim.Native.Nat.{◌-◌}
 use native.Mathlib.Omega.{arith}
 use lib.ListN.{length}
 use borrow.Author.Rules.{rules}

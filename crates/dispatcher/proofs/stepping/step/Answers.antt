@@ -24,7 +24,8 @@ returns-then-number-ne0 c =
     let count : ℕ = c.args.records in
     let bytes : List ℕ = c.args.frame.now in
     let buffer : List ℕ = c.args.out.now in
-    let number : c.refusal_of-number.result ≡ refusal (frame_checks s (length table) count bytes (length buffer)) = c.refusal_of-number.ensures in
+    let number : c.refusal_of-number.result ≡ refusal (frame_checks s (length table) count bytes (length buffer)) =
+    c.refusal_of-number.ensures in
     step_refused s table count bytes buffer _ number
     c.if-number-ne0.true _ c.refused.ensures
 
@@ -35,7 +36,8 @@ again-repeat-requires c =
     let table : List ℕ = c.args.table.now in
     let count : ℕ = c.args.records in
     let buffer : List ℕ = c.args.out.now in
-    let number : c.refusal_of-number.result ≡ refusal (frame_checks s (length table) count bytes (length buffer)) = c.refusal_of-number.ensures in
+    let number : c.refusal_of-number.result ≡ refusal (frame_checks s (length table) count bytes (length buffer)) =
+    c.refusal_of-number.ensures in
     let passed : Passed s table (replicate count blank) bytes buffer = step_passed s table count bytes buffer _ number
     c.if-number-ne0.false in
     subst⁻¹ NamesTrain c.read-message.ensures
@@ -48,7 +50,8 @@ told_again-requires c =
     let count : ℕ = c.args.records in
     let bytes : List ℕ = c.args.frame.now in
     let buffer : List ℕ = c.args.out.now in
-    let number : c.refusal_of-number.result ≡ refusal (frame_checks s (length table) count bytes (length buffer)) = c.refusal_of-number.ensures in
+    let number : c.refusal_of-number.result ≡ refusal (frame_checks s (length table) count bytes (length buffer)) =
+    c.refusal_of-number.ensures in
     let passed : Passed s table (replicate count blank) bytes buffer = step_passed s table count bytes buffer _ number
     c.if-number-ne0.false in
     passed.long_out
@@ -60,8 +63,10 @@ returns-then-is_repeat c =
     let count : ℕ = c.args.records in
     let bytes : List ℕ = c.args.frame.now in
     let buffer : List ℕ = c.args.out.now in
-    let number : c.refusal_of-number.result ≡ refusal (frame_checks s (length table) count bytes (length buffer)) = c.refusal_of-number.ensures in
-    let looked-up : told_by c.again-repeat.result ≡ again s (read_frame bytes) = c.again-repeat.ensures ∙ ap (again s) c.read-message.ensures in
+    let number : c.refusal_of-number.result ≡ refusal (frame_checks s (length table) count bytes (length buffer)) =
+    c.refusal_of-number.ensures in
+    let looked-up : told_by c.again-repeat.result ≡ again s (read_frame bytes) =
+    c.again-repeat.ensures ∙ ap (again s) c.read-message.ensures in
     step_again s table count bytes buffer _ number c.if-number-ne0.false _
     (sym looked-up
     ∙ some_told c.again-repeat.result (sym c.is_repeat.ensures ∙ c.if-is_repeat.true))
@@ -74,10 +79,12 @@ accept-work-requires c =
     let count : ℕ = c.args.records in
     let bytes : List ℕ = c.args.frame.now in
     let buffer : List ℕ = c.args.out.now in
-    let number : c.refusal_of-number.result ≡ refusal (frame_checks s (length table) count bytes (length buffer)) = c.refusal_of-number.ensures in
+    let number : c.refusal_of-number.result ≡ refusal (frame_checks s (length table) count bytes (length buffer)) =
+    c.refusal_of-number.ensures in
     let passed : Passed s table (replicate count blank) bytes buffer = step_passed s table count bytes buffer _ number
     c.if-number-ne0.false in
-    let looked-up : told_by c.again-repeat.result ≡ again s (read_frame bytes) = c.again-repeat.ensures ∙ ap (again s) c.read-message.ensures in
+    let looked-up : told_by c.again-repeat.result ≡ again s (read_frame bytes) =
+    c.again-repeat.ensures ∙ ap (again s) c.read-message.ensures in
     let fresh : again s (read_frame bytes) ≡ none = sym looked-up
     ∙ none_told c.again-repeat.result (sym c.is_repeat.ensures ∙ c.if-is_repeat.false) in
     let zero : c.refusal_of-number.result ≡ 0 = c.if-number-ne0.false in
@@ -93,16 +100,17 @@ send-sent-requires c =
     let count : ℕ = c.args.records in
     let bytes : List ℕ = c.args.frame.now in
     let buffer : List ℕ = c.args.out.now in
-    let number : c.refusal_of-number.result ≡ refusal (frame_checks s (length table) count bytes (length buffer)) = c.refusal_of-number.ensures in
+    let number : c.refusal_of-number.result ≡ refusal (frame_checks s (length table) count bytes (length buffer)) =
+    c.refusal_of-number.ensures in
     let passed : Passed s table (replicate count blank) bytes buffer = step_passed s table count bytes buffer _ number
     c.if-number-ne0.false in
-    let looked-up : told_by c.again-repeat.result ≡ again s (read_frame bytes) = c.again-repeat.ensures ∙ ap (again s) c.read-message.ensures in
+    let looked-up : told_by c.again-repeat.result ≡ again s (read_frame bytes) =
+    c.again-repeat.ensures ∙ ap (again s) c.read-message.ensures in
     let fresh : again s (read_frame bytes) ≡ none = sym looked-up
     ∙ none_told c.again-repeat.result (sym c.is_repeat.ensures ∙ c.if-is_repeat.false) in
     let zero : c.refusal_of-number.result ≡ 0 = c.if-number-ne0.false in
     let held : c.accept-work.result ≡ progress_of (anew table s (read_frame bytes)) = c.accept-work.ensures
-    ∙ ap (λ (a : Message). progress_of (anew table s a)) c.read-message.ensures in
-    (
+    ∙ ap (λ (a : Message). progress_of (anew table s a)) c.read-message.ensures in (
       step_some s table count bytes buffer _ number zero fresh _ held,
       step_few s table count bytes buffer _ number zero fresh _ held,
       passed.long_out,
@@ -115,8 +123,10 @@ returns c =
     let count : ℕ = c.args.records in
     let bytes : List ℕ = c.args.frame.now in
     let buffer : List ℕ = c.args.out.now in
-    let number : c.refusal_of-number.result ≡ refusal (frame_checks s (length table) count bytes (length buffer)) = c.refusal_of-number.ensures in
-    let looked-up : told_by c.again-repeat.result ≡ again s (read_frame bytes) = c.again-repeat.ensures ∙ ap (again s) c.read-message.ensures in
+    let number : c.refusal_of-number.result ≡ refusal (frame_checks s (length table) count bytes (length buffer)) =
+    c.refusal_of-number.ensures in
+    let looked-up : told_by c.again-repeat.result ≡ again s (read_frame bytes) =
+    c.again-repeat.ensures ∙ ap (again s) c.read-message.ensures in
     let fresh : again s (read_frame bytes) ≡ none = sym looked-up
     ∙ none_told c.again-repeat.result (sym c.is_repeat.ensures ∙ c.if-is_repeat.false) in
     let zero : c.refusal_of-number.result ≡ 0 = c.if-number-ne0.false in
