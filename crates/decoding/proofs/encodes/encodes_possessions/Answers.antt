@@ -1,5 +1,4 @@
 -- `encodes_possessions` meets its contract. The loop's invariant: the sections passed have 0 or 1.
-use Prim.Native.Nat.{◌-◌}
 use native.Mathlib.Omega.{arith}
 use borrow.Author.Tests.{lt-leb}
 use Rattle.common.proofs.Below.{passing_fails, passing_all}

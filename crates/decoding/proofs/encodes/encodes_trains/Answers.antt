@@ -1,6 +1,5 @@
 -- `encodes_trains` meets its contract. The loop's invariant: the bytes of the trains passed encode one.
 use mathlib.Core.Path.{sym, ◌∙◌}
-use Prim.Native.Nat.{◌-◌}
 use native.Mathlib.Omega.{arith}
 use Rattle.common.proofs.Below.{passing_more, passing_fails, passing_all}
 use Rattle.decoding.proofs.encodes.encodes_trains.Goals as goal

@@ -1,5 +1,4 @@
 -- `fleet_in` meets its contract. The loop's invariant: the trains passed are in their places.
-use Prim.Native.Nat.{◌-◌}
 use native.Mathlib.Omega.{arith}
 use Rattle.decoding.proofs.Lists.{filling_none, filling_more, filling_all}
 use Rattle.decoding.proofs.state_bytes.fleet_in.Goals as goal

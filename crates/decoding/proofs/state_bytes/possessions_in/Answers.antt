@@ -1,6 +1,5 @@
 -- `possessions_in` meets its contract. The loop's invariant: the sections passed are in their places.
 use mathlib.Core.Bool.{false}
-use Prim.Native.Nat.{◌-◌}
 use native.Mathlib.Omega.{arith}
 use Rattle.decoding.proofs.Lists.{filling_none, filling_more, filling_all}
 use Rattle.decoding.proofs.state_bytes.possessions_in.Goals as goal

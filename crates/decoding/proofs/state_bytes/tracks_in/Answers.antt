@@ -1,5 +1,4 @@
 -- `tracks_in` meets its contract. The loop's invariant: the counts of the posts passed are in their places.
-use Prim.Native.Nat.{◌-◌}
 use native.Mathlib.Omega.{arith}
 use Rattle.decoding.proofs.Lists.{filling_none, filling_more, filling_all}
 use Rattle.decoding.proofs.state_bytes.tracks_in.Goals as goal

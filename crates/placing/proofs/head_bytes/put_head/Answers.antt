@@ -15,6 +15,7 @@ returns c =
     let tracked : List ℕ = c.put.new.to in
     let sided : List ℕ = set tracked sidings_byte c.args.sidings in
     let head : List ℕ = head_bytes c.args.posts c.args.tracks c.args.sidings c.args.trains in
-    let written : set sided trains_byte c.args.trains ≡ replaced c.args.to.now 0 head = head_put c.args.posts c.args.tracks c.args.sidings c.args.trains eight
+    let written : set sided trains_byte c.args.trains ≡ replaced c.args.to.now 0 head =
+    head_put c.args.posts c.args.tracks c.args.sidings c.args.trains eight
     c.args.to.now c.requires c.put.ensures in
     written

@@ -1,8 +1,8 @@
 -- `put_line` meets its contract. The loop's invariant: the head and the routes passed are in their places.
 use mathlib.Core.Path.{◌≡◌, ◌∙◌, sym}
-use Prim.Native.Nat.{◌+◌, ◌-◌}
+use Prim.Native.Nat.{◌+◌}
 use native.Mathlib.Omega.{arith}
-use lib.ListN.{length, length-map}
+use lib.ListN.{length}
 use borrow.Author.Rules.{rules}
 use Rattle.encoding.specs.LineBytes.{line_length, route_at, line_bytes}
 use Rattle.encoding.proofs.Fields.{line_length_lem, line_head, at_route}
@@ -13,8 +13,7 @@ pub loop-t-init : goal.loop-t-init
 loop-t-init c =
     let eight : length c.args.line.tracks ≡ 8 = search rules in
     let six : length c.args.line.routes ≡ 6 = search rules in
-    let size : length (line_bytes c.args.line) ≡ line_length = line_length_lem c.args.line eight six in
-    (
+    let size : length (line_bytes c.args.line) ≡ line_length = line_length_lem c.args.line eight six in (
       omega arith,
       head_begun _ _ _ _ eight _ (c.requires ∙ sym size) (omega (arith, size))
           c.put_head.ensures (line_head c.args.line eight six),

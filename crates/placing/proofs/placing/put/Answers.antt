@@ -1,6 +1,5 @@
 -- `put` meets its contract. The loop's invariant: the first i bytes are copied, the rest of the buffer is as it was;
 -- the measure is what is left of the bytes.
-use Prim.Native.Nat.{◌-◌}
 use native.Mathlib.Omega.{arith}
 use Rattle.common.proofs.Part.{left_if}
 use Rattle.placing.proofs.Copying.{one_more, all_put}
