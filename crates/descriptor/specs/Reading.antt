@@ -1,5 +1,5 @@
--- What is read, and what comes of it. A reader may say which bytes it has yet to give, and a writer which bytes it
--- holds, and then so is known which bytes these are; where it does not, there are some.
+-- What is read, and what comes of it. Which bytes a read of a file gives is in no contract, so there are some. Where a
+-- reader says which bytes it has yet to give, as one over memory does, it is these.
 use Rattle.std.specs.Prelude.{◌≡◌, List, ℕ, Option}
 use Rattle.std.specs.Io.KnownBytes.{Consumes, Appends}
 use Rattle.printout.specs.declared.text.Text.{Text}
