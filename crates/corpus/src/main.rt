@@ -2,28 +2,45 @@
 // input's name. What it must print comes from the independent model.
 #![tactic(auto)]
 
-use libc::STDOUT_FILENO;
+use std::env::{Env, FillError};
+use std::rt::Files;
+use std::{fs, io, str};
 
-fn run_file(i: usize) {
-    let mut name = io::buffer();
-    let length = os::arg(i, &mut name);
-    let fd = os::open_read(&name[..length]);
-    if fd < 0 {
-        os::fail(&name[..length]);
-        return;
+// As long as a name can be.
+const NAME_LENGTH: usize = 4096;
+
+// Runs the box over the input that argument `i` names, and says whether there is such an argument.
+fn run_file<R: Env + Files + Print + Eprint>(rt: &R, i: usize) -> io::Result<bool> {
+    let mut bytes = [0u8; NAME_LENGTH];
+    let length = match rt.arg(i, &mut bytes) {
+        Ok(length) => length,
+        Err(FillError::NotPresent) => return Ok(false),
+        Err(FillError::TooLong) => 0,
+    };
+    match str::from_utf8(&bytes[..length]) {
+        Ok(name) => run_named(rt, name)?,
+        Err(error) => eprintln!(rt; "argument {i}: {error}")?,
     }
-    io::write_all(STDOUT_FILENO, b"# ");
-    io::write_all(STDOUT_FILENO, &name[..length]);
-    io::write_all(STDOUT_FILENO, b"\n");
-    descriptor::serve(fd);
-    libc::close(fd);
+    Ok(true)
 }
 
-fn main() {
-    let count = os::arg_count();
+// A file that cannot be opened is named on standard error.
+fn run_named<R: Files + Print + Eprint>(rt: &R, name: &str) -> io::Result<()> {
+    match fs::open(rt, name) {
+        Ok(mut file) => {
+            println!(rt; "# {name}")?;
+            descriptor::serve(&mut file, &mut io::writer(rt))
+        }
+        Err(error) => eprintln!(rt; "{name}: {error}"),
+    }
+}
+
+fn main(rt: HostRuntime) -> io::Result<()> {
+    let mut more = true;
     let mut i: usize = 1;
-    while i < count {
-        run_file(i);
+    while i < usize::MAX && more {
+        more = run_file(&rt, i)?;
         i += 1;
     }
+    Ok(())
 }

@@ -1,35 +1,41 @@
 // The run is read, and what it leaves is printed.
-ghost use Rattle.std.specs.Prelude.{◌≤◌};
+ghost use Rattle.std.specs.Prelude.{◌≤◌, take, OnOk};
+ghost use Rattle.std.specs.Io.KnownBytes.{Appends};
 ghost use Rattle.printout.specs.Text.{text_length};
-ghost use Rattle.descriptor.specs.Reading.{Transcript};
+ghost use Rattle.descriptor.specs.Reading.{Transcript, TranscriptOf, Served};
 
 use crate::reading::read_all;
-use libc::STDOUT_FILENO;
 use printout::{TEXT_LENGTH, Text};
+use std::io;
+use std::io::{Read, Write};
 use table::TABLE_LENGTH;
 
-// Reads a book and frames from the descriptor, and prints the run.
-pub fn serve(fd: i32) {
-    let text = transcript(fd);
+// Reads a book and frames from the input, and prints the run. The error is that of a write.
+pub fn serve<R: Read, W: Write>(input: &mut R, output: &mut W) -> io::Result<()>
+    ensures { OnOk result (Served (R.remaining input.old) (R.remaining input.new)
+        (W.contents output.old) (W.contents output.new)) }
+{
+    let text = transcript(input);
     let bytes = text.bytes;
-    print_first(bytes, text.length);
+    print_first(output, bytes, text.length)
 }
 
-// What is printed for the bytes of the descriptor.
-fn transcript(fd: i32) -> Text
+// What is printed for the bytes of the input.
+fn transcript<R: Read>(input: &mut R) -> Text
     ensures length_le_text_length { result.length ≤ text_length }
     ensures transcript { Transcript result }
+    ensures given { TranscriptOf (R.remaining input.old) (R.remaining input.new) result }
 {
     let mut table = [0u8; TABLE_LENGTH];
-    let console = read_all(fd, &mut table);
+    let console = read_all(input, &mut table);
     intake::printed(console)
 }
 
-// Prints the first `length` bytes, the transcript of some input. Whether all of them were written is
-// not asked.
-fn print_first(bytes: [u8; TEXT_LENGTH], length: usize)
+// Prints the first `length` bytes, the transcript of some input.
+fn print_first<W: Write>(output: &mut W, bytes: [u8; TEXT_LENGTH], length: usize) -> io::Result<()>
     requires length_le_text_length { length ≤ text_length }
     requires transcript { Transcript (record { bytes = bytes; length = length }) }
+    ensures { OnOk result (Appends (W.contents output.old) (W.contents output.new) (take length bytes)) }
 {
-    io::write_all(STDOUT_FILENO, &bytes[..length]);
+    output.write_all(&bytes[..length])
 }

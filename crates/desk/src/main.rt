@@ -2,8 +2,8 @@
 // output.
 #![tactic(auto)]
 
-use libc::STDIN_FILENO;
+use std::io;
 
-fn main() {
-    descriptor::serve(STDIN_FILENO);
+fn main(rt: HostRuntime) -> io::Result<()> {
+    descriptor::serve(&mut rt.stdin(), &mut rt.stdout())
 }

@@ -1,26 +1,21 @@
 -- Laws of a number in decimal.
-use mathlib.Core.Path.{◌≡◌}
-use mathlib.Core.Bool.{cond}
-use mathlib.Core.List.{List, [], ◌∷◌, ◌++◌}
+use mathlib.Core.Path.{◌≡◌, refl, sym, ◌∙◌}
+use mathlib.Core.Logic.{◌⊎◌, inl, inr}
+use mathlib.Core.Bool.{Bool, true, false, cond}
+use mathlib.Core.List.{List, [], ◌∷◌, ◌++◌, append_assoc, append-nil}
 use Prim.Native.Nat.{ℕ, zero, suc, ◌+◌, ◌-◌, ◌*◌, ◌/◌, ◌%◌, ◌^◌, ◌≤◌, ◌<◌}
-use native.Mathlib.Nat.{pow-succ', one-le-pow, pow-le-pow_right}
-use native.Mathlib.Numerals.{unary_clauses}
+use native.Mathlib.Nat.{pow-succ'}
+use native.Mathlib.Numerals.{add-one}
+use lib.Seq.{take_all}
+use Rattle.std.proofs.lemmas.List.{drop-set}
 use native.Mathlib.Omega.{arith}
-use lib.Dec.{eqb, lit<}
-use lib.ListN.{length, length-append}
-use borrow.Author.Tests.{lt-ltb, le-ltb}
-use Rattle.io.specs.Digits.{last_digits, hex_digit_ascii, IsDigitCount}
+use lib.Dec.{eqb, ltb, lit<}
+use lib.ListN.{length, take, drop, set, length-set, length-append, length-drop, drop_of_length-le}
+use borrow.Author.Tests.{ne_eqb, lt-ltb, le-ltb}
 use Rattle.common.proofs.Tests.{by_cases, by_order}
 use Rattle.printout.specs.Lines.{decimal_in, decimal, kind_name, record_line, end_line, book_line}
 use Rattle.printout.specs.Text.{record_line_length, end_line_length}
 use Rattle.printout.specs.Types.{Record}
-
-power_positive : (k : ℕ) → 0 < 10 ^ k
-power_positive k = one-le-pow k 10 (lit< tt)
-
--- the last digit of n
-last : (n : ℕ) → hex_digit_ascii (n % 10) ≡ 48 + n % 10
-last n = rw (lt-ltb (n % 10) 10 (omega arith))
 
 -- one digit, or those of a tenth and one more
 pub decimal_short : (f n : ℕ) → n < 10 → decimal_in (suc f) n ≡ (48 + n % 10) ∷ []
@@ -31,33 +26,64 @@ pub decimal_long : (f n : ℕ) → 10 ≤ n → decimal_in (suc f) n ≡ decimal
 unfolding decimal_in
 decimal_long f n h = rw (le-ltb n 10 h)
 
--- the fewest digits that hold a number are its decimal, where there is room for so many
-pub decimal_is : (f n k : ℕ) → IsDigitCount 10 1 n k → k ≤ f → last_digits 10 k n ≡ decimal_in f n
-decimal_is zero n k w h = absurd (omega (arith, w.0))
-decimal_is (suc f) n zero w h = absurd (omega (arith, w.0))
-decimal_is (suc f) n (suc zero) w h =
-    let few : n < 10 = omega (arith, w.1) in
-    rw (decimal_short f n few, last n)
-decimal_is (suc f) n (suc (suc j)) w h =
-    let most : n < 10 * 10 ^ suc j = rw (← pow-succ' 10 (suc j)) w.1 in
-    let least : 10 ^ j * 10 ≤ n = simp unary_clauses at (w.2 (omega arith)) in
-    let p = power_positive j in
-    let many : 10 ≤ n = omega arith in
-    let one_less : suc j - 1 ≡ j = omega arith in
-    let tenth : IsDigitCount 10 1 (n / 10) (suc j) = (omega arith, omega arith, λ _. rw one_less (omega arith)) in
-    rw (decimal_long f n many, last n, decimal_is f (n / 10) (suc j) tenth (omega arith))
+-- no tenth
+tenth_none : (n : ℕ) → ltb n 10 ≡ eqb (n / 10) 0
+tenth_none n = by_order n 10 (λ few. rw (lt-ltb n 10 few) (grind arith)) (λ many. rw (le-ltb n 10 many) (grind arith))
 
--- a number of 64 bits has at most twenty
-few_digits : (n k : ℕ) → n < 2 ^ 64 → IsDigitCount 10 1 n k → k ≤ 20
-few_digits n k h w =
-    by_order 20 k
-    (λ more.
-    let p : 10 ^ 20 ≤ 10 ^ (k - 1) = pow-le-pow_right {n = 10} (lit< tt) {i = 20} {j = k - 1} (omega arith) in
-    omega (arith, w.2 (omega arith)))
-    (λ few. few)
+-- the digits of n from place f of twenty on are written, and those of m come before them
+pub record Written (n f m : ℕ) (digits : List ℕ) : Type 0 where
+  pub within : f < 20
+  pub places : length digits ≡ 20
+  pub are : decimal n ≡ cond (eqb m 0) [] (decimal_in f m) ++ drop f digits
 
-pub decimal_of : (n k : ℕ) → n < 2 ^ 64 → IsDigitCount 10 1 n k → last_digits 10 k n ≡ decimal n
-decimal_of n k h w = decimal_is 20 n k w (few_digits n k h w)
+-- one more of them
+digit_more : (f n : ℕ) (digits : List ℕ) → f < length digits
+    → decimal_in (f + 1) n ++ drop (f + 1) digits
+    ≡ cond (eqb (n / 10) 0) [] (decimal_in f (n / 10)) ++ drop f (set digits f (48 + n % 10))
+unfolding decimal_in
+digit_more f n digits h =
+    rw (drop-set digits f (48 + n % 10) h, ← tenth_none n, add-one f)
+    (append_assoc _ ((48 + n % 10) ∷ []) (drop (suc f) digits))
+
+-- the last digit
+pub first_written : (n d : ℕ) (digits : List ℕ) → d ≡ 48 + n % 10 → length digits ≡ 20
+    → Written n 19 (n / 10) (set digits 19 d)
+first_written n d digits e h =
+    let none : drop 20 digits ≡ [] = drop_of_length-le digits {i = 20} (omega arith) in
+    let all : decimal n ++ drop 20 digits ≡ decimal n = rw none (append-nil (decimal n)) in
+    record {
+      within = lit< tt;
+      places = rw length-set h;
+      are = sym all ∙ rw e (digit_more 19 n digits (omega arith));
+    }
+
+-- and one before
+pub next_written : (n d f m : ℕ) (digits : List ℕ) → d ≡ 48 + m % 10 → 0 < m → 0 < f → Written n f m digits
+    → Written n (f - 1) (m / 10) (set digits (f - 1) d)
+next_written n d f m digits e p q w =
+    let some : eqb m 0 ≡ false = ne_eqb m 0 (λ z. omega arith) in
+    let next : f - 1 + 1 ≡ f = omega arith in
+    let more = rw next at (digit_more (f - 1) m digits (omega (arith, w.within, w.places))) in
+    record {
+      within = omega (arith, w.within);
+      places = rw length-set w.places;
+      are = rw some at w.are ∙ rw e more;
+    }
+
+both_none : (b : Bool) → cond {A = List ℕ} b [] [] ≡ []
+both_none true = refl
+both_none false = refl
+
+no_more : (n f m : ℕ) (digits : List ℕ) → (m ≡ 0) ⊎ (f ≡ 0) → Written n f m digits → drop f digits ≡ decimal n
+unfolding decimal_in
+no_more n f m digits (inl e) w = rw e at (sym w.are)
+no_more n f m digits (inr e) w = rw e (sym (rw (e, both_none (eqb m 0)) at w.are))
+
+-- and the whole number
+pub all_written : (n f m : ℕ) (digits : List ℕ) → (m ≡ 0) ⊎ (f ≡ 0) → Written n f m digits
+    → take (20 - f) (drop f digits) ≡ decimal n
+all_written n f m digits e w =
+    take_all (20 - f) (drop f digits) (omega (arith, length-drop f digits, w.places)) ∙ no_more n f m digits e w
 
 -- a number below 10 ^ k has at most k digits
 pub decimal_length : (f n k : ℕ) → n < 10 ^ k → 0 < k → length (decimal_in f n) ≤ k

@@ -43,6 +43,7 @@ pub fn with_book(text: Text, refusal: u8) -> Text
     with_word(text, b"\n")
 }
 
+#[tactic(auto, unfolding(crate::specs::Lines::kind_name))]
 fn with_kind(text: Text, kind: u8) -> Text
     ensures { result ≡ followed text (kind_name kind) }
 {

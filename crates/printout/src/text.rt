@@ -1,5 +1,5 @@
 // A text by value. What does not fit any more is left out; all that is printed fits.
-ghost use Rattle.std.specs.Prelude.{◌≡◌, []};
+ghost use Rattle.std.specs.Prelude.{◌≡◌, ◌+◌, ◌%◌, []};
 ghost use Rattle.printout.specs.Text.{text_of, text_with, followed};
 ghost use Rattle.printout.specs.Lines.{decimal};
 
@@ -10,6 +10,9 @@ const END_LINE_LENGTH: usize = 29;
 
 // The longest text: 255 lines of records and the end line.
 pub const TEXT_LENGTH: usize = 255 * RECORD_LINE_LENGTH + END_LINE_LENGTH;
+
+// A number of 64 bits has at most twenty digits.
+const MOST_DIGITS: usize = 20;
 
 // The first `length` bytes are the text.
 #[derive(Clone, Copy)]
@@ -58,7 +61,21 @@ pub fn with_word(text: Text, word: &[u8]) -> Text
 pub fn with_number(text: Text, n: u64) -> Text
     ensures { result ≡ followed text (decimal n) }
 {
-    let mut digits = [0u8; 20];
-    let count = io::decimal(n, &mut digits);
-    with_word(text, &digits[..count])
+    let mut digits = [0u8; MOST_DIGITS];
+    let mut first = MOST_DIGITS - 1;
+    digits[first] = last_digit(n);
+    let mut rest = n / 10;
+    while rest > 0 && first > 0 {
+        first -= 1;
+        digits[first] = last_digit(rest);
+        rest /= 10;
+    }
+    with_word(text, &digits[first..])
+}
+
+// The last digit of a number, in ASCII.
+fn last_digit(n: u64) -> u8
+    ensures { result ≡ 48 + n % 10 }
+{
+    b'0' + (n % 10) as u8
 }
