@@ -1,6 +1,7 @@
 -- `append` meets its contract. The loop's invariant: the bytes are those of the journal with the first k records of the
 -- batch in their places.
-use lib.ListN.{length, length-map}
+use lib.ListN.{length}
+use borrow.Author.Rules.{rules}
 use Rattle.journal.specs.Journal.{batch_length}
 use mathlib.Core.Path.{◌≡◌}
 use Prim.Native.Nat.{◌-◌}
@@ -10,7 +11,7 @@ use Rattle.codec.proofs.journal_bytes.append.Goals as goal
 
 pub loop-k-init : goal.loop-k-init
 loop-k-init c =
-    let seven : length c.args.batch.items ≡ batch_length = simp length-map at c.well_formed.1.1.0.1.1.0.1.0.1 in
+    let seven : length c.args.batch.items ≡ batch_length = search rules in
     start c.args.bytes.now c.args.at c.args.batch seven _ c.fitting-n.ensures
 
 pub loop-k-preserved : goal.loop-k-preserved
