@@ -4,7 +4,6 @@ use lib.ListN.{length}
 use borrow.Author.Rules.{rules}
 use Rattle.journal.specs.Journal.{batch_length}
 use mathlib.Core.Path.{◌≡◌}
-use Prim.Native.Nat.{◌-◌}
 use native.Mathlib.Omega.{arith}
 use Rattle.codec.proofs.Writing.{start, one_more, all_written}
 use Rattle.codec.proofs.journal_bytes.append.Goals as goal

@@ -1,9 +1,9 @@
 -- `put_changes` meets its contract. The loop's invariant: the line is there, the trains passed are in their places, and
 -- what comes after them is as it was.
 use mathlib.Core.Path.{◌≡◌, sym, ◌∙◌}
-use Prim.Native.Nat.{◌+◌, ◌-◌}
+use Prim.Native.Nat.{◌+◌}
 use native.Mathlib.Omega.{arith}
-use lib.ListN.{length, length-map}
+use lib.ListN.{length}
 use borrow.Author.Rules.{rules}
 use Rattle.encoding.specs.Parts.{head_length}
 use Rattle.encoding.specs.LineBytes.{route_length}

@@ -1,7 +1,6 @@
 -- `put_ending` meets its contract. The loop's invariant: the sections passed are in their places, and all else is as it
 -- was.
 use mathlib.Core.Path.{◌≡◌}
-use Prim.Native.Nat.{◌-◌}
 use native.Mathlib.Omega.{arith}
 use lib.ListN.{length, set}
 use borrow.Author.Rules.{rules}
@@ -17,8 +16,7 @@ loop-i-init c =
 
 pub loop-i-preserved : goal.loop-i-preserved
 loop-i-preserved c =
-    let seven : length c.args.state.possessions ≡ 7 = search rules in
-    (
+    let seven : length c.args.state.possessions ≡ 7 = search rules in (
       omega arith,
       section_more c.args.state seven c.args.to.now c.requires c.loop-i.invariant.1 (omega arith),
     )
@@ -27,6 +25,7 @@ pub returns : goal.returns
 returns c =
     let seven : length c.args.state.possessions ≡ 7 = search rules in
     let written : set (set c.loop-i.to given_at c.args.state.given) logged_at c.args.state.logged
-    ≡ replaced c.args.to.now possessions_at (ending_bytes c.args.state) = ending_put c.args.state seven c.args.to.now c.requires c.loop-i.invariant.1
+    ≡ replaced c.args.to.now possessions_at (ending_bytes c.args.state) =
+    ending_put c.args.state seven c.args.to.now c.requires c.loop-i.invariant.1
     (omega (arith, c.loop-i.invariant.0, c.loop-i-test.false)) in
     written

@@ -8,7 +8,8 @@ use Rattle.storing.proofs.state_bytes.put_ending.Given as goal
 
 abbrev pub invariant-loop-i : goal.invariant-loop-i
 invariant-loop-i l =
-    (l.i ≤ 7) × Filled l.initial.to (replaced l.initial.to possessions_at (ending_bytes l.state)) l.to (possessions_at + l.i)
+    (l.i ≤ 7)
+    × Filled l.initial.to (replaced l.initial.to possessions_at (ending_bytes l.state)) l.to (possessions_at + l.i)
 
 abbrev pub decreases-loop-i : goal.decreases-loop-i
 decreases-loop-i l = 7 - l.i

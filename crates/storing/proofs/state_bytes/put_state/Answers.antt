@@ -1,8 +1,8 @@
 -- `put_state` meets its contract. The loop's invariant: the head and the trains passed are in their places.
 use mathlib.Core.Path.{◌≡◌, ◌∙◌, sym}
-use Prim.Native.Nat.{◌+◌, ◌-◌}
+use Prim.Native.Nat.{◌+◌}
 use native.Mathlib.Omega.{arith}
-use lib.ListN.{length, length-map}
+use lib.ListN.{length}
 use borrow.Author.Rules.{rules}
 use Rattle.encoding.specs.StateBytes.{state_length, train_at, state_bytes}
 use Rattle.encoding.specs.RoundTrip.{Shaped}
@@ -15,8 +15,7 @@ pub loop-t-init : goal.loop-t-init
 loop-t-init c =
     let six : length c.args.state.fleet ≡ 6 = search rules in
     let shaped : Shaped c.args.state = record { eight = search rules; six = six; seven = search rules } in
-    let size : length (state_bytes c.args.state) ≡ state_length = state_length_lem c.args.state shaped in
-    (
+    let size : length (state_bytes c.args.state) ≡ state_length = state_length_lem c.args.state shaped in (
       omega arith,
       head_begun _ _ _ _ shaped.eight _ (c.requires ∙ sym size) (omega (arith, size))
           c.put_head.ensures (state_head c.args.state shaped),
