@@ -3,9 +3,9 @@
 #![tactic(auto)]
 
 mod answering;
-mod book;
+mod book_piece;
 mod piece;
 
 pub use answering::with_frame;
-pub use book::with_book;
+pub use book_piece::with_book;
 pub use piece::{is_book, nothing, with_byte};

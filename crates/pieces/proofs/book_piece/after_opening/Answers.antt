@@ -1,6 +1,6 @@
 -- `after_opening` meets its contract.
 use Rattle.console.proofs.Steps.{accepted, refused}
-use Rattle.pieces.proofs.book.after_opening.Goals as goal
+use Rattle.pieces.proofs.book_piece.after_opening.Goals as goal
 
 pub returns-then-opened-eq0 : goal.returns-then-opened-eq0
 returns-then-opened-eq0 c =
