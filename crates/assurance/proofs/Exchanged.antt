@@ -4,7 +4,7 @@ use mathlib.Core.Path.{◌≡◌, refl, sym, ap, subst, ◌∙◌}
 use mathlib.Core.Bool.{true}
 use mathlib.Core.List.Memᴰ
 use mathlib.Core.List.{List, [], ◌∷◌, ◌++◌, map, append_assoc, Memᴰ}
-use Prim.Native.Nat.{ℕ, ◌+◌, ◌≤◌}
+use Prim.Native.Nat.{ℕ, zero, suc, ◌+◌, ◌≤◌}
 use native.Mathlib.Omega.{arith}
 use lib.ListN.{length, take, drop}
 use lib.Seq.{take_at, drop_at}
@@ -63,9 +63,16 @@ read_back (a ∷ l) h =
     ap (λ (b : Message). b ∷ map read_frame (map bytes_of l)) (round_trip.back a (h a (Memᴰ.head refl)))
     ∙ ap (λ (z : List Message). a ∷ z) (read_back l (λ b q. h b (Memᴰ.tail q)))
 
+-- the answers are read from those frames
+pub frames_read : (n : ℕ) (out : List ℕ) → read_frames n out ≡ map read_frame (first_frames n out)
+unfolding read_frames first_frames
+frames_read zero out = refl
+frames_read (suc n) out = ap (λ (l : List Message). read_frame (take 7 out) ∷ l) (frames_read n (drop 7 out))
+
 pub answers_back : (l : List Message) (out : List ℕ) → ((a : Message) → Memᴰ a l → IsMessage a)
     → read_frames (length l) (replaced out 0 (frames_of l)) ≡ l
-answers_back l out h = ap (map read_frame) (frames_back l out) ∙ read_back l h
+answers_back l out h =
+    frames_read (length l) (replaced out 0 (frames_of l)) ∙ (ap (map read_frame) (frames_back l out) ∙ read_back l h)
 
 -- what a repeat is answered by are messages
 pub again_messages : {s : State} {a : Message} {answers : List Message} → Repeats s a answers

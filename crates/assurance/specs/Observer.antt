@@ -1,7 +1,7 @@
 -- The observer (01: tally): "Who asked and who holds is told by a tally, kept from book, frames, answers and refusals,
 -- never from state or journal." 02, card 4: "in the section clause a gang is a holder, from its LE written to its LB
 -- accepted": a second part of the tally has the gangs of each section.
-use Rattle.std.specs.Prelude.{Bool, true, false, cond, ◌&&◌, List, [], ◌∷◌, map, ℕ, zero, suc, ◌+◌, ◌-◌, eqb, take}
+use Rattle.std.specs.Prelude.{Bool, true, false, cond, ◌&&◌, List, [], ◌∷◌, ℕ, zero, suc, ◌+◌, ◌-◌, eqb, take}
 use Rattle.std.specs.Prelude.{drop}
 use Rattle.common.specs.Below.{of_bool}
 use Rattle.common.specs.Update.{update}
@@ -79,22 +79,24 @@ unfoldable pub note_answers : Observer → List Message → Observer
 note_answers o [] = o
 note_answers o (a ∷ l) = note_answers (note_answer o a) l
 
--- the first n frames of an out buffer
+-- the answers are read from the out buffer: its first n frames
+unfoldable pub read_frames : ℕ → List ℕ → List Message
+read_frames zero out = []
+read_frames (suc n) out = read_frame (take 7 out) ∷ read_frames n (drop 7 out)
+
+-- the answers written for a frame; none for a refused one
+abbrev pub answers_of : Verdict → List ℕ → List Message
+answers_of (RefusedBy n) out = []
+answers_of (Sent n) out = read_frames n out
+
+-- the first n frames of an out buffer as bytes, and those written for a frame
 unfoldable pub first_frames : ℕ → List ℕ → List (List ℕ)
 first_frames zero out = []
 first_frames (suc n) out = take 7 out ∷ first_frames n (drop 7 out)
 
--- the answers are read from them
-abbrev pub read_frames : ℕ → List ℕ → List Message
-read_frames n out = map read_frame (first_frames n out)
-
--- the frames written for a frame, none for a refused one, and the answers
 abbrev pub written_frames : Verdict → List ℕ → List (List ℕ)
 written_frames (RefusedBy n) out = []
 written_frames (Sent n) out = first_frames n out
-
-abbrev pub answers_of : Verdict → List ℕ → List Message
-answers_of verdict out = map read_frame (written_frames verdict out)
 
 -- one exchange: "A refused frame changes nothing in it."
 abbrev pub note_by : Observer → List ℕ → Verdict → List ℕ → Observer

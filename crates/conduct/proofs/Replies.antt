@@ -25,7 +25,7 @@ use Rattle.rules.proofs.Acceptance.{NextMove, Taken, request, arrival, lending, 
 use Rattle.rules.proofs.Acceptance.{new_or_again, by_verdict, accepted_facts}
 use Rattle.assurance.specs.Types.{Move, Message, Fa, Fe, Am, Lb, Record, State, Sent}
 use Rattle.assurance.specs.Run.{new_records}
-use Rattle.assurance.specs.Observer.{first_frames, read_frames}
+use Rattle.assurance.specs.Observer.{read_frames}
 use Rattle.conduct.specs.Replies.{Awaited, Authorities, Reply, OnlyAdded, Replies}
 use Rattle.conduct.specs.Replies as replies
 use Rattle.conduct.proofs.Serving.{Serves, begins, settled_serves}
@@ -171,7 +171,7 @@ module _ (s : State) (table : List ℕ) (journal : List Record) (frame out : Lis
       some_same z = ap or_none z
 
   read_count : (k : ℕ) (b : List ℕ) → length (read_frames k b) ≡ k
-  unfolding first_frames
+  unfolding read_frames
   read_count zero b = refl
   read_count (suc k) b = ap suc (read_count k (drop 7 b))
 

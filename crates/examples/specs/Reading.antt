@@ -25,7 +25,7 @@ use Rattle.rules.specs.Answer.{out_length, anew, accepted, frames_of, answer}
 use Rattle.rules.specs.Opening.{Opening, start_tracks, opening_with, opening}
 use Rattle.assurance.specs.Types.{Message, Fa, Fe, Afe, Am, La, Le, Lb, Record, State, Verdict}
 use Rattle.assurance.specs.Run.{Input, Ran, run}
-use Rattle.assurance.specs.Observer.{Seen, first_frames, answers_of, at_opening, note_answers, observe}
+use Rattle.assurance.specs.Observer.{Seen, read_frames, answers_of, at_opening, note_answers, observe}
 
 -- ---- messages, by train, from and to
 
@@ -103,7 +103,7 @@ verdicts_of r = map (λ e. e.verdict) r.exchanges
 
 -- the answers to each frame, read from its out buffer
 unfoldable pub replies_in : Ran → List (List Message)
-unfolding first_frames read_frame refusal unless_refused message_of
+unfolding read_frames read_frame refusal unless_refused message_of
 replies_in r = map (λ e. answers_of e.verdict e.out) r.exchanges
 
 -- the records in the journal
@@ -121,5 +121,5 @@ tracks_given r = tracks_among (logged_records r)
 
 -- what the observer has of train t
 unfoldable pub seen_in : List ℕ → Ran → ℕ → Seen
-unfolding padded values_from added observe note_answers update first_frames read_frame refusal unless_refused message_of
+unfolding padded values_from added observe note_answers update read_frames read_frame refusal unless_refused message_of
 seen_in book r t = (observe (at_opening (line_in book)) r.exchanges).train t

@@ -15,7 +15,7 @@ use Rattle.rules.specs.State.{track_ahead, train_of, with_train}
 use Rattle.rules.specs.Opening.{start_tracks}
 use Rattle.assurance.specs.Types.{Message, State, Verdict, Sent, RefusedBy}
 use Rattle.assurance.specs.Run.{Ran}
-use Rattle.assurance.specs.Observer.{first_frames, at_opening, note_answers}
+use Rattle.assurance.specs.Observer.{read_frames, at_opening, note_answers}
 use Rattle.assurance.specs.Tracks.{TracksTold, tracks_at_opening, track_records, observe_tracks}
 use Rattle.examples.specs.Reading.{fa, am, opened_blank, ran_from, ran, verdicts_of, tracks_given}
 use Rattle.examples.specs.Examples.{book_x, sent_in_the_run}
@@ -66,7 +66,7 @@ pub record TracksInTurn : Type 0 where
 -- ---- as the observer tells it
 
 unfoldable pub told_in : List ℕ → Ran → ℕ → TracksTold
-unfolding padded values_from added observe_tracks track_records note_answers update first_frames read_frame refusal
+unfolding padded values_from added observe_tracks track_records note_answers update read_frames read_frame refusal
     unless_refused message_of start_tracks track_for smallest largest any_below standing post_after
 told_in book r t = let l = line_in book in observe_tracks l (at_opening l) (tracks_at_opening l) r.exchanges t
 

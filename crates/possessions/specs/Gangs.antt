@@ -10,7 +10,7 @@ use Rattle.completion.specs.Table.{table_length}
 use Rattle.rules.specs.State.{state_with, with_possession}
 use Rattle.assurance.specs.Types.{Message, La, Lb, State, Verdict, Sent, RefusedBy}
 use Rattle.assurance.specs.Run.{Ran}
-use Rattle.assurance.specs.Observer.{first_frames, at_opening, note_answers, observe}
+use Rattle.assurance.specs.Observer.{read_frames, at_opening, note_answers, observe}
 use Rattle.examples.specs.Reading.{fa, fe, afe, am, la, le, lb, opened_blank, ran_from, ran, verdicts_of, replies_in}
 use Rattle.examples.specs.Reading.{logged_records}
 use Rattle.examples.specs.Examples.{book_x}
@@ -127,7 +127,7 @@ pub record GangStates : Type 0 where
 
 -- the gangs of sections 0 and 1 after frames put to the box of X
 unfoldable pub gangs_after : List Message → List ℕ
-unfolding padded values_from added observe note_answers update first_frames read_frame refusal unless_refused message_of
+unfolding padded values_from added observe note_answers update read_frames read_frame refusal unless_refused message_of
 gangs_after messages =
     let o = observe (at_opening (line_in book_x)) (ran book_x (map bytes_of messages)).exchanges in
     map (λ i. o.gangs i) (0 ∷ 1 ∷ [])
