@@ -39,8 +39,8 @@
 extern "C" {
 #endif
 
-/* 100 times the edition (what the ends answer) plus the revision: 801 is version 8.01. */
-#define QUANGEVIT_VERSION 801
+/* 100 times the edition (what the ends answer) plus the revision: 800 is version 8.00. */
+#define QUANGEVIT_VERSION 800
 
 #define QUANGEVIT_REFUSAL(answer) ((answer) & 255u)
 #define QUANGEVIT_SENT(answer) ((answer) >> 8)

@@ -6,7 +6,7 @@ abbrev pub edition : ℕ
 edition = 8
 
 abbrev pub revision : ℕ
-revision = 1
+revision = 0
 
 abbrev pub version : ℕ
 version = 100 * edition + revision

@@ -11,7 +11,7 @@ ghost use Rattle.calls.specs.PlanningCalls.{time_call, running_time_call};
 ghost use Rattle.calls.specs.UnitCalls.{unit_call, make_unit_call, hear_call, pressed, press_call};
 ghost use Rattle.quangevit.specs.Version.{version};
 
-// Answers 100 times the edition, plus the revision: 801 is version 8.01.
+// Answers 100 times the edition, plus the revision: 800 is version 8.00.
 #[unsafe(no_mangle)]
 pub extern "C" fn quangevit_version() -> u32
     ensures { result ≡ version }

@@ -5,7 +5,7 @@
 //! no two buffers overlap, and slices give both.
 
 /// The version of the library that these declarations are for: QUANGEVIT_VERSION of the header.
-pub const VERSION: u32 = 801;
+pub const VERSION: u32 = 800;
 
 mod c {
     extern "C" {
