@@ -22,7 +22,8 @@ pub struct Holders {
 
 // 01: "A Running train, from its present post p to q, holds the section between them and a track at
 // each of p and q. .. Another train holds a track at its present post." 02, card 1: one that is
-// stabled holds none.
+// stabled holds none. It is built into its callers: an answer then needs 200 bytes of stack less.
+#[inline(always)]
 pub fn holders_of(state: State) -> Holders
     requires { (state.trains ≤ 6) × Placed state }
     ensures { Held state result }
