@@ -1,7 +1,7 @@
 // The two ends for C and Rust, the running time and the place of a report: the entry points over byte
 // buffers that the caller lends, and the version. The header quangevit.h has the layouts. Each entry
 // point of an end reads its bytes, calls the entry point of the crate below and writes the bytes of
-// what comes back.
+// what comes back. A library exports nothing: `quangevit_c` hands each of them to C.
 #![tactic(auto)]
 
 mod cab;
