@@ -9,6 +9,7 @@ use line::refusal::STRANGE_STATE;
 
 // The running time from one post of a book to another, at a speed in km/h. A question that is refused
 // leaves `time` alone.
+#[tactic(auto, using(calls::proofs::PlanningSteps::no_room))]
 #[unsafe(no_mangle)]
 pub extern "C" fn quangevit_running_time(
     book: &[u8],

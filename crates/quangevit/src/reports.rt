@@ -13,6 +13,7 @@ const LAST_KIND: u8 = 2;
 
 // The place of a report: missing, a post or metres, by its kind. A report that is refused leaves
 // `place` alone.
+#[tactic(auto, using(calls::proofs::PlaceSteps::no_room))]
 #[unsafe(no_mangle)]
 pub extern "C" fn quangevit_locate(
     book: &[u8],
