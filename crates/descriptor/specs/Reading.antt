@@ -43,3 +43,8 @@ pub record Served (known left had has : Option (List ℕ)) : Type 0 where
   pub input : List ℕ
   pub gave : Consumes known left input
   pub wrote : Appends had has (transcript_of input)
+
+-- where the writing failed, the input was read all the same
+pub record Spent (known left : Option (List ℕ)) : Type 0 where
+  pub input : List ℕ
+  pub gave : Consumes known left input

@@ -1,8 +1,8 @@
 // The run is read, and what it leaves is printed.
-ghost use Rattle.std.specs.Prelude.{◌≤◌, take, OnOk};
+ghost use Rattle.std.specs.Prelude.{◌≤◌, take, OnOk, OnErr};
 ghost use Rattle.std.specs.Io.KnownBytes.{Appends};
 ghost use Rattle.printout.specs.Text.{text_length};
-ghost use Rattle.descriptor.specs.Reading.{Transcript, TranscriptOf, Served};
+ghost use Rattle.descriptor.specs.Reading.{Transcript, TranscriptOf, Served, Spent};
 
 use crate::reading::read_all;
 use printout::{TEXT_LENGTH, Text};
@@ -10,10 +10,12 @@ use std::io;
 use std::io::{Read, Write};
 use table::TABLE_LENGTH;
 
-// Reads a book and frames from the input, and prints the run. The error is that of a write.
+// Reads a book and frames from the input, and prints the run. The error is that of a write: the input
+// is read all the same, and of the run the writer may have a part.
 pub fn serve<R: Read, W: Write>(input: &mut R, output: &mut W) -> io::Result<()>
-    ensures { OnOk result (Served (R.remaining input.old) (R.remaining input.new)
+    ensures ok { OnOk result (Served (R.remaining input.old) (R.remaining input.new)
         (W.contents output.old) (W.contents output.new)) }
+    ensures err { OnErr result (Spent (R.remaining input.old) (R.remaining input.new)) }
 {
     let text = transcript(input);
     let bytes = text.bytes;
