@@ -24,7 +24,7 @@ returns-then-line-from c =
     let positions : List ℕ = c.read_positioned-reading.result.positions in
     let is_read : read_positioned c.args.book.now ≡ accepted_book line positions =
     read_as last_edition _ c.read_positioned-reading.result c.read_positioned-reading.ensures c.in-Read.is in
-    c.refused-then-line-from.ensures ∙ from_off _ _ _ _ line positions is_read (omega (arith, c.if-line-from.true))
+    c.refused-then-line-from.ensures ∙ from_off _ _ _ _ line positions is_read (omega arith)
 
 pub returns-then-line-to : goal.returns-then-line-to
 returns-then-line-to c =
@@ -32,7 +32,7 @@ returns-then-line-to c =
     let positions : List ℕ = c.read_positioned-reading.result.positions in
     let is_read : read_positioned c.args.book.now ≡ accepted_book line positions =
     read_as last_edition _ c.read_positioned-reading.result c.read_positioned-reading.ensures c.in-Read.is in
-    c.refused-then-line-to.ensures ∙ to_off _ _ _ _ line positions is_read (omega (arith, c.if-line-to.true))
+    c.refused-then-line-to.ensures ∙ to_off _ _ _ _ line positions is_read (omega arith)
 
 pub returns-then-speed-lt1 : goal.returns-then-speed-lt1
 returns-then-speed-lt1 c =
@@ -40,8 +40,8 @@ returns-then-speed-lt1 c =
     let positions : List ℕ = c.read_positioned-reading.result.positions in
     let is_read : read_positioned c.args.book.now ≡ accepted_book line positions =
     read_as last_edition _ c.read_positioned-reading.result c.read_positioned-reading.ensures c.in-Read.is in
-    let departs : c.args.«from».0 < line.posts = c.if-line-from.false in
-    let arrives : c.args.to.0 < line.posts = c.if-line-to.false in
+    let departs : c.args.«from».0 < line.posts = omega arith in
+    let arrives : c.args.to.0 < line.posts = omega arith in
     c.refused-then-speed-lt1.ensures
     ∙ too_slow _ _ _ _ line positions is_read departs arrives (omega (arith, c.if-speed-lt1.true))
 
@@ -51,8 +51,8 @@ returns-then-speed-gt-MOST_SPEED c =
     let positions : List ℕ = c.read_positioned-reading.result.positions in
     let is_read : read_positioned c.args.book.now ≡ accepted_book line positions =
     read_as last_edition _ c.read_positioned-reading.result c.read_positioned-reading.ensures c.in-Read.is in
-    let departs : c.args.«from».0 < line.posts = c.if-line-from.false in
-    let arrives : c.args.to.0 < line.posts = c.if-line-to.false in
+    let departs : c.args.«from».0 < line.posts = omega arith in
+    let arrives : c.args.to.0 < line.posts = omega arith in
     c.refused-then-speed-gt-MOST_SPEED.ensures
     ∙ too_fast _ _ _ _ line positions is_read departs arrives (omega (arith, c.if-speed-gt-MOST_SPEED.true))
 
@@ -62,7 +62,7 @@ bounds-positions-p c =
     let positions : List ℕ = c.read_positioned-reading.result.positions in
     let is_read : read_positioned c.args.book.now ≡ accepted_book line positions =
     read_as last_edition _ c.read_positioned-reading.result c.read_positioned-reading.ensures c.in-Read.is in
-    let departs : c.args.«from».0 < line.posts = c.if-line-from.false in
+    let departs : c.args.«from».0 < line.posts = omega arith in
     let departs-in : c.args.«from».0 < 8 = omega (arith, departs, few_posts _ line positions is_read) in
     departs-in
 
@@ -72,7 +72,7 @@ bounds-positions-q c =
     let positions : List ℕ = c.read_positioned-reading.result.positions in
     let is_read : read_positioned c.args.book.now ≡ accepted_book line positions =
     read_as last_edition _ c.read_positioned-reading.result c.read_positioned-reading.ensures c.in-Read.is in
-    let arrives : c.args.to.0 < line.posts = c.if-line-to.false in
+    let arrives : c.args.to.0 < line.posts = omega arith in
     let arrives_in : c.args.to.0 < 8 = omega (arith, arrives, few_posts _ line positions is_read) in
     arrives_in
 
@@ -82,8 +82,8 @@ timed-requires c =
     let positions : List ℕ = c.read_positioned-reading.result.positions in
     let is_read : read_positioned c.args.book.now ≡ accepted_book line positions =
     read_as last_edition _ c.read_positioned-reading.result c.read_positioned-reading.ensures c.in-Read.is in
-    let departs : c.args.«from».0 < line.posts = c.if-line-from.false in
-    let arrives : c.args.to.0 < line.posts = c.if-line-to.false in (
+    let departs : c.args.«from».0 < line.posts = omega arith in
+    let arrives : c.args.to.0 < line.posts = omega arith in (
       rw c.apart.ensures (few_metres _ line positions is_read _ _ departs arrives),
       c.if-speed-lt1.false,
       c.if-speed-gt-MOST_SPEED.false,
@@ -95,8 +95,8 @@ returns c =
     let positions : List ℕ = c.read_positioned-reading.result.positions in
     let is_read : read_positioned c.args.book.now ≡ accepted_book line positions =
     read_as last_edition _ c.read_positioned-reading.result c.read_positioned-reading.ensures c.in-Read.is in
-    let departs : c.args.«from».0 < line.posts = c.if-line-from.false in
-    let arrives : c.args.to.0 < line.posts = c.if-line-to.false in
+    let departs : c.args.«from».0 < line.posts = omega arith in
+    let arrives : c.args.to.0 < line.posts = omega arith in
     rw (c.timed.ensures, c.apart.ensures, ← metres_read _ line positions is_read)
     (is_timed _ _ _ _ line positions is_read departs arrives c.if-speed-lt1.false
     c.if-speed-gt-MOST_SPEED.false)
