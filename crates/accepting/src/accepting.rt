@@ -5,11 +5,11 @@ ghost use Rattle.accepting.specs.Types.{Fa, Am, La, Lb, Asked};
 ghost use Rattle.rules.specs.State.{train_of, with_status, arrived_next, with_train, one_logged};
 ghost use Rattle.rules.specs.Valid.{consistent};
 ghost use Rattle.rules.specs.Granting.{Work, begun, settled};
-ghost use Rattle.rules.specs.Answer.{most_logged, declined, untouched, anew};
+ghost use Rattle.rules.specs.Answer.{most_logged, declined, anew};
 ghost use Rattle.authority.specs.Progress.{progress_of};
 ghost use Rattle.accepting.specs.Acceptable.{Ready, Acceptable};
 
-use authority::{Progress, logged, settle};
+use authority::{Progress, settle};
 use fleet::{arrived, is_asked, status_of, train_of, with_possession, with_status, with_train};
 use frame::{Message, Move};
 use journal::Record;
@@ -18,19 +18,19 @@ use logging::record_of;
 use rules::{State, Status, Train};
 
 // The frame is logged and answered. What is none of FA, AM, LA and LB is not accepted.
+#[tactic(auto, unfolding(rules::specs::Answer::anew, authority::specs::Progress::add_records))]
 pub fn accept(state: State, table: &[u8], message: Message) -> Progress
     requires { Acceptable state message }
     ensures { result ≡ progress_of (anew table.now state message) }
 {
     match message {
         Message::Fa(m) => request(state, table, m),
-        Message::Fe(_) => untouched(state),
-        Message::Afe(_) => untouched(state),
         Message::Am(m) => arrival(state, table, m),
         Message::La(m) => lend(state, m),
-        Message::Le(_) => untouched(state),
         Message::Lb(m) => give_back(state, table, m),
-        Message::Refused(_) => untouched(state),
+        Message::Fe(_) | Message::Afe(_) | Message::Le(_) | Message::Refused(_) => {
+            Progress::new(state)
+        }
     }
 }
 
@@ -61,10 +61,8 @@ fn lend(state: State, m: Move) -> Progress
     ensures { (table : List ℕ) → result ≡ progress_of (anew table state (La m)) }
 {
     let lent = with_possession(state, line::section(m.from, m.to), true, state.given + 1);
-    let asked = logged(lent, logging::empty(), record_of(Message::La(m)));
-    let next = asked.state;
-    let batch = asked.batch;
-    logged(next, batch, record_of(Message::Le(m)))
+    let asked = Progress::new(lent).logged(record_of(Message::La(m)));
+    asked.logged(record_of(Message::Le(m)))
 }
 
 // "LB frees it and starts the same granting as AM."
@@ -91,17 +89,8 @@ fn decline(work: Progress, m: Move) -> Progress
     requires { (m.train.0 < 6) × (work.state.logged ≤ journal_length) }
     ensures { (w : Work) → work ≡ progress_of w → result ≡ progress_of (declined m w) }
 {
-    let state = work.state;
-    let batch = work.batch;
-    if is_asked(status_of(state, m.train)) {
-        return logged(state, batch, record_of(Message::Afe(m)));
+    if is_asked(status_of(work.state, m.train)) {
+        return work.logged(record_of(Message::Afe(m)));
     }
     work
-}
-
-fn untouched(state: State) -> Progress
-    ensures { result ≡ progress_of (untouched state) }
-{
-    let batch = logging::empty();
-    Progress { state, batch }
 }

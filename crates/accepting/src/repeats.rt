@@ -8,7 +8,8 @@ use fleet::{is_last, status_of, train_of};
 use frame::{Message, Move};
 use rules::{State, Status, Train};
 
-// What a frame is answered by as a repeat.
+// What a frame is answered by as a repeat: an enum of three, where an Option in an Option would leave
+// it open which of its two None is which.
 #[derive(Clone, Copy)]
 pub enum Repeat {
     // It repeats none.
@@ -26,13 +27,9 @@ pub fn again(state: State, message: Message) -> Repeat
 {
     match message {
         Message::Fa(m) => asked_again(status_of(state, m.train), m),
-        Message::Fe(_) => Repeat::Not,
-        Message::Afe(_) => Repeat::Not,
         Message::Am(m) => arrived_again(train_of(state, m.train), m),
-        Message::La(_) => Repeat::Not,
-        Message::Le(_) => Repeat::Not,
-        Message::Lb(_) => Repeat::Not,
-        Message::Refused(_) => Repeat::Not,
+        Message::La(_) | Message::Lb(_) => Repeat::Not,
+        Message::Fe(_) | Message::Afe(_) | Message::Le(_) | Message::Refused(_) => Repeat::Not,
     }
 }
 
@@ -41,8 +38,7 @@ pub fn is_repeat(answer: Repeat) -> bool
 {
     match answer {
         Repeat::Not => false,
-        Repeat::Silent => true,
-        Repeat::Told(_) => true,
+        Repeat::Silent | Repeat::Told(_) => true,
     }
 }
 
@@ -61,9 +57,9 @@ fn asked_again(status: Status, m: Move) -> Repeat
 fn arrived_again(train: Train, m: Move) -> Repeat
     ensures { told_by result ≡ arrived_again train.last m }
 {
-    let last = train.last;
-    if is_last(last, m.from, m.to) {
-        return Repeat::Silent;
+    if is_last(train.last, m.from, m.to) {
+        Repeat::Silent
+    } else {
+        Repeat::Not
     }
-    Repeat::Not
 }

@@ -5,5 +5,4 @@ pub use Rattle.frame.specs.declared.message.Message.{Message}
 pub use Rattle.frame.specs.declared.message.Message.TheVariants.{Fa, Fe, Afe, Am, La, Le, Lb, Refused}
 pub use Rattle.journal.specs.declared.record.Record.{Record}
 pub use Rattle.rules.specs.declared.state.State.{State}
-pub use Rattle.rules.specs.declared.result.Verdict.{Verdict}
-pub use Rattle.rules.specs.declared.result.Verdict.TheVariants.{Sent, Refused as RefusedBy}
+pub use Rattle.rules.specs.Types.{Verdict, Sent, RefusedBy}

@@ -3,60 +3,42 @@
 use mathlib.Core.Path.{◌≡◌, refl, sym, ap, ◌∙◌}
 use mathlib.Core.Bool.{true, false, false≢true}
 use mathlib.Core.List.{List}
+use Rattle.std.specs.Prelude.{Option, None, Some}
 use Prim.Native.Nat.{ℕ, suc, ◌+◌, ◌≤◌, ◌<◌}
 use native.Mathlib.Nat.{not-suc-le-zero}
 use native.Mathlib.Omega.{arith}
 use lib.Dec.{ltb}
-use borrow.Author.Tests.{ltb-true, ltb-false, lt-ltb, le-ltb}
+use borrow.Author.Tests.{ltb-true, ltb-false}
 use Rattle.common.proofs.Tests.{clash, by_cases, by_order, not_passed}
 use Rattle.common.proofs.Below.{below_suc}
 use Rattle.journal.specs.Journal.{journal_length}
-use Rattle.authority.specs.Types.{TrainNo, Status, Free, Asked, Running, State, Asker, Of, Nobody}
+use Rattle.authority.specs.Types.{TrainNo, Status, Free, Asked, Running, State, Asker}
 use Rattle.rules.specs.State.{is_asked, asked_as, train_of}
 use Rattle.rules.specs.Valid.{consistent}
 use Rattle.rules.specs.Granting.{grantable}
-use Rattle.authority.specs.Asking.{lower, elder, NextAsked, nobody, next}
+use Rattle.authority.specs.Asking.{asker, lower, elder, NextAsked, nobody, next}
 use Rattle.rules.proofs.Validity.{consistent_facts}
 use Rattle.rules.proofs.Changes.{grantable_facts}
 use Rattle.rules.proofs.Oldest.{Nobody as NobodyLeft, Oldest}
-
--- ---- one train beside the best so far
-
-module _ (t : TrainNo) (n : ℕ) (best : Asker) where
-  pub lower_own : (u : TrainNo) (m : ℕ) → best ≡ Of u m → n < m → Of t n ≡ lower t n best
-  lower_own u m e h = rw (e, lt-ltb n m h)
-
-  pub lower_other : (u : TrainNo) (m : ℕ) → best ≡ Of u m → m ≤ n → Of u m ≡ lower t n best
-  lower_other u m e h = rw (e, le-ltb n m h)
-
-  pub lower_first : best ≡ Nobody → Of t n ≡ lower t n best
-  lower_first e = rw e
-
-module _ (best : Asker) (t : TrainNo) (w : Status) (from n : ℕ) (e : w ≡ Asked n) where
-  pub elder_early : n < from → best ≡ elder best t w from
-  elder_early h = rw (e, lt-ltb n from h)
-
-  pub elder_late : from ≤ n → lower t n best ≡ elder best t w from
-  elder_late h = rw (e, le-ltb n from h)
 
 -- ---- the search, train by train
 
 same_asked : {w : Status} {m n : ℕ} → w ≡ Asked m → w ≡ Asked n → m ≡ n
 same_asked p q = ap asked_as (sym p ∙ q)
 
-pub next_none : (s : State) (from : ℕ) → NextAsked s from 0 Nobody
+pub next_none : (s : State) (from : ℕ) → NextAsked s from 0 None
 next_none s from = nobody (λ u k. absurd (not-suc-le-zero k))
 
 module _ (s : State) (from i : ℕ) where
   -- train i is not among those looked for
-  skip : (best : Asker) → ((m : ℕ) → (train_of s i).status ≡ Asked m → m < from) → NextAsked s from i best
+  skip : (best : Option Asker) → ((m : ℕ) → (train_of s i).status ≡ Asked m → m < from) → NextAsked s from i best
       → NextAsked s from (suc i) best
   skip best h (nobody f) = nobody (below_suc i f h)
   skip best h (next t n k e low f) =
       next t n (omega arith) e low (below_suc i f (λ m q z. absurd (let y = h m q in omega arith)))
 
   -- it is
-  take : (n : ℕ) → (train_of s i).status ≡ Asked n → from ≤ n → (best : Asker) → NextAsked s from i best
+  take : (n : ℕ) → (train_of s i).status ≡ Asked n → from ≤ n → (best : Option Asker) → NextAsked s from i best
       → NextAsked s from (suc i) (lower (record { 0 = i }) n best)
   take n e low best (nobody f) = next (record { 0 = i }) n (omega arith) e low
       (below_suc i (λ u l m q z. absurd (let y = f u l m q in omega arith)) (λ m q z. omega (arith, same_asked e q)))
@@ -65,7 +47,7 @@ module _ (s : State) (from i : ℕ) where
       (below_suc i (λ u l m q z. omega (arith, ltb-true n k p, f u l m q z)) (λ m q z. omega (arith, same_asked e q)))))
       (λ p. rw p (next t k (omega arith) a h (below_suc i f (λ m q z. omega (arith, ltb-false n k p, same_asked e q)))))
 
-  pub next_more : (best : Asker) (w : Status) → (train_of s i).status ≡ w → NextAsked s from i best
+  pub next_more : (best : Option Asker) (w : Status) → (train_of s i).status ≡ w → NextAsked s from i best
       → NextAsked s from (suc i) (elder best (record { 0 = i }) w from)
   next_more best Free e a = skip best (λ m q. absurd (false≢true (ap is_asked (sym e ∙ q)))) a
   next_more best (Asked n) e a = by_cases (ltb n from)
@@ -81,7 +63,8 @@ pub record Next (s : State) (from : ℕ) (t : TrainNo) (k : ℕ) : Type 0 where
   pub low : from ≤ k
   pub least : (u : ℕ) → u < s.trains → (m : ℕ) → (train_of s u).status ≡ Asked m → from ≤ m → k ≤ m
 
-pub next_found : (s : State) (from : ℕ) (t : TrainNo) (k : ℕ) → NextAsked s from s.trains (Of t k) → Next s from t k
+pub next_found : (s : State) (from : ℕ) (t : TrainNo) (k : ℕ) → NextAsked s from s.trains (Some (asker t k))
+    → Next s from t k
 next_found s from t k (next _ _ known asks low least) = record { known = known; asks = asks; low = low; least = least }
 
 pub next_small : (s : State) (from : ℕ) (t : TrainNo) (k : ℕ) → consistent s ≡ true → s.logged ≤ journal_length
@@ -112,7 +95,7 @@ module _ (table : List ℕ) (s : State) (from : ℕ) (tried : Tried table s from
   numbered : (u : ℕ) → grantable table s u ≡ true → (train_of s u).status ≡ Asked (asked_as (train_of s u).status)
   numbered u g = asked_number (train_of s u).status (grantable_facts table s u g).asks
 
-  pub tried_all : NextAsked s from s.trains Nobody → NobodyLeft table s s.trains
+  pub tried_all : NextAsked s from s.trains None → NobodyLeft table s s.trains
   tried_all (nobody f) = record {
     barred = λ u k. not_passed (grantable table s u)
         (λ g. clash (grantable table s u) g (tried.barred u k _ (numbered u g) (f u k _ (numbered u g))));

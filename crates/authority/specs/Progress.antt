@@ -17,6 +17,10 @@ batch_of l = add_records empty_batch l
 abbrev pub progress_of : Work → Progress
 progress_of w = record { state = w.state; batch = batch_of w.logged }
 
+-- nothing is logged yet
+abbrev pub unlogged : State → Progress
+unlogged s = record { state = s; batch = empty_batch }
+
 -- a record more is logged: by `begun` or `sends` of the work
 abbrev pub progress_with : State → Batch → Record → Progress
 progress_with s b r = record { state = one_logged s; batch = with_record b r }

@@ -7,54 +7,39 @@ use rules::{State, Status};
 
 // An Asked train, and the number of its request.
 #[derive(Clone, Copy)]
-pub enum Asker {
-    Of(TrainNo, u8),
-    Nobody,
+pub struct Asker {
+    pub train: TrainNo,
+    pub number: u8,
 }
 
 // The Asked train whose request has the lowest number from `from` on.
-pub fn next_asked(state: State, from: u8) -> Asker
+#[tactic(auto, using(crate::proofs::Askers::next_none))]
+pub fn next_asked(state: State, from: u8) -> Option<Asker>
     requires { state.trains ≤ 6 }
     ensures { NextAsked state from state.trains result }
 {
-    let fleet = state.fleet;
-    let mut best = Asker::Nobody;
-    let mut t: u8 = 0;
-    while t < state.trains {
-        let train = fleet[t as usize];
-        let status = train.status;
-        best = elder(best, TrainNo(t), status, from);
-        t += 1;
+    let mut best = None;
+    for t in 0..state.trains {
+        best = elder(best, TrainNo(t), state.fleet[t as usize].status, from);
     }
     best
 }
 
 // The best so far, or train `t`, if its request has a lower number that is not below `from`.
-fn elder(best: Asker, t: TrainNo, status: Status, from: u8) -> Asker
+fn elder(best: Option<Asker>, t: TrainNo, status: Status, from: u8) -> Option<Asker>
     ensures { result ≡ elder best t status from }
 {
     match status {
-        Status::Free => best,
-        Status::Asked(n) => {
-            if n < from {
-                return best;
-            }
-            lower(t, n, best)
-        }
-        Status::Running(_) => best,
+        Status::Asked(n) if from <= n => lower(t, n, best),
+        _ => best,
     }
 }
 
-fn lower(t: TrainNo, n: u8, best: Asker) -> Asker
-    ensures { result ≡ lower t n best }
+fn lower(train: TrainNo, number: u8, best: Option<Asker>) -> Option<Asker>
+    ensures { result ≡ lower train number best }
 {
     match best {
-        Asker::Of(u, m) => {
-            if n < m {
-                return Asker::Of(t, n);
-            }
-            Asker::Of(u, m)
-        }
-        Asker::Nobody => Asker::Of(t, n),
+        Some(other) if other.number <= number => best,
+        _ => Some(Asker { train, number }),
     }
 }

@@ -6,9 +6,9 @@ ghost use Rattle.rules.specs.State.{next_of, train_of, free_track, one_logged};
 ghost use Rattle.rules.specs.Valid.{consistent};
 ghost use Rattle.rules.specs.Granting.{begun, settled};
 ghost use Rattle.rules.specs.Answer.{most_logged};
-ghost use Rattle.authority.specs.Progress.{progress_of, progress_with, progress_to};
+ghost use Rattle.authority.specs.Progress.{unlogged, progress_of, progress_with, progress_to};
 
-use crate::asking::{Asker, next_asked};
+use crate::asking::next_asked;
 use crate::grantable::grantable;
 use fleet::{next_move, one_logged, train_of, with_status, with_train};
 use frame::Message;
@@ -16,7 +16,6 @@ use journal::{Batch, Record};
 use line::{TrackNo, TrainNo};
 use logging::record_on;
 use rules::{State, Status};
-use tracks::FreeTrack;
 
 // How far the work on a frame is: the state, and the records of what was logged so far.
 #[derive(Clone, Copy)]
@@ -25,36 +24,48 @@ pub struct Progress {
     pub batch: Batch,
 }
 
+impl Progress {
+    // Nothing is logged yet.
+    pub fn new(state: State) -> Progress
+        ensures { result ≡ unlogged state }
+    {
+        Progress {
+            state,
+            batch: logging::empty(),
+        }
+    }
+
+    // A record more is logged.
+    pub fn logged(self, entry: Record) -> Progress
+        requires { self.state.logged ≤ journal_length }
+        ensures { result ≡ progress_with self.state self.batch entry }
+    {
+        Progress {
+            state: one_logged(self.state),
+            batch: logging::with(self.batch, entry),
+        }
+    }
+}
+
 // The granting, after `entry` is logged.
 pub fn settle(state: State, table: &[u8], entry: Record) -> Progress
     requires { (consistent (one_logged state) ≡ true) × (state.logged + most_logged ≤ journal_length) }
     ensures { result ≡ progress_of (settled table.now (begun state entry)) }
 {
-    let mut work = logged(state, logging::empty(), entry);
+    let mut work = Progress::new(state).logged(entry);
     'again: loop {
         let mut from: u8 = 0;
         loop {
-            let state = work.state;
-            let Asker::Of(t, n) = next_asked(state, from) else {
+            let Some(asker) = next_asked(work.state, from) else {
                 return work;
             };
-            if let FreeTrack::At(track) = grantable(state, table, t) {
-                work = granted(work, t, track);
+            if let Some(track) = grantable(work.state, table, asker.train) {
+                work = granted(work, asker.train, track);
                 continue 'again;
             }
-            from = n + 1;
+            from = asker.number + 1;
         }
     }
-}
-
-// A record more is logged.
-pub fn logged(state: State, batch: Batch, entry: Record) -> Progress
-    requires { state.logged ≤ journal_length }
-    ensures { result ≡ progress_with state batch entry }
-{
-    let state = one_logged(state);
-    let batch = logging::with(batch, entry);
-    Progress { state, batch }
 }
 
 // Train `t` becomes Running, on its way to the track that is free for it, and its FE is logged. 02,
@@ -64,10 +75,9 @@ fn granted(work: Progress, t: TrainNo, track: TrackNo) -> Progress
     requires track_value { track.0 ≡ free_track work.state t.0 (next_of (train_of work.state t.0)) }
     ensures { result ≡ progress_to work t.0 }
 {
-    let state = work.state;
-    let batch = work.batch;
-    let entry = record_on(Message::Fe(next_move(state, t)), track);
-    let train = train_of(state, t);
+    let entry = record_on(Message::Fe(next_move(work.state, t)), track);
+    let train = train_of(work.state, t);
     let running = with_status(train, Status::Running(track));
-    logged(with_train(state, t, running), batch, entry)
+    let state = with_train(work.state, t, running);
+    Progress { state, ..work }.logged(entry)
 }

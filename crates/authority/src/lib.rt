@@ -6,4 +6,4 @@ mod asking;
 mod grantable;
 mod granting;
 
-pub use granting::{Progress, logged, settle};
+pub use granting::{Progress, settle};

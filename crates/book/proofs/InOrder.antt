@@ -5,7 +5,7 @@ use mathlib.Core.Path.{◌≡◌, refl, sym, ap, ◌∙◌}
 use mathlib.Core.List.{List, [], ◌++◌}
 use Prim.Native.Nat.{ℕ, zero, suc, ◌≤◌, ◌<◌}
 use native.Mathlib.Omega.{arith}
-use lib.ListN.{length}
+use lib.ListN.{length, replicate}
 use borrow.Author.Tests.{ltb-true, eqb-true}
 use Rattle.common.specs.Check.{Check, refusal, unless_refused}
 use Rattle.common.specs.Tabulate.{padded}
@@ -66,14 +66,18 @@ stop_at b all {m = m} cs ds v left e p =
 abbrev after_sidings : List ℕ → List Check
 after_sidings b = positions_checks (positioned_in b) (positions_of b) ++ after_posts b
 
-abbrev pub after_tracks : List ℕ → List Check
+abbrev after_tracks : List ℕ → List Check
 after_tracks b = sidings_checks (line_in b) ++ after_sidings b
 
 abbrev after_header : List ℕ → List Check
 after_header b = tracks_checks (line_in b) ++ after_tracks b
 
+-- a line that has n posts with the track counts ts, and nothing else yet
+abbrev pub begun : ℕ → List ℕ → Line
+begun n ts = record { posts = n; tracks = ts; sidings = 0; trains = 0; routes = replicate 6 no_route }
+
 module _ (least : ℕ) (b : List ℕ) where
-  abbrev pub LeftOfBook : List Check → Type 0
+  abbrev LeftOfBook : List Check → Type 0
   LeftOfBook cs = Left (book_checks_from least b) cs
 
   -- n posts were read
@@ -81,20 +85,27 @@ module _ (least : ℕ) (b : List ℕ) where
     pub is : n ≡ posts_of b
     pub few : n ≤ 8
     pub room : trains_at n (added (edition_of b) n) < length b
-    pub left : LeftOfBook (after_header b)
+    left : LeftOfBook (after_header b)
 
-  -- the sidings s were read
-  pub record SidingsRead (s : ℕ) : Type 0 where
-    pub is : s ≡ sidings_of b
-    pub left : LeftOfBook (after_sidings b)
+  -- then the track counts ts
+  pub record TracksRead (n : ℕ) (ts : List ℕ) : Type 0 where
+    pub header : HeaderRead n
+    counts : ts ≡ padded 8 n (λ p. byte_at b (count_at p)) 0
+    left : LeftOfBook (after_tracks b)
 
+  -- then the sidings s
+  pub record SidingsRead (n : ℕ) (ts : List ℕ) (s : ℕ) : Type 0 where
+    pub tracks : TracksRead n ts
+    is : s ≡ sidings_of b
+    left : LeftOfBook (after_sidings b)
+
+module _ (least : ℕ) (b : List ℕ) where
   pub header_refused : {s : Stage} {m : ℕ} → s ≡ posts_stage least b → s ≡ Stopped m
       → refused_by (number_of s) ≡ read_from least b
-  unfolding posts_stage read_from
+  unfolding read_from
   header_refused e p = stop_at b (book_checks_from least b) (posts_checks least b) (after_header b) _ refl e p
 
-  pub header_read : {s : Stage} {n : ℕ} → s ≡ posts_stage least b → s ≡ Passed n → HeaderRead n
-  unfolding posts_stage
+  pub header_read : {s : Stage} {n : ℕ} → s ≡ posts_stage least b → s ≡ Passed n → HeaderRead least b n
   header_read {n = n} e p =
       let k = passed_of (posts_checks least b) _ e p in
       let passed = passed_by (posts_checks least b) refl k.0 in
@@ -108,75 +119,80 @@ module _ (least : ℕ) (b : List ℕ) where
         left = second_part (posts_checks least b) (after_header b) refl k.0;
       }
 
-  module _ {n : ℕ} (header : HeaderRead n) where
-    -- a line that has the posts and tracks of the book
-    module _ (l : Line) (same : l.posts ≡ n) (counts : l.tracks ≡ padded 8 n (λ p. byte_at b (count_at p)) 0) where
-      tracks_same : tracks_stage l ≡ tracks_stage (line_in b)
-      unfolding tracks_stage
-      tracks_same = rw (counts, same, header.is)
+module _ {least : ℕ} {b : List ℕ} where
+  module _ {n : ℕ} {ts : List ℕ} (header : HeaderRead least b n)
+      (counts : ts ≡ padded 8 n (λ p. byte_at b (count_at p)) 0) where
+    tracks_same : tracks_stage (begun n ts) ≡ tracks_stage (line_in b)
+    tracks_same = rw (counts, header.is)
 
-      pub tracks_refused : {s : Stage} {m : ℕ} → s ≡ tracks_stage l → s ≡ Stopped m
-          → refused_by (number_of s) ≡ read_from least b
-      unfolding tracks_stage read_from
-      tracks_refused e p =
-          stop_at b (book_checks_from least b) (tracks_checks (line_in b)) (after_tracks b) _ header.left
-          (e ∙ tracks_same) p
+    pub tracks_refused : {s : Stage} {m : ℕ} → s ≡ tracks_stage (begun n ts) → s ≡ Stopped m
+        → refused_by (number_of s) ≡ read_from least b
+    unfolding read_from
+    tracks_refused e p =
+        stop_at b (book_checks_from least b) (tracks_checks (line_in b)) (after_tracks b) _ header.left
+        (e ∙ tracks_same) p
 
-      pub tracks_read : {s : Stage} {m : ℕ} → s ≡ tracks_stage l → s ≡ Passed m → LeftOfBook (after_tracks b)
-      unfolding tracks_stage
-      tracks_read e p =
-          let k = passed_of (tracks_checks (line_in b)) _ (e ∙ tracks_same) p in
-          header.left ∙ second_part (tracks_checks (line_in b)) (after_tracks b) refl k.0
+    pub tracks_read : {s : Stage} {m : ℕ} → s ≡ tracks_stage (begun n ts) → s ≡ Passed m → TracksRead least b n ts
+    tracks_read e p =
+        let k = passed_of (tracks_checks (line_in b)) _ (e ∙ tracks_same) p in
+        record {
+          header = header;
+          counts = counts;
+          left = header.left ∙ second_part (tracks_checks (line_in b)) (after_tracks b) refl k.0;
+        }
 
-    module _ (left : LeftOfBook (after_tracks b)) where
-      pub sidings_refused : {s : Stage} {m : ℕ} → s ≡ sidings_stage b → s ≡ Stopped m
-          → refused_by (number_of s) ≡ read_from least b
-      unfolding sidings_stage read_from
-      sidings_refused e p =
-          stop_at b (book_checks_from least b) (sidings_checks (line_in b)) (after_sidings b) _ left e p
+  module _ {n : ℕ} {ts : List ℕ} (tracks : TracksRead least b n ts) where
+    pub sidings_refused : {s : Stage} {m : ℕ} → s ≡ sidings_stage b → s ≡ Stopped m
+        → refused_by (number_of s) ≡ read_from least b
+    unfolding read_from
+    sidings_refused e p =
+        stop_at b (book_checks_from least b) (sidings_checks (line_in b)) (after_sidings b) _ tracks.left e p
 
-      pub sidings_read : {s : Stage} {m : ℕ} → s ≡ sidings_stage b → s ≡ Passed m → SidingsRead m
-      unfolding sidings_stage
-      sidings_read e p =
-          let k = passed_of (sidings_checks (line_in b)) _ e p in
-          record { is = k.1; left = left ∙ second_part (sidings_checks (line_in b)) (after_sidings b) refl k.0 }
+    pub sidings_read : {s : Stage} {m : ℕ} → s ≡ sidings_stage b → s ≡ Passed m → SidingsRead least b n ts m
+    sidings_read e p =
+        let k = passed_of (sidings_checks (line_in b)) _ e p in
+        record {
+          tracks = tracks;
+          is = k.1;
+          left = tracks.left ∙ second_part (sidings_checks (line_in b)) (after_sidings b) refl k.0;
+        }
 
-    -- k positions that were read
-    module _ {m : ℕ} (sidings : SidingsRead m) (k : ℕ) (ps : List ℕ) (amount : k ≡ positioned (edition_of b) n)
-        (metres : ps ≡ padded 8 k (position_in b n) 0) where
-      positions_are : ps ≡ positions_of b
-      positions_are = rw (metres, amount, header.is)
+  -- k positions that were read
+  module _ {n : ℕ} {ts : List ℕ} {m : ℕ} (sidings : SidingsRead least b n ts m) {k : ℕ} {ps : List ℕ}
+      (amount : k ≡ positioned (edition_of b) n) (metres : ps ≡ padded 8 k (position_in b n) 0) where
+    positions_are : ps ≡ positions_of b
+    positions_are = rw (metres, amount, sidings.tracks.header.is)
 
-      positions_same : positions_stage k ps ≡ positions_stage (positioned_in b) (positions_of b)
-      unfolding positions_stage
-      positions_same = rw (positions_are, amount, header.is)
+    positions_same : positions_stage k ps ≡ positions_stage (positioned_in b) (positions_of b)
+    positions_same = rw (positions_are, amount, sidings.tracks.header.is)
 
-      pub positions_refused : {s : Stage} {m : ℕ} → s ≡ positions_stage k ps → s ≡ Stopped m
-          → refused_by (number_of s) ≡ read_from least b
-      unfolding positions_stage read_from
-      positions_refused e p =
-          stop_at b (book_checks_from least b) (positions_checks (positioned_in b) (positions_of b)) (after_posts b) _
-          sidings.left (e ∙ positions_same) p
+    pub positions_refused : {s : Stage} {m : ℕ} → s ≡ positions_stage k ps → s ≡ Stopped m
+        → refused_by (number_of s) ≡ read_from least b
+    unfolding read_from
+    positions_refused e p =
+        stop_at b (book_checks_from least b) (positions_checks (positioned_in b) (positions_of b)) (after_posts b) _
+        sidings.left (e ∙ positions_same) p
 
-      -- what is left is the trains'
-      pub trains_left : {s : Stage} {m : ℕ} → s ≡ positions_stage k ps → s ≡ Passed m
-          → read_trains b ≡ read_from least b
-      unfolding positions_stage read_from read_trains
-      trains_left e p =
-          let k = passed_of (positions_checks (positioned_in b) (positions_of b)) _ (e ∙ positions_same) p in
-          let left = sidings.left ∙ second_part (positions_checks (positioned_in b) (positions_of b)) (after_posts b)
-          refl k.0 in
-          rw left
+    -- what is left is the trains'
+    pub trains_left : {s : Stage} {m : ℕ} → s ≡ positions_stage k ps → s ≡ Passed m
+        → read_trains b ≡ read_from least b
+    unfolding read_from read_trains
+    trains_left e p =
+        let k = passed_of (positions_checks (positioned_in b) (positions_of b)) _ (e ∙ positions_same) p in
+        let left = sidings.left ∙ second_part (positions_checks (positioned_in b) (positions_of b)) (after_posts b)
+        refl k.0 in
+        rw left
 
-      pub posts_read : (l : Line) → l.posts ≡ n → l.tracks ≡ padded 8 n (λ p. byte_at b (count_at p)) 0
-          → l.sidings ≡ m → PostsRead b l ps
-      posts_read l same counts set = record {
-        posts = rw (same, header.is);
-        tracks = rw (counts, header.is);
-        sidings = rw (set, sidings.is);
-        positions = positions_are;
-        room = rw header.is at header.room;
-      }
+    pub posts_read : (l : Line) → l.posts ≡ n → l.tracks ≡ ts → l.sidings ≡ m → PostsRead b l ps
+    posts_read l same counts set =
+        let header = sidings.tracks.header in
+        record {
+          posts = rw (same, header.is);
+          tracks = rw (counts, sidings.tracks.counts, header.is);
+          sidings = rw (set, sidings.is);
+          positions = positions_are;
+          room = rw header.is at header.room;
+        }
 
 -- ---- the trains
 
@@ -188,26 +204,23 @@ pub record TrainsRead (b : List ℕ) (a t : ℕ) : Type 0 where
   pub whole : length b ≡ total a t
   pub left : Left (after_posts b) (routes_checks (line_in b))
 
--- where their number stands, by the posts of the line
-pub trains_place : {b : List ℕ} {l : Line} {ps : List ℕ} → PostsRead b l ps
-    → (a : ℕ) → a ≡ trains_at l.posts (added (edition_of b) l.posts) → a ≡ trains_in b
-trains_place posts a e = rw posts.posts at e
-
 module _ (b : List ℕ) where
   pub trains_refused : {s : Stage} {m : ℕ} → s ≡ trains_stage b → s ≡ Stopped m
       → refused_by (number_of s) ≡ read_trains b
-  unfolding trains_stage read_trains
+  unfolding read_trains
   trains_refused e p = stop_at b (after_posts b) (trains_checks b) (routes_checks (line_in b)) _ refl e p
 
-  pub trains_read : {s : Stage} {t : ℕ} → s ≡ trains_stage b → s ≡ Passed t → (a : ℕ) → a ≡ trains_in b
-      → TrainsRead b a t
-  unfolding trains_stage
-  trains_read {t = t} e p a place =
+  -- the number stands where the posts of the line l put it
+  pub trains_read : {l : Line} {ps : List ℕ} → PostsRead b l ps → {a : ℕ}
+      → a ≡ trains_at l.posts (added (edition_of b) l.posts)
+      → {s : Stage} {t : ℕ} → s ≡ trains_stage b → s ≡ Passed t → TrainsRead b a t
+  trains_read posts at {t = t} e p =
       let k = passed_of (trains_checks b) _ e p in
       let passed = passed_by (trains_checks b) refl k.0 in
       let few = high 1 6 (trains_of b) (passed number.trains) in
       let whole = eqb-true (length b) (total (trains_in b) (trains_of b)) (passed number.torn_book) in
       let is = k.1 in
+      let place = rw posts.posts at at in
       record {
         place = place;
         is = is;
@@ -230,12 +243,12 @@ module _ (b : List ℕ) where
 
     pub routes_refused : {s : Stage} {n : ℕ} → s ≡ routes_stage m → s ≡ Stopped n
         → refused_by (number_of s) ≡ read_trains b
-    unfolding routes_stage read_trains
+    unfolding read_trains
     routes_refused e p =
         stop_at b (after_posts b) (routes_checks (line_in b)) [] _ trains.left (e ∙ ap routes_stage line_same) p
 
     pub routes_read : {s : Stage} {n : ℕ} → s ≡ routes_stage m → s ≡ Passed n → accepted_book m ps ≡ read_trains b
-    unfolding routes_stage read_trains
+    unfolding read_trains
     routes_read e p =
         let k = passed_of (routes_checks (line_in b)) _ (e ∙ ap routes_stage line_same) p in
         rw (line_same, posts.positions)

@@ -6,24 +6,33 @@
 ghost use Rattle.std.specs.Prelude.{◌≡◌, ◌≤◌, length};
 ghost use Rattle.common.specs.Tabulate.{padded};
 ghost use Rattle.line.specs.Line.{no_route};
-ghost use Rattle.line.specs.Book.{count_at, sidings_at, total, byte_at, route_in, empty_line, refused_by, read_from};
+ghost use Rattle.line.specs.Book.{count_at, sidings_at, total, byte_at, route_in, refused_by, read_from};
 ghost use Rattle.line.specs.Book.{read_book, read_positioned, outcome_number};
 ghost use Rattle.stages.specs.Stages.{number_of, tracks_stage, routes_stage, PostsRead, read_trains};
 
 use form::{routes_on_line, tracks_in_range};
-use line::{Line, NO_ROUTE, Outcome, PostNo, Reading, Route, refusal};
+use line::{Line, NO_ROUTE, PostNo, Reading, Refusal, Route};
 use stages::{
     COUNTS_AT, FIRST_EDITION, LAST_EDITION, Stage, VERSION_AT, check_positions, positioned,
     read_positions, read_posts, read_sidings, read_trains, trains_at,
 };
 
+// The line of a book that is refused, and what the line of any other is read into.
+const EMPTY_LINE: Line = Line {
+    posts: 0,
+    tracks: [0; 8],
+    sidings: 0,
+    trains: 0,
+    routes: [NO_ROUTE; 6],
+};
+
 // The number that a book is refused by; 0 of one that is read.
-pub fn number_of(outcome: Outcome) -> u8
+pub fn number_of(outcome: Result<(), u8>) -> u8
     ensures { result ≡ outcome_number outcome }
 {
     match outcome {
-        Outcome::Read => 0,
-        Outcome::Refused(n) => n,
+        Ok(()) => 0,
+        Err(n) => n,
     }
 }
 
@@ -50,11 +59,13 @@ fn read_from(book: &[u8], least: u8) -> Reading
     let Stage::Passed(posts) = header else {
         return refused(header);
     };
-    let mut line = empty_line();
     let tracks = read_tracks(book, posts);
-    line.posts = posts;
-    line.tracks = tracks;
-    let counts = check_tracks(line);
+    let mut line = Line {
+        posts,
+        tracks,
+        ..EMPTY_LINE
+    };
+    let counts = check_tracks(&line);
     let Stage::Passed(_) = counts else {
         return refused(counts);
     };
@@ -62,19 +73,19 @@ fn read_from(book: &[u8], least: u8) -> Reading
     let Stage::Passed(sidings) = named else {
         return refused(named);
     };
-    line.sidings = sidings;
     let given = positioned(book[VERSION_AT], posts);
     let positions = read_positions(book, posts, given);
-    let order = check_positions(positions, given);
+    let order = check_positions(&positions, given);
     let Stage::Passed(_) = order else {
         return refused(order);
     };
-    with_trains(book, line, positions)
+    line.sidings = sidings;
+    with_trains(book, &line, &positions)
 }
 
 // The rest of a book, its trains, where its posts have been read into the line.
-fn with_trains(book: &[u8], begun: Line, positions: [u32; 8]) -> Reading
-    requires { PostsRead book.now begun positions }
+fn with_trains(book: &[u8], begun: &Line, positions: &[u32; 8]) -> Reading
+    requires { PostsRead book.now begun.now positions.now }
     ensures { result ≡ read_trains book.now }
 {
     let at = trains_at(begun.posts, book[VERSION_AT]);
@@ -83,29 +94,29 @@ fn with_trains(book: &[u8], begun: Line, positions: [u32; 8]) -> Reading
         return refused(number);
     };
     let routes = read_routes(book, at, trains);
-    let mut line = begun;
-    line.trains = trains;
-    line.routes = routes;
-    let ends = check_routes(line);
+    let line = Line {
+        trains,
+        routes,
+        ..*begun
+    };
+    let ends = check_routes(&line);
     let Stage::Passed(_) = ends else {
         return refused(ends);
     };
     Reading {
-        outcome: Outcome::Read,
-        line: line,
-        positions: positions,
+        outcome: Ok(()),
+        line,
+        positions: *positions,
     }
 }
 
 fn refused(stage: Stage) -> Reading
     ensures { result ≡ refused_by (number_of stage) }
 {
-    let line = empty_line();
-    let positions = [0u32; 8];
     Reading {
-        outcome: Outcome::Refused(stopped_at(stage)),
-        line: line,
-        positions: positions,
+        outcome: Err(stopped_at(stage)),
+        line: EMPTY_LINE,
+        positions: [0; 8],
     }
 }
 
@@ -119,41 +130,25 @@ fn stopped_at(stage: Stage) -> u8
     }
 }
 
-fn empty_line() -> Line
-    ensures { result ≡ empty_line }
-{
-    let tracks = [0u8; 8];
-    let routes = [NO_ROUTE; 6];
-    Line {
-        posts: 0,
-        tracks: tracks,
-        sidings: 0,
-        trains: 0,
-        routes: routes,
-    }
-}
-
 // The track counts of the posts; 0 at the other places.
 fn read_tracks(book: &[u8], posts: u8) -> [u8; 8]
     requires { (posts ≤ 8) × (sidings_at posts ≤ length book.now) }
     ensures { result ≡ padded 8 posts (λ p. byte_at book.now (count_at p)) 0 }
 {
-    let mut tracks = [0u8; 8];
-    let mut p: usize = 0;
-    while p < posts as usize {
-        tracks[p] = book[COUNTS_AT + p];
-        p += 1;
-    }
+    let mut tracks = [0; 8];
+    let end = COUNTS_AT + posts as usize;
+    tracks[..posts as usize].copy_from_slice(&book[COUNTS_AT..end]);
     tracks
 }
 
 // Checks 16.
-fn check_tracks(line: Line) -> Stage
-    requires { line.posts ≤ 8 }
-    ensures { result ≡ tracks_stage line }
+#[tactic(auto, unfolding(common::specs::Check::refusal, common::specs::Check::unless_refused))]
+fn check_tracks(line: &Line) -> Stage
+    requires { line.now.posts ≤ 8 }
+    ensures { result ≡ tracks_stage line.now }
 {
     if !tracks_in_range(line) {
-        return Stage::Stopped(refusal::TRACKS);
+        return Stage::Stopped(Refusal::Tracks as u8);
     }
     Stage::Passed(line.posts)
 }
@@ -164,25 +159,24 @@ fn read_routes(book: &[u8], at: usize, trains: u8) -> [Route; 6]
     ensures { result ≡ padded 6 trains (route_in book.now at) no_route }
 {
     let mut routes = [NO_ROUTE; 6];
-    let mut t: usize = 0;
-    while t < trains as usize {
+    for t in 0..trains as usize {
         let start = at + 1 + 2 * t;
         routes[t] = Route {
             start: PostNo(book[start]),
             end: PostNo(book[start + 1]),
         };
-        t += 1;
     }
     routes
 }
 
 // Checks 18.
-fn check_routes(line: Line) -> Stage
-    requires { line.trains ≤ 6 }
-    ensures { result ≡ routes_stage line }
+#[tactic(auto, unfolding(common::specs::Check::refusal, common::specs::Check::unless_refused))]
+fn check_routes(line: &Line) -> Stage
+    requires { line.now.trains ≤ 6 }
+    ensures { result ≡ routes_stage line.now }
 {
     if !routes_on_line(line) {
-        return Stage::Stopped(refusal::OFF_THE_LINE);
+        return Stage::Stopped(Refusal::OffTheLine as u8);
     }
     Stage::Passed(line.trains)
 }

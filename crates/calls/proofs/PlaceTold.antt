@@ -6,12 +6,11 @@ use Prim.Native.Nat.{ℕ, ◌%◌, ◌≤◌, ◌<◌}
 use native.Mathlib.Omega.{arith}
 use lib.ListN.{length}
 use lib.Ieee.{Float}
-use borrow.Author.Tests.{ne_eqb}
 use Rattle.common.proofs.Check.{refusal_below}
 use Rattle.line.specs.Refusal.{strange_state, unknown_kind}
 use Rattle.place.specs.Locating.{at, in_section, place_refusal, place_checks, place_of}
-use Rattle.place.proofs.Claims.{place_number, place_reports}
-use Rattle.calls.specs.Types.{Post, Metres, Missing, Place, Nothing, Refused}
+use Rattle.place.proofs.Claims.{place_number}
+use Rattle.calls.specs.Types.{Post, Metres, Missing, Place, Nothing, Result, Ok, Refused}
 use Rattle.calls.specs.Word.{word_of, refusal_in}
 use Rattle.calls.specs.PlaceCalls.{PlaceCall, place_call, report_of, place_after, locate_call, PlaceTold}
 use Rattle.calls.proofs.PlaceSteps.{no_room, no_kind, is_located}
@@ -29,7 +28,7 @@ unfolding report_of
 metres p x = refl
 
 module _ (book : List ℕ) (k p : ℕ) (x : Float) (place : List ℕ) where
-  abbrev found : Place
+  abbrev found : Result Place ℕ
   found = place_of book (report_of k p x)
 
   abbrev call : PlaceCall
@@ -44,17 +43,17 @@ module _ (book : List ℕ) (k p : ℕ) (x : Float) (place : List ℕ) where
 
     module _ (known : k ≤ 2) where
       -- by the place that is found
-      by : (a : Place) → found ≡ a → call ≡ place_after a place
-      by a e = sym (is_located book k p x place h known) ∙ ap (λ (z : Place). place_after z place) e
+      by : (a : Result Place ℕ) → found ≡ a → call ≡ place_after a place
+      by a e = sym (is_located book k p x place h known) ∙ ap (λ (z : Result Place ℕ). place_after z place) e
 
-      at_post : (q : ℕ) → found ≡ at q → call ≡ place_call 0 (1 ∷ q ∷ q ∷ [])
-      at_post q e = by (at q) e
+      at_post : (q : ℕ) → found ≡ Ok (at q) → call ≡ place_call 0 (1 ∷ q ∷ q ∷ [])
+      at_post q e = by (Ok (at q)) e
 
-      in_section_lem : (i q : ℕ) → found ≡ in_section i q → call ≡ place_call 0 (2 ∷ i ∷ q ∷ [])
-      in_section_lem i q e = by (in_section i q) e
+      in_section_lem : (i q : ℕ) → found ≡ Ok (in_section i q) → call ≡ place_call 0 (2 ∷ i ∷ q ∷ [])
+      in_section_lem i q e = by (Ok (in_section i q)) e
 
-      nothing : found ≡ Nothing → call ≡ place_call 0 (0 ∷ 0 ∷ 0 ∷ [])
-      nothing e = by Nothing e
+      nothing : found ≡ Ok Nothing → call ≡ place_call 0 (0 ∷ 0 ∷ 0 ∷ [])
+      nothing e = by (Ok Nothing) e
 
       small : (n : ℕ) → found ≡ Refused n → n < 256
       small n e =
@@ -63,10 +62,9 @@ module _ (book : List ℕ) (k p : ℕ) (x : Float) (place : List ℕ) where
 
       refused : (n : ℕ) → found ≡ Refused n → (call ≡ place_call n place) × (refusal_in n ≡ n)
       refused n e =
-          let some = place_reports.numbered book (report_of k p x) n e in
           let word : word_of n 0 ≡ n = omega arith in
           let low : n % 256 ≡ n = omega (arith, small n e) in
-          (by (Refused n) e ∙ rw (ne_eqb n 0 (λ z. omega (arith, some)), word), low)
+          (by (Refused n) e ∙ rw word, low)
 
 pub place_told : PlaceTold
 place_told = record {

@@ -2,9 +2,11 @@
 use Rattle.std.specs.Prelude.{◌≡◌, ◌≢◌, cond, List, [], ◌∷◌, ℕ, ◌≤◌, ◌<◌, leb, eqb, length, Float}
 use Rattle.common.specs.Check.{Check, check, refusal, unless_refused}
 use Rattle.line.specs.Refusal.{strange_state, unknown_kind}
-use Rattle.place.specs.Locating.{at, in_section, place_refusal, place_of}
+use Rattle.line.specs.declared.refusal.Refusal.{Refusal}
+use Rattle.line.specs.declared.refusal.Refusal.TheVariants.{UnknownKind}
+use Rattle.place.specs.Locating.{at, in_section, place_of}
 use Rattle.encoding.specs.PlaceBytes.{place_length, place_bytes}
-use Rattle.calls.specs.Types.{PlaceReport, Post, Metres, Missing, Place, Nothing, Refused}
+use Rattle.calls.specs.Types.{PlaceReport, Post, Metres, Missing, Place, Nothing, Result, Ok, Refused}
 use Rattle.calls.specs.Word.{word_of, refusal_in}
 
 pub record PlaceCall : Type 0 where
@@ -38,8 +40,9 @@ locate_call_checks kind room =
     ∷ []
 
 -- the place is written where the report is accepted; a refusal changes nothing
-abbrev pub place_after : Place → List ℕ → PlaceCall
-place_after a place = place_call (word_of (place_refusal a) 0) (cond (eqb (place_refusal a) 0) (place_bytes a) place)
+abbrev pub place_after : Result Place ℕ → List ℕ → PlaceCall
+place_after (Ok a) place = place_call (word_of 0 0) (place_bytes a)
+place_after (Refused n) place = place_call (word_of n 0) place
 
 unfoldable pub locate_call : List ℕ → ℕ → ℕ → Float → List ℕ → PlaceCall
 locate_call book kind post x place =
@@ -47,7 +50,17 @@ locate_call book kind post x place =
     (place_after (place_of book (report_of kind post x)) place)
     (λ n. place_call (word_of n 0) place)
 
--- what is claimed of it
+-- ---- inside the code: the report of a kind, and its place, where the buffer has room
+
+abbrev pub known_report : ℕ → ℕ → Float → Result PlaceReport Refusal
+known_report kind post x = cond (leb kind metres_kind) (Ok (report_of kind post x)) (Refused UnknownKind)
+
+abbrev pub known_place : List ℕ → ℕ → ℕ → Float → Result Place ℕ
+known_place book kind post x =
+    cond (leb kind metres_kind) (place_of book (report_of kind post x)) (Refused unknown_kind)
+
+-- ---- what is claimed of it
+
 pub record PlaceTold : Type 0 where
   -- each kind by its number
   pub missing : (p : ℕ) (x : Float) → report_of 0 p x ≡ Missing
@@ -55,12 +68,13 @@ pub record PlaceTold : Type 0 where
   pub metres : (p : ℕ) (x : Float) → report_of 2 p x ≡ Metres x
   -- the bytes say the place: at a post, which is the nearest; in a section, with the nearest post; or nothing
   pub at_post : (book : List ℕ) (k p : ℕ) (x : Float) (place : List ℕ) → length place ≡ 3 → k ≤ 2
-      → (q : ℕ) → place_of book (report_of k p x) ≡ at q → locate_call book k p x place ≡ place_call 0 (1 ∷ q ∷ q ∷ [])
+      → (q : ℕ) → place_of book (report_of k p x) ≡ Ok (at q)
+      → locate_call book k p x place ≡ place_call 0 (1 ∷ q ∷ q ∷ [])
   pub in_section_lem : (book : List ℕ) (k p : ℕ) (x : Float) (place : List ℕ) → length place ≡ 3 → k ≤ 2
-      → (i q : ℕ) → place_of book (report_of k p x) ≡ in_section i q
+      → (i q : ℕ) → place_of book (report_of k p x) ≡ Ok (in_section i q)
       → locate_call book k p x place ≡ place_call 0 (2 ∷ i ∷ q ∷ [])
   pub nothing : (book : List ℕ) (k p : ℕ) (x : Float) (place : List ℕ) → length place ≡ 3 → k ≤ 2
-      → place_of book (report_of k p x) ≡ Nothing → locate_call book k p x place ≡ place_call 0 (0 ∷ 0 ∷ 0 ∷ [])
+      → place_of book (report_of k p x) ≡ Ok Nothing → locate_call book k p x place ≡ place_call 0 (0 ∷ 0 ∷ 0 ∷ [])
   -- a refusal changes nothing: its number is the word, and the low byte of the word holds it
   pub refused : (book : List ℕ) (k p : ℕ) (x : Float) (place : List ℕ) → length place ≡ 3 → k ≤ 2
       → (n : ℕ) → place_of book (report_of k p x) ≡ Refused n

@@ -1,9 +1,9 @@
 -- The call for planners: what it answers, and the lent buffer afterwards.
 use Rattle.std.specs.Prelude.{◌≡◌, ◌≢◌, cond, List, ℕ, eqb, length}
 use Rattle.line.specs.Refusal.{strange_state}
-use Rattle.timing.specs.Timing.{running_time}
+use Rattle.timing.specs.Timing.{running_time, time_refusal}
 use Rattle.encoding.specs.TimeBytes.{time_length, time_bytes, seconds_in, rest_in}
-use Rattle.calls.specs.Types.{Time}
+use Rattle.calls.specs.Types.{Time, Result, Ok, Err}
 use Rattle.calls.specs.Word.{word_of, refusal_in}
 
 pub record TimeCall : Type 0 where
@@ -14,8 +14,9 @@ abbrev pub time_call : ℕ → List ℕ → TimeCall
 time_call answer time = record { answer = answer; time = time }
 
 -- the time is written where the question is accepted; a refusal changes nothing
-abbrev pub time_after : Time → List ℕ → TimeCall
-time_after t time = time_call (word_of t.refusal 0) (cond (eqb t.refusal 0) (time_bytes t) time)
+abbrev pub time_after : Result Time ℕ → List ℕ → TimeCall
+time_after (Ok t) time = time_call (word_of 0 0) (time_bytes t)
+time_after (Err n) time = time_call (word_of n 0) time
 
 -- a `time` buffer that is not 8 bytes is 1, nothing changed. Else as 02, card 5.
 unfoldable pub running_time_call : List ℕ → ℕ → ℕ → ℕ → List ℕ → TimeCall
@@ -28,14 +29,13 @@ running_time_call book from to speed time =
 -- an accepted question say its seconds and its rest, and a refusal changes nothing
 pub record TimeTold : Type 0 where
   pub word : (book : List ℕ) (p q v : ℕ) (time : List ℕ) → length time ≡ time_length
-      → (running_time_call book p q v time).answer ≡ (running_time book p q v).refusal
+      → (running_time_call book p q v time).answer ≡ time_refusal (running_time book p q v)
   pub number : (book : List ℕ) (p q v : ℕ) (time : List ℕ) → length time ≡ time_length
-      → refusal_in (running_time_call book p q v time).answer ≡ (running_time book p q v).refusal
+      → refusal_in (running_time_call book p q v time).answer ≡ time_refusal (running_time book p q v)
   pub told : (book : List ℕ) (p q v : ℕ) (time : List ℕ) → length time ≡ time_length
-      → (running_time book p q v).refusal ≡ 0
+      → time_refusal (running_time book p q v) ≡ 0
       → let c = running_time_call book p q v time in
-      let t = running_time book p q v in
-      (seconds_in c.time ≡ t.seconds) × (rest_in c.time ≡ t.rest)
+      (t : Time) × (running_time book p q v ≡ Ok t) × (seconds_in c.time ≡ t.seconds) × (rest_in c.time ≡ t.rest)
   -- a buffer of another length is 1
   pub other_length : (book : List ℕ) (p q v : ℕ) (time : List ℕ) → length time ≢ time_length
       → running_time_call book p q v time ≡ time_call (word_of strange_state 0) time

@@ -11,10 +11,11 @@ pub use Rattle.timing.specs.declared.timing.Time.{Time}
 pub use Rattle.place.specs.declared.report.Report.{Report as PlaceReport}
 pub use Rattle.place.specs.declared.report.Report.TheVariants.{Post, Metres, Missing}
 pub use Rattle.place.specs.declared.report.Place.{Place}
-pub use Rattle.place.specs.declared.report.Place.TheVariants.{Nothing, Refused}
+pub use Rattle.place.specs.declared.report.Place.TheVariants.{Nothing}
+pub use Rattle.std.specs.declared.result.Result.{Result}
+pub use Rattle.std.specs.declared.result.Result.TheVariants.{Ok, Err, Err as Refused}
 pub use Rattle.frame.specs.declared.message.Message.{Message}
 pub use Rattle.journal.specs.declared.record.Record.{Record}
 pub use Rattle.rules.specs.declared.state.State.{State}
-pub use Rattle.rules.specs.declared.result.Verdict.{Verdict}
-pub use Rattle.rules.specs.declared.result.Verdict.TheVariants.{Sent, Refused as RefusedBy}
+pub use Rattle.rules.specs.Types.{Verdict, Sent, RefusedBy}
 pub use Rattle.rules.specs.declared.result.Opened.{Opened}

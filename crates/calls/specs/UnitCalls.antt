@@ -7,7 +7,7 @@ use Rattle.line.specs.Refusal.{strange_state, short_store, not_now}
 use Rattle.calls.specs.Types.{Unit, Pressed}
 use Rattle.driver.specs.State.{valid_unit}
 use Rattle.driver.specs.Making.{make_unit}
-use Rattle.driver.specs.Pressing.{press_button}
+use Rattle.driver.specs.Pressing.{is_sent, sent_bytes, press_button}
 use Rattle.driver.specs.Hearing.{hear_frame}
 use Rattle.calls.specs.Word.{word_of}
 use Rattle.encoding.specs.UnitBytes.{unit_length, unit_bytes, encodes_unit, unit_in, button_of}
@@ -63,8 +63,8 @@ press_call_checks unit button room =
 -- A press that gives a frame writes its seven bytes at the beginning of `frame`, else `frame` is untouched.
 abbrev pub press_after : Pressed → List ℕ → PressCall
 press_after p frame =
-    pressed (word_of p.refusal (of_bool p.sent)) (unit_bytes p.unit)
-    (cond p.sent (replaced frame 0 p.frame) frame)
+    pressed (word_of p.refusal (of_bool (is_sent p.frame))) (unit_bytes p.unit)
+    (cond (is_sent p.frame) (replaced frame 0 (sent_bytes p.frame)) frame)
 
 unfoldable pub press_call : List ℕ → ℕ → List ℕ → PressCall
 press_call unit button frame =

@@ -1,4 +1,7 @@
 -- The declared types that the definitions speak of, under one module.
+pub use Rattle.line.specs.declared.sorts.TrainNo.{TrainNo}
+pub use Rattle.line.specs.declared.refusal.Refusal.{Refusal}
+pub use Rattle.line.specs.declared.refusal.Refusal.TheVariants.{UnknownTrain}
 pub use Rattle.frame.specs.declared.message.Move.{Move}
 pub use Rattle.frame.specs.declared.message.Message.{Message}
 pub use Rattle.frame.specs.declared.message.Message.TheVariants.{Fa, Fe, Afe, Am, La, Le, Lb, Refused}

@@ -9,13 +9,15 @@ ghost use Rattle.completion.specs.Table.{table_length};
 ghost use Rattle.rules.specs.Valid.{valid};
 ghost use Rattle.rules.specs.Answer.{out_length, move_checks, section_checks, content_checks, frame_checks};
 ghost use Rattle.checks.specs.Types.{Fa, Am, La, Lb};
-ghost use Rattle.checks.specs.Messages.{message_refusal};
+ghost use Rattle.line.specs.Refusal.{checked};
+ghost use Rattle.line.specs.Book.{outcome_number};
+ghost use Rattle.checks.specs.Messages.{message_checks, named_train, NamesRefusal};
 
 use fleet::{at_end, is_last, is_running, next_post, possessed, train_of};
 use frame::{FRAME_LENGTH, Message, Move};
 use holding::{holders_of, section_free};
 use journal::{JOURNAL_LENGTH, MOST_SENT};
-use line::refusal;
+use line::{Refusal, TrainNo};
 use rules::{State, Train};
 use table::TABLE_LENGTH;
 use validity::{MOST_GIVEN, valid};
@@ -26,144 +28,147 @@ pub const OUT_LENGTH: usize = MOST_SENT * FRAME_LENGTH;
 // 02, card 4: frames of LA, LE and LB "have train byte 255".
 const GANG_BYTE: u8 = 255;
 
-// The number by which a frame is refused, and 0 where it is accepted. Of the table, the journal and
-// the out buffer only the lengths are looked at.
-pub fn refusal_of(state: State, table: usize, records: usize, frame: &[u8], room: usize) -> u8
-    ensures { result ≡ refusal (frame_checks state table records frame.now room) }
+// Whether a frame passes, or the number by which it is refused. Of the table, the journal and the out
+// buffer only the lengths are looked at.
+pub fn check_frame(
+    state: State,
+    table: usize,
+    records: usize,
+    frame: &[u8],
+    room: usize,
+) -> Result<(), u8>
+    ensures number { outcome_number result ≡ refusal (frame_checks state table records frame.now room) }
+    ensures named { NamesRefusal result }
 {
     if !valid(state) {
-        return refusal::STRANGE_STATE;
+        return Err(Refusal::StrangeState as u8);
     }
     if !long_enough(table, records, room) {
-        return refusal::SHORT_STORE;
+        return Err(Refusal::ShortStore as u8);
     }
-    message_refusal(state, framing::read(frame))
+    match framing::read(frame) {
+        Message::Refused(number) => Err(number),
+        message => Ok(check_message(state, message)?),
+    }
 }
 
 fn long_enough(table: usize, records: usize, room: usize) -> bool
     ensures { result ≡ leb table_length table && (leb journal_length records && leb out_length room) }
 {
-    if table < TABLE_LENGTH {
-        return false;
-    }
-    JOURNAL_LENGTH <= records && OUT_LENGTH <= room
+    TABLE_LENGTH <= table && JOURNAL_LENGTH <= records && OUT_LENGTH <= room
 }
 
-// 6 for what is not for the dispatcher; card 4: "LE at the dispatcher is 6."
-fn message_refusal(state: State, message: Message) -> u8
+// 6 for what is not for the dispatcher; card 4: "LE at the dispatcher is 6." What reading refuses is
+// no message.
+#[tactic(auto, using(crate::proofs::Refusals::for_dispatcher, crate::proofs::Refusals::for_others))]
+fn check_message(state: State, message: Message) -> Result<(), Refusal>
     requires { valid state ≡ true }
-    ensures { result ≡ message_refusal state message }
+    ensures { checked result ≡ refusal (message_checks state message) }
 {
     match message {
-        Message::Fa(m) => request_refusal(state, m),
-        Message::Fe(_) => refusal::WRONG_END,
-        Message::Afe(_) => refusal::WRONG_END,
-        Message::Am(m) => arrival_refusal(state, m),
-        Message::La(m) => lending_refusal(state, m),
-        Message::Le(_) => refusal::WRONG_END,
-        Message::Lb(m) => return_refusal(state, m),
-        Message::Refused(n) => n,
+        Message::Fa(m) => check_request(state, m),
+        Message::Am(m) => check_arrival(state, m),
+        Message::La(m) => check_lending(state, m),
+        Message::Lb(m) => check_return(state, m),
+        Message::Fe(_) | Message::Afe(_) | Message::Le(_) | Message::Refused(_) => {
+            Err(Refusal::WrongEnd)
+        }
     }
 }
 
-// The checks of what an FA says.
-fn request_refusal(state: State, m: Move) -> u8
+// Whether what an FA says passes.
+fn check_request(state: State, m: Move) -> Result<(), Refusal>
     requires { state.trains ≤ 6 }
-    ensures { result ≡ refusal (content_checks state (Fa m)) }
+    ensures { checked result ≡ refusal (content_checks state (Fa m)) }
 {
-    if state.trains <= m.train.0 {
-        return refusal::UNKNOWN_TRAIN;
-    }
-    move_refusal(train_of(state, m.train), m)
+    let train = named_train(state, m.train)?;
+    check_move(train, m)
 }
 
-// The checks of what an AM says.
-fn arrival_refusal(state: State, m: Move) -> u8
+// Whether what an AM says passes.
+fn check_arrival(state: State, m: Move) -> Result<(), Refusal>
     requires { state.trains ≤ 6 }
-    ensures { result ≡ refusal (content_checks state (Am m)) }
+    ensures { checked result ≡ refusal (content_checks state (Am m)) }
 {
-    if state.trains <= m.train.0 {
-        return refusal::UNKNOWN_TRAIN;
+    let train = named_train(state, m.train)?;
+    if is_last(train.last, m.from, m.to) {
+        return Ok(());
     }
-    let train = train_of(state, m.train);
-    let last = train.last;
-    if is_last(last, m.from, m.to) {
-        return 0;
+    check_move(train, m)?;
+    if !is_running(train.status) {
+        return Err(Refusal::NoAuthority);
     }
-    let number = move_refusal(train, m);
-    if number != 0 {
-        return number;
-    }
-    let status = train.status;
-    if !is_running(status) {
-        return refusal::NO_AUTHORITY;
-    }
-    0
+    Ok(())
 }
 
-// The checks of what an LA says.
-fn lending_refusal(state: State, m: Move) -> u8
+// Whether what an LA says passes.
+fn check_lending(state: State, m: Move) -> Result<(), Refusal>
     requires { valid state ≡ true }
-    ensures { result ≡ refusal (content_checks state (La m)) }
+    ensures { checked result ≡ refusal (content_checks state (La m)) }
 {
-    let number = section_refusal(state, m);
-    if number != 0 {
-        return number;
-    }
+    check_section(state, m)?;
     let holders = holders_of(state);
     if !section_free(state, holders, line::section(m.from, m.to)) {
-        return refusal::SECTION_TAKEN;
+        return Err(Refusal::SectionTaken);
     }
     if MOST_GIVEN <= state.given {
-        return refusal::TWENTY_GIVEN;
+        return Err(Refusal::TwentyGiven);
     }
-    0
+    Ok(())
 }
 
-// The checks of what an LB says.
-fn return_refusal(state: State, m: Move) -> u8
+// Whether what an LB says passes.
+fn check_return(state: State, m: Move) -> Result<(), Refusal>
     requires { state.posts ≤ 8 }
-    ensures { result ≡ refusal (content_checks state (Lb m)) }
+    ensures { checked result ≡ refusal (content_checks state (Lb m)) }
 {
-    let number = section_refusal(state, m);
-    if number != 0 {
-        return number;
-    }
+    check_section(state, m)?;
     if !possessed(state, line::section(m.from, m.to)) {
-        return refusal::NO_LOCAL_RUN;
+        return Err(Refusal::NoLocalRun);
     }
-    0
+    Ok(())
 }
 
 // Whether two neighbouring posts are named for a gang, the lower one first: "a train byte not 255 is
 // 7 and posts not so named are 9".
-fn section_refusal(state: State, m: Move) -> u8
-    ensures { result ≡ refusal (section_checks state m) }
+fn check_section(state: State, m: Move) -> Result<(), Refusal>
+    ensures { checked result ≡ refusal (section_checks state m) }
 {
     if m.train.0 != GANG_BYTE {
-        return refusal::UNKNOWN_TRAIN;
+        return Err(Refusal::UnknownTrain);
     }
     if m.to.0 as usize != m.from.0 as usize + 1 {
-        return refusal::WRONG_POST;
+        return Err(Refusal::WrongPost);
     }
     if state.posts <= m.to.0 {
-        return refusal::WRONG_POST;
+        return Err(Refusal::WrongPost);
     }
-    0
+    Ok(())
+}
+
+// The record of a train, where the line has one of its number.
+fn named_train(state: State, t: TrainNo) -> Result<Train, Refusal>
+    requires { state.trains ≤ 6 }
+    ensures { result ≡ named_train state t }
+{
+    if state.trains <= t.0 {
+        return Err(Refusal::UnknownTrain);
+    }
+    Ok(train_of(state, t))
 }
 
 // Whether the move is the train's next one.
-fn move_refusal(train: Train, m: Move) -> u8
-    ensures { result ≡ refusal (move_checks train m) }
+fn check_move(train: Train, m: Move) -> Result<(), Refusal>
+    ensures { checked result ≡ refusal (move_checks train m) }
 {
     if at_end(train) {
-        return refusal::AT_ITS_END;
+        return Err(Refusal::AtItsEnd);
     }
-    if m.from.0 != train.at.0 {
-        return refusal::WRONG_POST;
+    if m.from != train.at {
+        return Err(Refusal::WrongPost);
     }
-    if m.to.0 != next_post(train).0 {
-        return refusal::WRONG_POST;
+    if m.to != next_post(train) {
+        return Err(Refusal::WrongPost);
     }
-    0
+    Ok(())
 }

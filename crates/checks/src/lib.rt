@@ -3,4 +3,4 @@
 
 mod checks;
 
-pub use checks::{OUT_LENGTH, refusal_of};
+pub use checks::{OUT_LENGTH, check_frame};

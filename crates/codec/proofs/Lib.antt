@@ -1,3 +1,2 @@
--- The laws that the proofs of the functions cite: numbers of enums, a journal written.
-pub mod Numbers
+-- The laws that the proofs of the functions cite: a journal written.
 pub mod Writing

@@ -4,8 +4,8 @@ use mathlib.Core.List.{List}
 use Prim.Native.Nat.{ℕ, ◌+◌, ◌*◌, ◌-◌, ◌≤◌, ◌<◌}
 use native.Mathlib.Numerals.{add-one}
 use native.Mathlib.Omega.{arith}
-use lib.ListN.{length}
-use lib.Seq.{paste, paste-zero, paste-suc, length-paste}
+use lib.ListN.{length, take}
+use lib.Seq.{paste, paste-zero, paste-suc, length-paste, length-take-le, get_or-take}
 use Rattle.common.specs.Part.{replaced_if_room}
 use Rattle.common.proofs.Tests.{by_order}
 use Rattle.journal.specs.Journal.{blank, record_at, batch_length, fitting, appended}
@@ -47,7 +47,7 @@ module _ {b : List ℕ} {at : ℕ} {items : List Record} {n : ℕ} {bytes : List
   pub same_size : length bytes ≡ length b
   same_size = rw w.written (length_with b pasted pasted_count)
 
-  pub one_more : k < n → (e : List ℕ) → e ≡ record_bytes (record_at items k)
+  one_more : k < n → (e : List ℕ) → e ≡ record_bytes (record_at items k)
       → (after : List ℕ) → after ≡ replaced_if_room bytes (record_length * (at + k)) e
       → Writing b at items n after (k + 1)
   one_more h e p after q =
@@ -63,6 +63,17 @@ module _ {b : List ℕ} {at : ℕ} {items : List Record} {n : ℕ} {bytes : List
             ∙ ap (with_records b)
             (paste-suc (records_in b) at items k blank (rw record_count_lem place) (omega arith)));
       }
+
+  -- the records that the loop goes over
+  pub taken_length : length (take n items) ≡ n
+  taken_length = length-take-le n items (omega (arith, w.few, w.seven))
+
+  pub entry_more : k < length (take n items) → (e : List ℕ) → e ≡ record_bytes (record_at (take n items) k)
+      → (after : List ℕ) → after ≡ replaced_if_room bytes (record_length * (at + k)) e
+      → Writing b at items n after (k + 1)
+  entry_more h e p after q =
+      let few : k < n = omega (arith, taken_length) in
+      one_more few e (p ∙ ap record_bytes (get_or-take n items k blank few)) after q
 
 pub all_written : (b : List ℕ) (at : ℕ) (batch : Batch) (n : ℕ) → n ≡ fitting (record_count (length b)) at batch.n
     → (bytes : List ℕ) (k : ℕ) → Writing b at batch.items n bytes k → n ≤ k

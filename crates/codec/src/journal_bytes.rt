@@ -4,22 +4,20 @@ ghost use Rattle.journal.specs.Journal.{appended};
 ghost use Rattle.encoding.specs.JournalBytes.{record_bytes, records_in, with_records};
 
 use journal::{Batch, Record};
-use placing::put;
+use part::put;
 
 pub const RECORD_LENGTH: usize = 5;
 
 // Writes the records of the batch from record `at` on, and nothing where they do not all fit.
+#[tactic(auto, using(journal::proofs::Appended::fitting_few))]
 pub fn append(bytes: &mut [u8], at: usize, batch: Batch)
     ensures { bytes.new
         ≡ with_records bytes.old (appended (records_in bytes.old) at batch) }
 {
     let n = logging::fitting(bytes.len() / RECORD_LENGTH, at, batch.n);
-    let items = batch.items;
-    let mut k: usize = 0;
-    while k < n {
-        let entry = record_bytes(items[k]);
-        put(&entry, bytes, RECORD_LENGTH * (at + k));
-        k += 1;
+    let entries = &batch.items[..n];
+    for (k, entry) in entries.iter().enumerate() {
+        put(&record_bytes(*entry), bytes, RECORD_LENGTH * (at + k));
     }
 }
 

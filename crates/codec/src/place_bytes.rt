@@ -2,11 +2,12 @@
 ghost use Rattle.std.specs.Prelude.{◌≡◌, length};
 ghost use Rattle.encoding.specs.PlaceBytes.{place_length, place_bytes};
 
+use part::put;
 use place::Place;
-use placing::put;
 
 pub const PLACE_LENGTH: usize = 3;
 
+// The sorts by the numbers that they have in C: the type `Place` of the code has its cases instead.
 const NOTHING: u8 = 0;
 
 const AT_POST: u8 = 1;
@@ -29,6 +30,5 @@ fn sort_and_numbers(place: Place) -> [u8; PLACE_LENGTH]
         Place::At(post) => [AT_POST, post.0, post.0],
         Place::In(section, nearest) => [IN_SECTION, section.0, nearest.0],
         Place::Nothing => [NOTHING, 0, 0],
-        Place::Refused(_) => [NOTHING, 0, 0],
     }
 }

@@ -3,7 +3,7 @@ ghost use Rattle.std.specs.Prelude.{◌≡◌, length};
 ghost use Rattle.encoding.specs.TimeBytes.{time_length, time_bytes};
 
 use line::word::long_word_bytes;
-use placing::put;
+use part::put;
 use timing::Time;
 
 pub const TIME_LENGTH: usize = 8;

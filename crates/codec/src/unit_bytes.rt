@@ -4,21 +4,19 @@ ghost use Rattle.encoding.specs.UnitBytes.{unit_length, phase_of, button_of, enc
 
 use driver::{Button, Phase, Unit};
 use line::{PostNo, Route, TrainNo};
-use placing::put;
+use part::put;
 
 pub const UNIT_LENGTH: usize = 5;
 
-// The number of the last phase, Arrived.
+// The number of the last phase, Arrived: a byte from C can have any number.
 const LAST_PHASE: u8 = 5;
 
 // Whether the bytes encode a unit.
+#[tactic(auto, unfolding(encoding::specs::UnitBytes::encodes_unit))]
 pub fn encodes_unit(bytes: &[u8]) -> bool
     ensures { result ≡ encodes_unit bytes.now }
 {
-    if bytes.len() != UNIT_LENGTH {
-        return false;
-    }
-    bytes[4] <= LAST_PHASE
+    bytes.len() == UNIT_LENGTH && bytes[4] <= LAST_PHASE
 }
 
 // The unit that they encode.
@@ -26,7 +24,6 @@ pub fn unit_in(bytes: &[u8]) -> Unit
     requires { length bytes.now ≡ unit_length }
     ensures { result ≡ unit_in bytes.now }
 {
-    let phase = phase_of(bytes[4]);
     Unit {
         train: TrainNo(bytes[0]),
         route: Route {
@@ -34,10 +31,13 @@ pub fn unit_in(bytes: &[u8]) -> Unit
             end: PostNo(bytes[2]),
         },
         at: PostNo(bytes[3]),
-        phase,
+        phase: phase_of(bytes[4]),
     }
 }
 
+// The phase of a number. It is no TryFrom<u8> of Phase, nor `button_of` one of Button: both enums are
+// declared in `driver`, and what their bytes are is said in `encoding`, which rests on it.
+#[tactic(auto, unfolding(encoding::specs::UnitBytes::phase_of))]
 fn phase_of(number: u8) -> Phase
     ensures { result ≡ phase_of number }
 {
@@ -52,6 +52,7 @@ fn phase_of(number: u8) -> Phase
 }
 
 // The button of a number.
+#[tactic(auto, unfolding(encoding::specs::UnitBytes::button_of))]
 pub fn button_of(number: u8) -> Button
     ensures { result ≡ button_of number }
 {
@@ -69,15 +70,18 @@ pub fn put_unit(unit: Unit, to: &mut [u8])
     requires { length to.old ≡ unit_length }
     ensures { to.new ≡ unit_bytes unit }
 {
-    let bytes = bytes_of(unit);
-    put(&bytes, to, 0);
+    put(&bytes_of(unit), to, 0);
 }
 
+#[tactic(auto, unfolding(encoding::specs::UnitBytes::unit_bytes))]
 fn bytes_of(unit: Unit) -> [u8; UNIT_LENGTH]
     ensures { result ≡ unit_bytes unit }
 {
-    let route = unit.route;
-    let phase = unit.phase;
-    let number = unit::phase_number(phase);
-    [unit.train.0, route.start.0, route.end.0, unit.at.0, number]
+    [
+        unit.train.0,
+        unit.route.start.0,
+        unit.route.end.0,
+        unit.at.0,
+        unit.phase as u8,
+    ]
 }

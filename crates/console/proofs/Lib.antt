@@ -1,6 +1,5 @@
--- The argument: a piece comes byte by byte (`Pieces`); a byte and the end do what the code does (`Steps`); what comes
--- after the book is cut into frames (`Frames`); so what is printed is the paper's transcript (`Transcript`).
+-- The argument: a piece comes byte by byte (`Pieces`); what comes after the book is cut into frames (`Frames`); so
+-- what is printed is the paper's transcript (`Transcript`).
 pub mod Pieces
-pub mod Steps
 pub mod Frames
 pub mod Transcript

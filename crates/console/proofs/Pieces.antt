@@ -1,36 +1,16 @@
 -- Laws of a piece that comes byte by byte.
-use mathlib.Core.Path.{◌≡◌, refl, sym, ◌∙◌}
+use mathlib.Core.Path.{◌≡◌, refl}
 use mathlib.Core.List.{List, [], ◌∷◌, ◌++◌}
-use Prim.Native.Nat.{ℕ, zero, suc, ◌+◌, ◌-◌, ◌≤◌, ◌<◌}
+use Prim.Native.Nat.{ℕ, zero, suc, ◌-◌, ◌≤◌, ◌<◌}
 use native.Mathlib.Omega.{arith}
-use borrow.Author.Tests.{lt-ltb, le-ltb}
 use lib.Dec.{leb}
-use lib.ListN.{length, take, set, get_or, replicate, length-append, get_or-append}
-use lib.Seq.{take_all, take-append_seam}
+use lib.ListN.{length, get_or, replicate, length-append, get_or-append}
+use lib.Seq.{take-append_seam}
 use Rattle.common.proofs.Tests.{by_order}
 use Rattle.line.specs.Claims.{longest}
-use Rattle.printout.proofs.Room.{zeroed_more}
-use Rattle.console.specs.Types.{Piece}
-use Rattle.console.specs.Piece.{piece_of, piece_bytes, piece_with, book_length, is_book}
-
--- one byte more, where there is room and where there is none
-pub one_more : (p : Piece) (x : ℕ) → p.length < longest
-    → record { bytes = set p.bytes p.length x; length = p.length + 1 } ≡ piece_with p x
-unfolding piece_with
-one_more p x h = rw (lt-ltb p.length longest h)
-
-pub none_more : (p : Piece) (x : ℕ) → longest ≤ p.length → p ≡ piece_with p x
-unfolding piece_with
-none_more p x h = rw (le-ltb p.length longest h)
-
--- how many bytes there are, where the length is more than the room
-pub none_past : (p : Piece) → length p.bytes ≡ longest → longest ≤ p.length → take longest p.bytes ≡ piece_bytes p
-none_past p e h = take_all longest p.bytes (omega arith) ∙ sym (take_all p.length p.bytes (omega arith))
+use Rattle.console.specs.Piece.{piece_of, piece_bytes, book_length, is_book}
 
 -- ---- the piece of which l has come
-
-pub piece_more : (l : List ℕ) (x : ℕ) → length l < longest → piece_with (piece_of l) x ≡ piece_of (l ++ (x ∷ []))
-piece_more l x h = sym (one_more (piece_of l) x h) ∙ rw (zeroed_more longest l x h, length-append l (x ∷ []))
 
 pub piece_bytes_lem : (l : List ℕ) → piece_bytes (piece_of l) ≡ l
 piece_bytes_lem l = take-append_seam l (replicate (longest - length l) 0)

@@ -10,17 +10,19 @@ use lib.Dec.{eqb, lit<}
 use lib.ListN.{length, drop, length-append, drop_of_length-le}
 use lib.Seq.{take_all, take_at, drop_at}
 use Rattle.common.proofs.Tests.{by_cases, by_order}
+use Rattle.line.specs.Claims.{longest}
+use Rattle.bounded.proofs.Room.{bytes_more}
 use Rattle.journal.specs.Log.{blank_log}
 use Rattle.rules.specs.Opening.{Opening, empty_state, opening}
-use Rattle.console.specs.Types.{Run, Piece, Phase, Book, Refused, Frames, Ended}
-use Rattle.console.specs.Piece.{piece_of, piece_bytes, piece_with, is_book, book_length}
+use Rattle.console.specs.Types.{Run, Phase, Book, Refused, Frames, Ended}
+use Rattle.console.specs.Piece.{Piece, piece_of, piece_bytes, piece_with, is_book, book_length}
 use Rattle.console.specs.Run.{fresh_run, after_frame}
 use Rattle.console.specs.Console.{Desk, desk_of, after_opening, opened_with, book_opened, awaits}
 use Rattle.console.specs.Console.{taken_in, taken_byte, taken_bytes, after_end, last_frame, ended_desk, finished_in}
 use Rattle.console.specs.Console.{finished}
 use Rattle.console.specs.Transcript.{book_in, cut_frames, frames_after, blank_table, run_over}
 use Rattle.console.specs.Transcript.{transcript_with, transcript_of, printed, Transcribes}
-use Rattle.console.proofs.Pieces.{piece_more, piece_bytes_lem, piece_book, book_two, book_most, book_longer}
+use Rattle.console.proofs.Pieces.{piece_bytes_lem, piece_book, book_two, book_most, book_longer}
 use Rattle.console.proofs.Pieces.{book_exactly}
 use Rattle.console.proofs.Frames.{no_frames, one_frame, next_frame}
 
@@ -105,7 +107,7 @@ frames_run [] r table l h = rw append-nil (end_of_frames r table l h)
 frames_run (b ∷ input) r table l h =
     let next = l ++ (b ∷ []) in
     let more : length next ≡ length l + 1 = length-append l (b ∷ []) in
-    let piece = piece_more l b (omega arith) in
+    let piece = bytes_more longest l b (omega arith) in
     let joined = append_assoc l (b ∷ []) input in
     by_order (length next) 7
     (λ short. ap (λ (d : Desk). finished (taken_bytes d input)) (byte_of_frame r table _ (piece_of next) b piece short)
@@ -188,7 +190,7 @@ book_run [] r table l h =
 book_run (b ∷ input) r table l h =
     let next = l ++ (b ∷ []) in
     let small = book_most l in
-    let piece = piece_more l b (omega arith) in
+    let piece = bytes_more longest l b (omega arith) in
     let joined = append_assoc l (b ∷ []) input in
     by_order (length next) (book_length next)
     (λ short.

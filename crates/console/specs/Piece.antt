@@ -1,22 +1,25 @@
 -- The book or the frame that is being read, as far as it has come.
-use Rattle.std.specs.Prelude.{Bool, cond, List, ℕ, ◌+◌, min, leb, ltb, length, take, set, get_or}
+use Rattle.std.specs.Prelude.{Bool, List, ℕ, ◌+◌, min, leb, take, get_or}
 use Rattle.common.specs.Word.{word}
 use Rattle.line.specs.Claims.{longest}
-use Rattle.printout.specs.Text.{zeroed}
-use Rattle.console.specs.Types.{Piece}
+use Rattle.bounded.specs.declared.bytes.Bytes.{Bytes}
+use Rattle.bounded.specs.Bytes.{bytes_from, bytes_with}
+
+-- bytes, as many as the longest book has at most
+abbrev pub Piece : Type 0
+Piece = Bytes longest
 
 -- the piece of which l has come
 abbrev pub piece_of : List ℕ → Piece
-piece_of l = record { bytes = zeroed longest l; length = length l }
+piece_of l = bytes_from longest l
 
 -- what has come
 abbrev pub piece_bytes : Piece → List ℕ
 piece_bytes p = take p.length p.bytes
 
 -- a piece with one more byte, where there is room
-unfoldable pub piece_with : Piece → ℕ → Piece
-piece_with p b =
-    cond (ltb p.length longest) (record { bytes = set p.bytes p.length b; length = p.length + 1 }) p
+abbrev pub piece_with : Piece → ℕ → Piece
+piece_with p b = bytes_with longest p b
 
 -- "The book is two bytes and as many as they name, at most as many in all as the longest book has": 58 bytes with
 -- edition 3

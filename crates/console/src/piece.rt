@@ -1,10 +1,5 @@
 // The book or the frame that is being read, as far as it has come.
-
+use bounded::Bytes;
 use line::LONGEST_BOOK;
 
-// The first `length` bytes have come.
-#[derive(Clone, Copy)]
-pub struct Piece {
-    pub bytes: [u8; LONGEST_BOOK],
-    pub length: usize,
-}
+pub type Piece = Bytes<LONGEST_BOOK>;

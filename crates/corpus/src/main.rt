@@ -35,12 +35,12 @@ fn run_named<R: Files + Print + Eprint>(rt: &R, name: &str) -> io::Result<()> {
     }
 }
 
+// The arguments are counted up, since `env::args` would need a heap.
 fn main(rt: HostRuntime) -> io::Result<()> {
-    let mut more = true;
-    let mut i: usize = 1;
-    while i < usize::MAX && more {
-        more = run_file(&rt, i)?;
-        i += 1;
+    for i in 1..usize::MAX {
+        if !run_file(&rt, i)? {
+            break;
+        }
     }
     Ok(())
 }

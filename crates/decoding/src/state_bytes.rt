@@ -9,23 +9,21 @@ use encoding::{
     TRAIN_LENGTH, TRAINS_AT,
 };
 use line::{PostNo, Route, TrackNo};
-use rules::{Last, State, Status, Train};
+use rules::{State, Status, Train};
+use std::array::from_fn;
 
 // The state that the bytes encode.
 pub fn state_in(bytes: &[u8]) -> State
     requires { length bytes.now ≡ state_length }
     ensures { result ≡ state_in bytes.now }
 {
-    let tracks = tracks_in(bytes);
-    let fleet = fleet_in(bytes);
-    let possessions = possessions_in(bytes);
     State {
         posts: bytes[POSTS_AT],
-        tracks,
+        tracks: tracks_in(bytes),
         sidings: bytes[SIDINGS_AT],
         trains: bytes[TRAINS_AT],
-        fleet,
-        possessions,
+        fleet: fleet_in(bytes),
+        possessions: possessions_in(bytes),
         given: bytes[GIVEN_AT],
         logged: bytes[LOGGED_AT],
     }
@@ -35,39 +33,21 @@ fn tracks_in(bytes: &[u8]) -> [u8; 8]
     requires { length bytes.now ≡ state_length }
     ensures { result ≡ tracks_in bytes.now }
 {
-    let mut tracks = [0u8; 8];
-    let mut p: usize = 0;
-    while p < 8 {
-        tracks[p] = bytes[TRACKS_AT + p];
-        p += 1;
-    }
-    tracks
+    from_fn(|p| bytes[TRACKS_AT + p])
 }
 
 fn fleet_in(bytes: &[u8]) -> [Train; 6]
     requires { length bytes.now ≡ state_length }
     ensures { result ≡ fleet_in bytes.now }
 {
-    let mut fleet = [train_in(bytes, HEAD_LENGTH); 6];
-    let mut t: usize = 0;
-    while t < 6 {
-        fleet[t] = train_in(bytes, HEAD_LENGTH + TRAIN_LENGTH * t);
-        t += 1;
-    }
-    fleet
+    from_fn(|t| train_in(bytes, HEAD_LENGTH + TRAIN_LENGTH * t))
 }
 
 fn possessions_in(bytes: &[u8]) -> [bool; 7]
     requires { length bytes.now ≡ state_length }
     ensures { result ≡ possessions_in bytes.now }
 {
-    let mut possessions = [false; 7];
-    let mut i: usize = 0;
-    while i < 7 {
-        possessions[i] = bytes[POSSESSIONS_AT + i] == 1;
-        i += 1;
-    }
-    possessions
+    from_fn(|i| bytes[POSSESSIONS_AT + i] == 1)
 }
 
 // The train whose bytes begin at i.
@@ -75,8 +55,6 @@ fn train_in(bytes: &[u8], i: usize) -> Train
     requires { i + train_length ≤ length bytes.now }
     ensures { result ≡ train_in bytes.now i }
 {
-    let status = status_of(bytes[i + 4], bytes[i + 5]);
-    let last = last_of(bytes[i + 6], bytes[i + 7], bytes[i + 8]);
     Train {
         route: Route {
             start: PostNo(bytes[i]),
@@ -84,26 +62,28 @@ fn train_in(bytes: &[u8], i: usize) -> Train
         },
         at: PostNo(bytes[i + 2]),
         track: TrackNo(bytes[i + 3]),
-        status,
-        last,
+        status: status_of(bytes[i + 4], bytes[i + 5]),
+        last: last_of(bytes[i + 6], bytes[i + 7], bytes[i + 8]),
     }
 }
 
+#[tactic(auto, unfolding(encoding::specs::StateBytes::status_of))]
 fn status_of(status: u8, detail: u8) -> Status
     ensures { result ≡ status_of status detail }
 {
     match status {
         0 => Status::Free,
         1 => Status::Asked(detail),
-        2..=255 => Status::Running(TrackNo(detail)),
+        _ => Status::Running(TrackNo(detail)),
     }
 }
 
-fn last_of(last: u8, from: u8, to: u8) -> Last
+#[tactic(auto, unfolding(encoding::specs::StateBytes::last_of))]
+fn last_of(last: u8, from: u8, to: u8) -> Option<(PostNo, PostNo)>
     ensures { result ≡ last_of last from to }
 {
     match last {
-        0 => Last::Nothing,
-        1..=255 => Last::Done(PostNo(from), PostNo(to)),
+        0 => None,
+        _ => Some((PostNo(from), PostNo(to))),
     }
 }

@@ -6,8 +6,7 @@ use lib.ListN.{take}
 use Rattle.std.specs.Prelude.{Option, None, Some, Result, Ok, Err}
 use Rattle.std.specs.Result.{result_unwrap_or}
 use Rattle.std.specs.Io.KnownBytes.{Keeps, Consumes, ReadConsumes}
-use Rattle.printout.specs.declared.text.Text.{Text}
-use Rattle.printout.specs.Text.{text_of}
+use Rattle.printout.specs.Text.{Text, text_of}
 use Rattle.console.specs.declared.console.Console.{Console}
 use Rattle.console.specs.Console.{Desk, desk_of, fresh_console, taken_bytes, finished}
 use Rattle.console.specs.Transcript.{fresh_desk, printed}

@@ -2,8 +2,7 @@
 -- reader says which bytes it has yet to give, as one over memory does, it is these.
 use Rattle.std.specs.Prelude.{◌≡◌, List, ℕ, Option}
 use Rattle.std.specs.Io.KnownBytes.{Consumes, Appends}
-use Rattle.printout.specs.declared.text.Text.{Text}
-use Rattle.printout.specs.Text.{text_of}
+use Rattle.printout.specs.Text.{Text, text_of}
 use Rattle.console.specs.Console.{Desk, taken_bytes, finished}
 use Rattle.console.specs.Transcript.{transcript_of}
 

@@ -1,11 +1,10 @@
 // The run is read, and what it leaves is printed.
-ghost use Rattle.std.specs.Prelude.{◌≤◌, take, OnOk, OnErr};
-ghost use Rattle.std.specs.Io.KnownBytes.{Appends};
+ghost use Rattle.std.specs.Prelude.{◌≤◌, OnOk, OnErr};
 ghost use Rattle.printout.specs.Text.{text_length};
 ghost use Rattle.descriptor.specs.Reading.{Transcript, TranscriptOf, Served, Spent};
 
 use crate::reading::read_all;
-use printout::{TEXT_LENGTH, Text};
+use printout::Text;
 use std::io;
 use std::io::{Read, Write};
 use table::TABLE_LENGTH;
@@ -18,8 +17,7 @@ pub fn serve<R: Read, W: Write>(input: &mut R, output: &mut W) -> io::Result<()>
     ensures err { OnErr result (Spent (R.remaining input.old) (R.remaining input.new)) }
 {
     let text = transcript(input);
-    let bytes = text.bytes;
-    print_first(output, bytes, text.length)
+    output.write_all(text.as_slice())
 }
 
 // What is printed for the bytes of the input.
@@ -31,13 +29,4 @@ fn transcript<R: Read>(input: &mut R) -> Text
     let mut table = [0u8; TABLE_LENGTH];
     let console = read_all(input, &mut table);
     intake::printed(console)
-}
-
-// Prints the first `length` bytes, the transcript of some input.
-fn print_first<W: Write>(output: &mut W, bytes: [u8; TEXT_LENGTH], length: usize) -> io::Result<()>
-    requires length_le_text_length { length ≤ text_length }
-    requires transcript { Transcript (record { bytes = bytes; length = length }) }
-    ensures { OnOk result (Appends (W.contents output.old) (W.contents output.new) (take length bytes)) }
-{
-    output.write_all(&bytes[..length])
 }

@@ -1,12 +1,12 @@
 -- The step on a frame: what it leaves by value is the answer, with every journal of the length that was handed in.
 use mathlib.Core.Path.{◌≡◌, refl, sym, ap, ◌∙◌}
-use mathlib.Core.Logic.{◌≢◌}
 use mathlib.Core.Bool.{true, false, false≢true, true≢false}
 use mathlib.Core.Option.{none, some}
 use mathlib.Core.List.{List}
 use Prim.Native.Nat.{ℕ, ◌-◌, ◌≤◌}
 use native.Mathlib.Omega.{arith}
-use lib.ListN.{length, replicate, length-replicate}
+use lib.ListN.{length, drop, replicate, length-replicate, length-drop}
+use lib.Seq.{length-take-le}
 use Rattle.common.specs.Check.{refusal}
 use Rattle.common.specs.Part.{replaced}
 use Rattle.common.proofs.Check.{accepts, refuses}
@@ -92,41 +92,41 @@ new_content : {s : State} {a : Message} → Content s a → again s a ≡ none �
 new_content (new t) z = t
 new_content (old answers r) z = absurd (new_or_again z (repeats_again r))
 
-module _ (s : State) (table : List ℕ) (count : ℕ) (frame out : List ℕ) (number : ℕ)
-    (given : number ≡ refusal (frame_checks s (length table) count frame (length out))) where
-  -- a journal of that length
-  module _ (journal : List Record) (long : length journal ≡ count) where
-    numbered : refusal (frame_checks s (length table) (length journal) frame (length out)) ≡ number
-    numbered = ap (λ (n : ℕ). refusal (frame_checks s (length table) n frame (length out))) long ∙ sym given
-
-    declined : number ≢ 0 → answer s table journal frame out ≡ refused s journal out number
-    unfolding answer
-    declined h =
-        refuses _ (refused s journal out) (omega (arith, numbered)) ∙ ap (refused s journal out) numbered
-
-    taken : number ≡ 0 → answer s table journal frame out ≡ answered s.logged journal out
-        (accepted table s (read_frame frame))
-    unfolding answer
-    taken z = accepts _ (refused s journal out) (numbered ∙ z)
+module _ (s : State) (table : List ℕ) (count : ℕ) (frame out : List ℕ) where
+  -- the checks of the frame where the journal has n records
+  abbrev refused_by : ℕ → ℕ
+  refused_by n = refusal (frame_checks s (length table) n frame (length out))
 
   abbrev refusing : ℕ → Outcome
   refusing n = outcome_of s (RefusedBy n) 0 empty_batch
 
   -- nothing is written
-  pub step_refused : number ≢ 0 → (o : Outcome) → o ≡ outcome_of s (RefusedBy number) 0 empty_batch
-      → Stepped s table count frame out o out
-  step_refused h o e = record {
+  pub step_refused : (number : ℕ) → number ≡ refused_by count → 1 ≤ number → (o : Outcome)
+      → o ≡ outcome_of s (RefusedBy number) 0 empty_batch → Stepped s table count frame out o out
+  unfolding answer
+  step_refused number given h o e = record {
     exact = e ∙ ap refusing given ∙ sym (refuses _ refusing (omega (arith, given)));
     answers = λ journal long.
         ap (λ (p : Outcome). answer_of p.reply (appended journal p.at p.batch) out) e
         ∙ ap (λ (j : List Record). refused s j out number) (appended_none journal 0 empty_batch refl)
-        ∙ sym (declined journal long h);
+        ∙ sym (declined journal (ap refused_by long ∙ sym given));
   }
+    where
+      declined : (journal : List Record) → refused_by (length journal) ≡ number
+          → answer s table journal frame out ≡ refused s journal out number
+      declined journal numbered =
+          refuses _ (refused s journal out) (omega (arith, numbered)) ∙ ap (refused s journal out) numbered
 
-  module _ (zero : number ≡ 0) where
+  module _ (zero : 0 ≡ refused_by count) where
+    -- a journal of that length
+    taken : (journal : List Record) → length journal ≡ count → answer s table journal frame out ≡ answered s.logged
+        journal out (accepted table s (read_frame frame))
+    unfolding answer
+    taken journal long = accepts _ (refused s journal out) (ap refused_by long ∙ sym zero)
+
     pub step_passed : Passed s table (replicate count blank) frame out
     step_passed = frame_passed s table (replicate count blank) frame out
-        (numbered (replicate count blank) (length-replicate count blank) ∙ zero)
+        (ap refused_by (length-replicate count blank) ∙ sym zero)
 
     -- a repeat: its answers are written, and nothing else
     pub step_again : (answers : List Message) → again s (read_frame frame) ≡ some answers
@@ -136,12 +136,12 @@ module _ (s : State) (table : List ℕ) (count : ℕ) (frame out : List ℕ) (nu
     step_again answers e o eo after ea =
         let told = accepted_again table s (read_frame frame) e in
         record {
-          exact = eo ∙ sym (accepts _ refusing (sym given ∙ zero) ∙ rw told);
+          exact = eo ∙ sym (accepts _ refusing (sym zero) ∙ rw told);
           answers = λ journal long.
               ap (λ (p : Outcome). answer_of p.reply (appended journal p.at p.batch) after) eo
               ∙ ap (λ (j : List Record). answer_of (outcome_of s (Sent (length answers)) 0 empty_batch).reply j after)
               (appended_none journal s.logged empty_batch refl)
-              ∙ rw (ea) (sym (taken journal long zero ∙ rw told (told_again_lem s journal out answers)));
+              ∙ rw (ea) (sym (taken journal long ∙ rw told (told_again_lem s journal out answers)));
         }
 
     module _ (fresh : again s (read_frame frame) ≡ none) where
@@ -168,6 +168,16 @@ module _ (s : State) (table : List ℕ) (count : ℕ) (frame out : List ℕ) (nu
         pub step_few : p.batch.n ≤ batch_length
         step_few = omega (arith, size, left.few)
 
+        seven : length p.batch.items ≡ batch_length
+        seven = ap (λ (q : Progress). length q.batch.items) held ∙ kept.seven
+
+        pub step_within : p.batch.n ≤ length p.batch.items
+        step_within = omega (arith, seven, step_few)
+
+        pub step_count : length (answers_in p.batch.items p.batch.n) ≡ p.batch.n - 1
+        step_count = length-take-le (p.batch.n - 1) (drop 1 p.batch.items)
+            (omega (arith, seven, step_few, length-drop 1 p.batch.items))
+
         frames : frames_in (answers_in p.batch.items p.batch.n) ≡ frames_of work.sent
         frames =
             ap (λ (q : Progress). frames_in (answers_in q.batch.items q.batch.n)) held
@@ -183,24 +193,25 @@ module _ (s : State) (table : List ℕ) (count : ℕ) (frame out : List ℕ) (nu
             (omega (arith, left.few)) (omega (arith, left.few)))
             ∙ ap (λ (q : Progress). appended journal s.logged q.batch) (sym held)
 
-        pub step_accepted : (k : ℕ) → k ≡ p.batch.n - 1 → (after : List ℕ)
+        pub step_accepted : (k : ℕ) → k ≡ length (answers_in p.batch.items p.batch.n) → (after : List ℕ)
             → after ≡ replaced out 0 (frames_in (answers_in p.batch.items p.batch.n))
             → Stepped s table count frame out (outcome_of p.state (Sent k) s.logged p.batch) after
         step_accepted k ek after ea =
             let state : work.state ≡ p.state = ap (λ (q : Progress). q.state) (sym held) in
-            let verdict : length work.sent ≡ k = omega (arith, size, paired left) in
+            let verdict : length work.sent ≡ k =
+            omega (arith, ek, size, step_count, paired left) in
             let bytes : replaced out 0 (frames_of work.sent) ≡ after = ap (replaced out 0) (sym frames) ∙ sym ea in
             let batch : batch_of work.logged ≡ p.batch = ap (λ (q : Progress). q.batch) (sym held) in
             record {
               exact = sym (
-                  accepts _ refusing (sym given ∙ zero)
+                  accepts _ refusing (sym zero)
                   ∙ rw (accepted_anew table s (read_frame frame) fresh) refl
                   ∙ ap (λ (t : State). outcome_of t (Sent (length work.sent)) s.logged (batch_of work.logged))
                   state
                   ∙ ap (λ (n : ℕ). outcome_of p.state (Sent n) s.logged (batch_of work.logged)) verdict
                   ∙ ap (outcome_of p.state (Sent k) s.logged) batch);
               answers = λ journal long. sym (
-                  taken journal long zero
+                  taken journal long
                   ∙ ap (answered s.logged journal out) (accepted_anew table s (read_frame frame) fresh)
                   ∙ ap (λ (t : State). made t (length work.sent)
                   (replaced journal s.logged work.logged)

@@ -5,12 +5,12 @@ use Prim.Native.Nat.{ℕ, ◌+◌, ◌*◌, ◌≤◌, ◌<◌}
 use native.Mathlib.Nat.{zero-add}
 use native.Mathlib.Numerals.{add-one}
 use native.Mathlib.Omega.{arith}
-use lib.ListN.{length, get_or, take, drop, length-append, length-drop}
-use lib.Seq.{take-suc, length-take-le, get_or-drop, take-append_seam, drop-append-add, drop-drop}
+use lib.ListN.{length, get_or, take, drop, length-append}
+use lib.Seq.{take-suc, take-length, length-take-le, take-append_seam, drop-append-add, drop-drop}
 use Rattle.common.specs.Part.{replaced, replaced_if_room}
 use Rattle.common.proofs.Part.{length_replaced, replaced_if, replaced_none}
 use Rattle.frame.specs.Frame.{bytes_of}
-use Rattle.journal.specs.Journal.{blank, frame_of}
+use Rattle.journal.specs.Journal.{blank, frame_of, most_sent}
 use Rattle.dispatcher.specs.Types.{Message, Record}
 use Rattle.rules.specs.Answer.{out_length, frames_of}
 use Rattle.rules.proofs.Frames.{bytes_length}
@@ -38,66 +38,49 @@ replaced_next o xs ys =
       length-append,
     )
 
--- the frames of the first k answers among the items are written in the buffer o, which is then `out`
-pub record Written (o : List ℕ) (items : List Record) (out : List ℕ) (k : ℕ) : Type 0 where
+-- the frames of the first k answers are written in the buffer o, which is then `out`
+pub record Written (o : List ℕ) (answers : List Record) (out : List ℕ) (k : ℕ) : Type 0 where
   pub room : out_length ≤ length o
-  pub seven : length items ≡ 7
-  pub few : k ≤ 6
-  pub written : out ≡ replaced o 0 (frames_in (take k (drop 1 items)))
+  pub written : out ≡ replaced o 0 (frames_in (take k answers))
 
-pub written_none : (o : List ℕ) (items : List Record) → out_length ≤ length o → length items ≡ 7 → Written o items o 0
+pub written_none : (o : List ℕ) (answers : List Record) → out_length ≤ length o → Written o answers o 0
 unfolding frames_in
-written_none o items room seven = record {
-  room = room;
-  seven = seven;
-  few = omega arith;
-  written = sym (replaced_none o 0);
-}
+written_none o answers room = record { room = room; written = sym (replaced_none o 0) }
 
-module _ (o : List ℕ) (items : List Record) (out : List ℕ) (k : ℕ) (w : Written o items out k) where
-  abbrev answers : List Record
-  answers = drop 1 items
+module _ (o : List ℕ) (answers : List Record) (out : List ℕ) (k : ℕ) (few : length answers ≤ most_sent)
+    (w : Written o answers out k) where
+  module _ (h : k < length answers) where
+    size : length (frames_in (take k answers)) ≡ 7 * k
+    size = frames_size (take k answers) ∙ ap (λ (n : ℕ). 7 * n) (length-take-le k answers (omega arith))
 
-  six : length answers ≡ 6
-  six = length-drop 1 items ∙ omega (arith, w.seven)
+    written_length : length out ≡ length o
+    written_length = ap length w.written ∙ length_replaced o 0 (frames_in (take k answers))
+        (omega (arith, size, w.room))
 
-  size : length (frames_in (take k answers)) ≡ 7 * k
-  size = frames_size (take k answers) ∙ ap (λ (n : ℕ). 7 * n) (length-take-le k answers (omega (arith, six, w.few)))
+    pub written_more : (f : List ℕ) → f ≡ frame_of (get_or answers k blank) → (after : List ℕ)
+        → after ≡ replaced_if_room out (7 * k) f → Written o answers after (k + 1)
+    written_more f is after e = record {
+      room = w.room;
+      written =
+          e
+          ∙ sym (replaced_if out (7 * k) f (omega (arith, ap length is, written_length, w.room)))
+          ∙ ap (λ (n : ℕ). replaced out n f) (sym size)
+          ∙ ap (λ (l : List ℕ). replaced l (length (frames_in (take k answers))) f) w.written
+          ∙ replaced_next o (frames_in (take k answers)) f
+          ∙ ap (replaced o 0) more;
+    }
+      where
+        -- one frame more
+        more : frames_in (take k answers) ++ f ≡ frames_in (take (k + 1) answers)
+        more =
+            ap (λ (g : List ℕ). frames_in (take k answers) ++ g) is
+            ∙ sym (frames_more (take k answers) (get_or answers k blank))
+            ∙ ap frames_in (sym (take-suc answers k blank (omega arith))
+            ∙ ap (λ (n : ℕ). take n answers) (sym (add-one k)))
 
-  pub written_length : length out ≡ length o
-  written_length = ap length w.written ∙ length_replaced o 0 (frames_in (take k answers))
-      (omega (arith, size, w.room, w.few))
-
-  pub written_more : k < 6 → (f : List ℕ) → f ≡ frame_of (get_or items (k + 1) blank) → (after : List ℕ)
-      → after ≡ replaced_if_room out (7 * k) f
-      → Written o items after (k + 1)
-  written_more h f is after e = record {
-    room = w.room;
-    seven = w.seven;
-    few = omega arith;
-    written =
-        e
-        ∙ sym (replaced_if out (7 * k) f (omega (arith, ap length is, written_length, w.room)))
-        ∙ ap (λ (n : ℕ). replaced out n f) (sym size)
-        ∙ ap (λ (l : List ℕ). replaced l (length (frames_in (take k answers))) f) w.written
-        ∙ replaced_next o (frames_in (take k answers)) f
-        ∙ ap (replaced o 0) more;
-  }
-    where
-      -- one frame more
-      more : frames_in (take k answers) ++ f ≡ frames_in (take (k + 1) answers)
-      more =
-          ap (λ (g : List ℕ). frames_in (take k answers) ++ g)
-          (is ∙ ap frame_of (place ∙ sym (get_or-drop 1 items k blank)))
-          ∙ sym (frames_more (take k answers) (get_or answers k blank))
-          ∙ ap frames_in (sym (take-suc answers k blank (omega (arith, six)))
-          ∙ ap (λ (n : ℕ). take n answers) (sym (add-one k)))
-        where
-          place : get_or items (k + 1) blank ≡ get_or items (1 + k) blank
-          place = ap (λ (n : ℕ). get_or items n blank) (omega arith)
-
-  pub written_all : (n : ℕ) → k ≡ n → out ≡ replaced o 0 (frames_in (take n answers))
-  written_all n e = w.written ∙ ap (λ (m : ℕ). replaced o 0 (frames_in (take m answers))) e
+  pub written_all : k ≡ length answers → out ≡ replaced o 0 (frames_in answers)
+  written_all e = w.written ∙ ap (λ (l : List Record). replaced o 0 (frames_in l))
+      (ap (λ (n : ℕ). take n answers) e ∙ take-length answers)
 
 -- ---- a repeat's answer
 

@@ -4,8 +4,7 @@ pub use Rattle.frame.specs.declared.message.Message.{Message}
 pub use Rattle.journal.specs.declared.record.Record.{Record}
 pub use Rattle.journal.specs.declared.batch.Batch.{Batch}
 pub use Rattle.rules.specs.declared.state.State.{State}
-pub use Rattle.rules.specs.declared.result.Verdict.{Verdict}
-pub use Rattle.rules.specs.declared.result.Verdict.TheVariants.{Sent, Refused as RefusedBy}
+pub use Rattle.rules.specs.Types.{Verdict, Sent, RefusedBy}
 pub use Rattle.authority.specs.declared.granting.Progress.{Progress}
 pub use Rattle.accepting.specs.declared.repeats.Repeat.{Repeat}
 pub use Rattle.accepting.specs.declared.repeats.Repeat.TheVariants.{Not, Silent, Told}

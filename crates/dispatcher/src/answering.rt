@@ -4,7 +4,6 @@ ghost use Rattle.rules.specs.Answer.{answer_of, answer};
 
 use crate::stepping::step;
 use journal::{Log, Record};
-use logging::{log_length, log_with};
 use rules::{Reply, State};
 
 // Answers a frame. The answers' frames are at the beginning of `out`.
@@ -31,14 +30,10 @@ pub struct Logged {
 }
 
 // The same with a journal by value.
-pub fn answer_log(state: State, table: &[u8], log: Log, frame: &[u8], out: &mut [u8]) -> Logged
+pub fn answer_log(state: State, table: &[u8], mut log: Log, frame: &[u8], out: &mut [u8]) -> Logged
     ensures { answer_of result.reply result.log.records out.new
         ≡ answer state table.now log.records frame.now out.old }
 {
-    let records = log.records;
-    let o = step(state, table, log_length(records), frame, out);
-    let reply = o.reply;
-    let batch = o.batch;
-    let log = log_with(log, o.at, batch);
+    let reply = answer(state, table, &mut log.records, frame, out);
     Logged { reply, log }
 }

@@ -8,7 +8,7 @@ ghost use Rattle.dispatcher.specs.Step.{messages_of, outcome_of, Stepped};
 
 use crate::sending::{send, send_again};
 use accepting::{Repeat, accept, again, is_repeat};
-use checks::refusal_of;
+use checks::check_frame;
 use journal::Batch;
 use rules::{Reply, State, Verdict};
 
@@ -26,8 +26,7 @@ pub fn step(state: State, table: &[u8], records: usize, frame: &[u8], out: &mut 
     ensures { Stepped state table.now records frame.now out.old
         result out.new }
 {
-    let number = refusal_of(state, table.len(), records, frame, out.len());
-    if number != 0 {
+    if let Err(number) = check_frame(state, table.len(), records, frame, out.len()) {
         return refused(state, number);
     }
     let message = framing::read(frame);
@@ -36,45 +35,30 @@ pub fn step(state: State, table: &[u8], records: usize, frame: &[u8], out: &mut 
         return told_again(state, repeat, out);
     }
     let work = accept(state, table, message);
-    let at = state.logged as usize;
-    let next = work.state;
-    let batch = work.batch;
-    let items = batch.items;
-    let sent = send(items, batch.n, out);
-    let reply = Reply {
-        state: next,
-        verdict: Verdict::Sent(sent),
-    };
-    Outcome { reply, at, batch }
+    // The first record is the frame's own.
+    let sent = send(&work.batch.items[1..work.batch.n], out);
+    outcome_of(work.state, Ok(sent), state.logged as usize, work.batch)
 }
 
 // 02, card 6: "neither is logged or changes the state".
 fn told_again(state: State, repeat: Repeat, out: &mut [u8]) -> Outcome
     requires { out_length ≤ length out.old }
-    ensures value { result ≡ outcome_of state (Verdict.Sent (length (messages_of repeat))) state.logged empty_batch }
+    ensures value { result ≡ outcome_of state (Ok (length (messages_of repeat))) state.logged empty_batch }
     ensures out_after { out.new ≡ replaced out.old 0 (frames_of (messages_of repeat)) }
 {
     let sent = send_again(repeat, out);
-    let at = state.logged as usize;
-    let batch = logging::empty();
-    let reply = Reply {
-        state,
-        verdict: Verdict::Sent(sent),
-    };
-    Outcome { reply, at, batch }
+    outcome_of(state, Ok(sent), state.logged as usize, logging::empty())
 }
 
 fn refused(state: State, number: u8) -> Outcome
-    ensures { result ≡ outcome_of state (Verdict.Refused number) 0 empty_batch }
+    ensures { result ≡ outcome_of state (Err number) 0 empty_batch }
 {
-    let batch = logging::empty();
-    let reply = Reply {
-        state,
-        verdict: Verdict::Refused(number),
-    };
-    Outcome {
-        reply,
-        at: 0,
-        batch,
-    }
+    outcome_of(state, Err(number), 0, logging::empty())
+}
+
+fn outcome_of(state: State, verdict: Verdict, at: usize, batch: Batch) -> Outcome
+    ensures { result ≡ outcome_of state verdict at batch }
+{
+    let reply = Reply { state, verdict };
+    Outcome { reply, at, batch }
 }

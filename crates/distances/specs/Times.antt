@@ -6,19 +6,19 @@ use Rattle.common.specs.Tabulate.{values_from, padded}
 use Rattle.line.specs.Positions.{positions_in_order}
 use Rattle.line.specs.Book.{positioned, added}
 use Rattle.timing.specs.declared.timing.Time.{Time}
-use Rattle.timing.specs.Timing.{no_time, running_time}
+use Rattle.timing.specs.Timing.{Result, Ok, no_time, running_time}
 use Rattle.examples.specs.Reading.{refusal_of}
 use Rattle.examples.specs.Books.{book_of, position}
 use Rattle.examples.specs.Examples.{book_x}
 use Rattle.distances.specs.Positions.{kilometre, up_to, positioned_x}
 
-unfoldable pub asked : List ℕ → ℕ → ℕ → ℕ → Time
+unfoldable pub asked : List ℕ → ℕ → ℕ → ℕ → Result Time ℕ
 unfolding running_time refusal unless_refused values_from padded all_below positioned added positions_in_order
 asked book p q v = running_time book p q v
 
 -- the answer of so many seconds and the rest
-abbrev pub time : ℕ → ℕ → Time
-time seconds rest = record { refusal = 0; seconds = seconds; rest = rest }
+abbrev pub time : ℕ → ℕ → Result Time ℕ
+time seconds rest = Ok (record { seconds = seconds; rest = rest })
 
 -- the longest line that a book can have
 abbrev pub longest_line : List ℕ

@@ -1,14 +1,14 @@
--- Which case of `press_button` holds, by the tests that the code makes.
+-- Which case of `press_button` holds, by the checks that pass.
 use mathlib.Core.Path.{◌≡◌, sym, ap, ◌∙◌}
 use mathlib.Core.Bool.{true, false}
 use Prim.Native.Nat.{ℕ, ◌<◌}
 use native.Mathlib.Omega.{arith}
 use Rattle.common.proofs.Check.{Refuses, none, stop, pass, accepted_by, refused_by_lem}
 use Rattle.line.specs.Refusal.{strange_state, not_now, at_its_end}
-use Rattle.driver.specs.Types.{Move, Message, Fa, Am, Asked, UnderWay, Arrived, Button, Ask, Depart, Reached}
-use Rattle.driver.specs.Types.{Report, Again, Unit}
-use Rattle.driver.specs.State.{own_move, in_phase, valid_unit}
-use Rattle.driver.specs.Pressing.{may_press, end_permits, press_checks, silent, sending, moved_on, last_sent}
+use Rattle.driver.specs.Types.{Message, Button}
+use Rattle.driver.specs.Types.{Again, Unit}
+use Rattle.driver.specs.State.{valid_unit}
+use Rattle.driver.specs.Pressing.{may_press, end_permits, press_checks, silent, sending, last_sent}
 use Rattle.driver.specs.Pressing.{carried_out, press_button}
 
 module _ (u : Unit) (b : Button) where
@@ -31,24 +31,6 @@ module _ (u : Unit) (b : Button) where
         pub carried_out_lem : carried_out u b ≡ press_button u b
         unfolding press_button
         carried_out_lem = accepted_by (carried_out u b) (silent u) (pass good (pass may (pass permits none)))
-
-        pub ask : b ≡ Ask → (v : Unit) (m : Move) → v ≡ in_phase u Asked → m ≡ own_move u
-            → sending v (Fa m) ≡ press_button u b
-        unfolding carried_out
-        ask e v m p q = rw (p, q) (ap (carried_out u) (sym e) ∙ carried_out_lem)
-
-        pub depart : b ≡ Depart → (v : Unit) → v ≡ in_phase u UnderWay → silent v 0 ≡ press_button u b
-        unfolding carried_out
-        depart e v p = rw p (ap (carried_out u) (sym e) ∙ carried_out_lem)
-
-        pub reached : b ≡ Reached → (v : Unit) → v ≡ in_phase u Arrived → silent v 0 ≡ press_button u b
-        unfolding carried_out
-        reached e v p = rw p (ap (carried_out u) (sym e) ∙ carried_out_lem)
-
-        pub report : b ≡ Report → (v : Unit) (m : Move) → v ≡ moved_on u → m ≡ own_move u
-            → sending v (Am m) ≡ press_button u b
-        unfolding carried_out
-        report e v m p q = rw (p, q) (ap (carried_out u) (sym e) ∙ carried_out_lem)
 
         pub again : b ≡ Again → (x : Message) → x ≡ last_sent u → sending u x ≡ press_button u b
         unfolding carried_out

@@ -1,34 +1,22 @@
--- Which case of `hear_frame` holds, by what the frame reads as and the tests that the code makes.
+-- Which case of `hear_frame` holds, by what the frame reads as and the checks that pass.
 use mathlib.Core.Path.{◌≡◌, refl, sym, ap, ◌∙◌}
-use mathlib.Core.Logic.{◌≢◌}
-use mathlib.Core.Bool.{true, false, ◌&&◌}
+use mathlib.Core.Bool.{true, false}
 use mathlib.Core.List.{List, ◌∷◌, ◌++◌}
 use Prim.Native.Nat.{ℕ, ◌<◌}
 use native.Mathlib.Omega.{arith}
-use lib.Dec.{eqb}
-use borrow.Author.Tests.{eq-eqb, ne_eqb}
+use borrow.Author.Tests.{eq-eqb}
 use Rattle.common.specs.Check.{Check, check}
+use Rattle.common.proofs.Tests.{by_cases}
 use Rattle.common.proofs.Check.{Refuses, none, stop, pass, stop_within, pass_all, accepted_by, refused_by_lem}
 use Rattle.line.specs.Refusal.{strange_state, wrong_end, not_awaited}
 use Rattle.frame.specs.Frame.{read_checks, read_frame}
 use Rattle.frame.specs.RoundTrip.{IsMessage}
 use Rattle.frame.proofs.Outcome.{read_passed, read_refused}
-use Rattle.driver.specs.Types.{Move, Message, Fa, Fe, Afe, Am, La, Le, Lb, Refused, Phase, Asked}
-use Rattle.driver.specs.Types.{Declined, Granted, Unit}
-use Rattle.driver.specs.State.{same_phase, awaiting, own_move, in_phase, valid_unit}
-use Rattle.driver.specs.Hearing.{for_train, for_move, for_unit, awaited, hear_checks, phase_after, heard_with}
-use Rattle.driver.specs.Hearing.{hear_frame}
-
--- the tests of a move against the unit's own
-module _ (u : Unit) (m own : Move) (is-own : own ≡ own_move u) where
-  pub other_train : m.train.0 ≢ own.train.0 → false ≡ for_move u m
-  unfolding for_move
-  other_train h = let z : for_train u m ≡ false = rw is-own at (ne_eqb m.train.0 own.train.0 h) in rw z
-
-  pub own_train : m.train.0 ≡ own.train.0
-      → eqb m.from.0 own.from.0 && eqb m.to.0 own.to.0 ≡ for_move u m
-  unfolding for_move
-  own_train h = let z : for_train u m ≡ true = rw is-own at (eq-eqb m.train.0 own.train.0 h) in rw (is-own, z)
+use Rattle.driver.specs.Types.{Move, Message, Fa, Fe, Afe, Am, La, Le, Lb, Refused, Phase}
+use Rattle.driver.specs.Types.{Unit}
+use Rattle.driver.specs.State.{awaiting, in_phase, valid_unit}
+use Rattle.driver.specs.Hearing.{for_move, for_unit, awaited, hear_checks, phase_after, heard_with}
+use Rattle.driver.specs.Hearing.{phase_told, heard_by, hear_frame}
 
 module _ (u : Unit) (f : List ℕ) where
   refused : {n : ℕ} → 0 < n → Refuses (hear_checks u f) n → heard_with u n ≡ hear_frame u f
@@ -100,10 +88,6 @@ module _ (u : Unit) (f : List ℕ) where
       unfolding IsMessage
       fe_refused = unawaited (Fe m) e tt refl
 
-      pub fe_for_another : m.train.0 ≢ u.train.0 → heard_with u 0 ≡ hear_frame u f
-      unfolding phase_after for_move
-      fe_for_another h = fe_taken u.phase (rw (ne_eqb _ _ h)) (rw (ne_eqb _ _ h))
-
       module _ (own : m.train.0 ≡ u.train.0) where
         pub fe_for_another_move : for_move u m ≡ false → heard_with u not_awaited ≡ hear_frame u f
         fe_for_another_move h = fe_refused (rw (eq-eqb _ _ own, h))
@@ -111,28 +95,20 @@ module _ (u : Unit) (f : List ℕ) where
         pub fe_not_now : for_move u m ≡ true → awaiting u.phase ≡ false → heard_with u not_awaited ≡ hear_frame u f
         fe_not_now h k = fe_refused (rw (eq-eqb _ _ own, h, k))
 
-        pub fe_granted : for_move u m ≡ true → awaiting u.phase ≡ true → (v : Unit) → v ≡ in_phase u Granted
-            → heard_with v 0 ≡ hear_frame u f
-        unfolding phase_after
-        fe_granted h k v p = rw p (fe_taken Granted (rw (eq-eqb _ _ own, h, k)) (rw h))
+    -- ---- any frame
 
-    -- ---- AFE
+    told : (x : Message) → read_frame f ≡ x → heard_by u (phase_told u x) ≡ hear_frame u f
+    unfolding IsMessage
+    told (Fa m) e = fa m e
+    told (Fe m) e = by_cases (awaited u (Fe m))
+        (λ h. rw h (fe_taken m e (phase_after u (Fe m)) h refl))
+        (λ h. rw h (fe_refused m e h))
+    told (Afe m) e = taken (Afe m) e tt refl (phase_after u (Afe m)) refl refl
+    told (Am m) e = am m e
+    told (La m) e = la m e
+    told (Le m) e = le m e
+    told (Lb m) e = lb m e
+    told (Refused n) e = not_read n e
 
-    module _ (m : Move) (e : read_frame f ≡ Afe m) where
-      afe_taken : (p : Phase) → phase_after u (Afe m) ≡ p → heard_with (in_phase u p) 0 ≡ hear_frame u f
-      unfolding IsMessage
-      afe_taken p = taken (Afe m) e tt refl p refl
-
-      pub afe_for_another : for_move u m ≡ false → heard_with u 0 ≡ hear_frame u f
-      unfolding phase_after
-      afe_for_another h = afe_taken u.phase (rw h)
-
-      module _ (own : for_move u m ≡ true) where
-        pub afe_not_now : same_phase u.phase Asked ≡ false → heard_with u 0 ≡ hear_frame u f
-        unfolding phase_after
-        afe_not_now h = afe_taken u.phase (rw (own, h))
-
-        pub afe_declined : same_phase u.phase Asked ≡ true → (v : Unit) → v ≡ in_phase u Declined
-            → heard_with v 0 ≡ hear_frame u f
-        unfolding phase_after
-        afe_declined h v p = rw p (afe_taken Declined (rw (own, h)))
+    pub heard_by_lem : heard_by u (phase_told u (read_frame f)) ≡ hear_frame u f
+    heard_by_lem = told (read_frame f) refl

@@ -1,10 +1,8 @@
 -- The numbers that a unit may have, and the unit that is made of them.
 use mathlib.Core.Path.{◌≡◌}
-use mathlib.Core.Bool.{true, false, ◌&&◌}
-use Prim.Native.Nat.{ℕ, ◌≤◌, ◌<◌}
+use mathlib.Core.Bool.{true, false}
+use Prim.Native.Nat.{ℕ}
 use native.Mathlib.Omega.{arith}
-use lib.Dec.{leb}
-use borrow.Author.Tests.{le-leb, lt-leb}
 use Rattle.common.proofs.Check.{none, stop, pass, accepted_by, refused_by_lem}
 use Rattle.line.specs.Refusal.{off_the_line}
 use Rattle.driver.specs.Types.{Unit}
@@ -12,14 +10,6 @@ use Rattle.driver.specs.State.{numbers_fit}
 use Rattle.driver.specs.Making.{standing_unit, empty_unit, made, make_unit}
 
 module _ (t a e : ℕ) where
-  pub train_above : 5 < t → false ≡ numbers_fit t a e
-  unfolding numbers_fit
-  train_above h = rw (lt-leb t 5 h)
-
-  pub train_fits : t ≤ 5 → leb a 7 && leb e 7 ≡ numbers_fit t a e
-  unfolding numbers_fit
-  train_fits h = rw (le-leb t 5 h)
-
   pub makes : numbers_fit t a e ≡ true → (u : Unit) → u ≡ standing_unit t a e → made u 0 ≡ make_unit t a e
   unfolding make_unit
   makes h u p = rw p (accepted_by (made (standing_unit t a e) 0) (made empty_unit) (pass h none))

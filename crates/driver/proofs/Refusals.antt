@@ -16,7 +16,7 @@ use Rattle.driver.specs.Types.{Move, Message, Fa, Am, Unit, Made, Pressed, Heard
 use Rattle.driver.specs.Types.{Report, Again, Phase, Standing, Asked, Declined}
 use Rattle.driver.specs.State.{same_phase, numbers_fit, awaiting, own_move, past_start, last_move, in_phase, valid_unit}
 use Rattle.driver.specs.Making.{empty_unit}
-use Rattle.driver.specs.Pressing.{may_press, end_permits, press_checks, silent, sending, moved_on, last_sent}
+use Rattle.driver.specs.Pressing.{may_press, end_permits, press_checks, silent, sending, is_sent, moved_on, last_sent}
 use Rattle.driver.specs.Pressing.{carried_out, press_button}
 use Rattle.driver.specs.Hearing.{for_move, hear_checks, phase_after, heard_with, hear_frame}
 use Rattle.driver.specs.Refusals.{HearingRefused, HearsFe, WrongState, UnitRefusals}
@@ -101,7 +101,7 @@ module _ (u : Unit) where
     reports_again h k = given (Am (last_move u)) (rw (h, k)) (rw h)
 
 module _ (u : Unit) (good : valid_unit u ≡ true) where
-  given_again : (b : Button) → may_press u b ≡ true → end_permits u b ≡ true → (carried_out u b).sent ≡ true
+  given_again : (b : Button) → may_press u b ≡ true → end_permits u b ≡ true → is_sent (carried_out u b).frame ≡ true
       → press_button (carried_out u b).unit Again ≡ carried_out u b
   unfolding carried_out
   given_again Ask may permits h = asks_again (in_phase u Asked) (carried_out_valid u good Ask permits) (inl refl)
@@ -112,16 +112,16 @@ module _ (u : Unit) (good : valid_unit u ≡ true) where
       ∙ ap (λ (m : Move). sending (moved_on u) (Am m)) (moved_on_last u good (short u permits))
   given_again Again may permits h = sym (buttons.carried_out_lem u Again good may permits)
 
-  repeated : {b : Button} {r : Pressed} → PressOutcome u b r → r.sent ≡ true → press_button r.unit Again ≡ r
+  repeated : {b : Button} {r : Pressed} → PressOutcome u b r → is_sent r.frame ≡ true → press_button r.unit Again ≡ r
   repeated (refused n) h = absurd (false≢true h)
   repeated {b} (accepted may permits) h = given_again b may permits h
 
 -- a unit that is not valid sends nothing
-repeats : (u : Unit) (b : Button) → (press_button u b).sent ≡ true
+repeats : (u : Unit) (b : Button) → is_sent (press_button u b).frame ≡ true
     → press_button (press_button u b).unit Again ≡ press_button u b
 repeats u b = by_cases (valid_unit u)
     (λ good. repeated u good (press_outcome u b))
-    (λ bad h. absurd (false≢true (ap (λ (r : Pressed). r.sent) (buttons.strange u b bad) ∙ h)))
+    (λ bad h. absurd (false≢true (ap (λ (r : Pressed). is_sent r.frame) (buttons.strange u b bad) ∙ h)))
 
 -- ---- an FE for the unit's own train
 

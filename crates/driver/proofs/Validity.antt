@@ -1,4 +1,4 @@
--- When a unit is valid, by the tests that the code makes, and that a valid unit stays valid: `specs/Validity.antt`,
+-- When a unit is valid, and that a valid unit stays valid: `specs/Validity.antt`,
 -- proved.
 use mathlib.Core.Path.{◌≡◌, refl, sym, ap, ◌∙◌}
 use mathlib.Core.Logic.{◌≢◌}
@@ -20,30 +20,20 @@ use Rattle.driver.proofs.Numbers.{makes, makes_none}
 use Rattle.driver.proofs.Phases.{awaiting_not_standing}
 use Rattle.driver.proofs.Outcomes as outcomes
 
--- ---- by the tests
+-- ---- at its end, and short of it
 
-module _ (u : Unit) where
-  pub numbers_wrong : in_ranges u ≡ false → false ≡ valid_unit u
+module _ (u : Unit) (fit : in_ranges u ≡ true) (on : on_route u ≡ true) where
+  short_of_end : u.at.0 ≢ u.route.end.0 → true ≡ valid_unit u
   unfolding valid_unit
-  numbers_wrong h = rw h
+  short_of_end h = rw (fit, on, ne_eqb _ _ h)
 
-  module _ (fit : in_ranges u ≡ true) where
-    pub post_wrong : on_route u ≡ false → false ≡ valid_unit u
-    unfolding valid_unit
-    post_wrong h = rw (fit, h)
+  at_its_end_lem : u.at.0 ≡ u.route.end.0 → same_phase u.phase Standing ≡ valid_unit u
+  unfolding valid_unit
+  at_its_end_lem h = rw (fit, on, eq-eqb _ _ h)
 
-    module _ (on : on_route u ≡ true) where
-      pub short_of_end : u.at.0 ≢ u.route.end.0 → true ≡ valid_unit u
-      unfolding valid_unit
-      short_of_end h = rw (fit, on, ne_eqb _ _ h)
-
-      pub at_its_end_lem : u.at.0 ≡ u.route.end.0 → same_phase u.phase Standing ≡ valid_unit u
-      unfolding valid_unit
-      at_its_end_lem h = rw (fit, on, eq-eqb _ _ h)
-
-      standing_valid : same_phase u.phase Standing ≡ true → valid_unit u ≡ true
-      standing_valid h =
-          by_equality u.at.0 u.route.end.0 (λ e. sym (at_its_end_lem e) ∙ h) (λ e. sym (short_of_end e))
+  standing_valid : same_phase u.phase Standing ≡ true → valid_unit u ≡ true
+  standing_valid h =
+      by_equality u.at.0 u.route.end.0 (λ e. sym (at_its_end_lem e) ∙ h) (λ e. sym (short_of_end e))
 
 -- ---- what follows for a valid unit
 

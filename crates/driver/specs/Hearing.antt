@@ -1,5 +1,6 @@
 -- Hearing a frame. 01: "Checks: 1, then 3, 4, 5, 6, 22 for frames".
 use Rattle.std.specs.Prelude.{Bool, true, false, cond, not, ◌&&◌, ◌||◌, List, [], ◌∷◌, ◌++◌, ℕ, eqb}
+use Rattle.std.specs.Prelude.{Result, Ok, Err}
 use Rattle.common.specs.Check.{Check, check, refusal, unless_refused}
 use Rattle.line.specs.Refusal.{strange_state, wrong_end, not_awaited}
 use Rattle.frame.specs.Frame.{read_checks, read_frame}
@@ -60,6 +61,21 @@ phase_after u (Refused n) = u.phase
 -- the unit, and the number of the refusal or 0
 abbrev pub heard_with : Unit → ℕ → Heard
 heard_with u n = record { unit = u; refusal = n }
+
+-- what a message does to a valid unit: the phase that it has then, or the number of the refusal
+abbrev pub phase_told : Unit → Message → Result Phase ℕ
+phase_told u (Fa m) = Err wrong_end
+phase_told u (Fe m) = cond (awaited u (Fe m)) (Ok (phase_after u (Fe m))) (Err not_awaited)
+phase_told u (Afe m) = Ok (phase_after u (Afe m))
+phase_told u (Am m) = Err wrong_end
+phase_told u (La m) = Ok u.phase
+phase_told u (Le m) = Ok u.phase
+phase_told u (Lb m) = Ok u.phase
+phase_told u (Refused n) = Err n
+
+abbrev pub heard_by : Unit → Result Phase ℕ → Heard
+heard_by u (Ok p) = heard_with (in_phase u p) 0
+heard_by u (Err n) = heard_with u n
 
 -- "A refusal returns its number and the state unchanged"
 unfoldable pub hear_frame : Unit → List ℕ → Heard

@@ -5,7 +5,7 @@ use Rattle.line.specs.Route.{next_post}
 use Rattle.frame.specs.Frame.{move_of, read_frame}
 use Rattle.driver.specs.Types.{Move, Message, Fa, Fe, Afe, Am, La, Le, Lb, Refused, Button, Unit, Pressed, Heard}
 use Rattle.driver.specs.Making.{make_unit}
-use Rattle.driver.specs.Pressing.{is_again, press_button}
+use Rattle.driver.specs.Pressing.{is_again, sent_bytes, press_button}
 use Rattle.driver.specs.Hearing.{hear_frame}
 
 -- ---- what goes in and what comes out
@@ -21,7 +21,7 @@ pub record CabExchange : Type 0 where
   pub sent : List ℕ
 
 abbrev pub of_press : Button → Pressed → CabExchange
-of_press b r = record { input = press b; refusal = r.refusal; sent = cond r.sent r.frame [] }
+of_press b r = record { input = press b; refusal = r.refusal; sent = sent_bytes r.frame }
 
 abbrev pub of_frame : List ℕ → Heard → CabExchange
 of_frame f r = record { input = frame f; refusal = r.refusal; sent = [] }

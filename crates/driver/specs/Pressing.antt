@@ -1,9 +1,9 @@
 -- Pressing a button. 01: "Checks: .. 1, then 21, then 8 for buttons."
-use Rattle.std.specs.Prelude.{Bool, true, false, cond, not, ◌&&◌, ◌||◌, List, [], ◌∷◌, ℕ, replicate}
+use Rattle.std.specs.Prelude.{Bool, true, false, cond, not, ◌&&◌, ◌||◌, List, [], ◌∷◌, ℕ, Option, None, Some}
 use Rattle.common.specs.Check.{Check, check, refusal, unless_refused}
 use Rattle.line.specs.Refusal.{strange_state, not_now, at_its_end}
 use Rattle.line.specs.Route.{next_post}
-use Rattle.frame.specs.Frame.{frame_length, bytes_of}
+use Rattle.frame.specs.Frame.{bytes_of}
 use Rattle.driver.specs.Types.{Message, Fa, Am, Unit, Pressed, Button, Ask, Depart, Reached, Report, Again}
 use Rattle.driver.specs.Types.{Standing, Asked, Granted, UnderWay, Arrived}
 use Rattle.driver.specs.State.{same_phase, awaiting, ended, own_move, past_start, last_move, in_phase, valid_unit}
@@ -40,13 +40,22 @@ press_checks u b =
     ∷ check at_its_end (end_permits u b)
     ∷ []
 
--- ---- the answers: the unit, the number of the refusal or 0, and a frame or seven bytes of 0
+-- ---- the answers: the unit, the number of the refusal or 0, and a frame or none
 
 abbrev pub silent : Unit → ℕ → Pressed
-silent u n = record { unit = u; refusal = n; sent = false; frame = replicate frame_length 0 }
+silent u n = record { unit = u; refusal = n; frame = None }
 
 abbrev pub sending : Unit → Message → Pressed
-sending u m = record { unit = u; refusal = 0; sent = true; frame = bytes_of m }
+sending u m = record { unit = u; refusal = 0; frame = Some (bytes_of m) }
+
+-- whether there is a frame to be sent, and the bytes that are sent: none or the frame's
+abbrev pub is_sent : Option (List ℕ) → Bool
+is_sent None = false
+is_sent (Some f) = true
+
+abbrev pub sent_bytes : Option (List ℕ) → List ℕ
+sent_bytes None = []
+sent_bytes (Some f) = f
 
 -- ---- the flow
 

@@ -8,7 +8,7 @@ use Rattle.driver.specs.Types.{Move, Fa, Fe, Am, La, Le, Lb, Refused, Unit, Butt
 use Rattle.driver.specs.Types.{Again, Standing, Asked, Declined, Granted, UnderWay, Arrived}
 use Rattle.driver.specs.State.{awaiting, own_move, last_move, valid_unit}
 use Rattle.driver.specs.Making.{make_unit}
-use Rattle.driver.specs.Pressing.{sending, press_button}
+use Rattle.driver.specs.Pressing.{sending, is_sent, press_button}
 use Rattle.driver.specs.Hearing.{heard_with, hear_frame}
 
 abbrev pub PressRefused : ℕ → Unit → Button → Type 0
@@ -68,5 +68,5 @@ pub record UnitRefusals : Type 0 where
       → press_button u Again ≡ sending u (Am (last_move u))
   pub not_ended : (u : Unit) → (press_button u Again).refusal ≢ at_its_end
   -- "Repeats over bad radio": pressed directly after a press that gave a frame, Again gives that frame
-  pub repeats : (u : Unit) (b : Button) → (press_button u b).sent ≡ true
+  pub repeats : (u : Unit) (b : Button) → is_sent (press_button u b).frame ≡ true
       → press_button (press_button u b).unit Again ≡ press_button u b

@@ -2,7 +2,7 @@
 use line::{PostNo, Route, TrainNo};
 
 // Where the unit is in the course of one move.
-#[derive(Clone, Copy)]
+#[derive(Clone, Copy, PartialEq, Eq)]
 pub enum Phase {
     // At a post, with nothing asked.
     Standing,
@@ -19,7 +19,7 @@ pub enum Phase {
 }
 
 // What the driver can press.
-#[derive(Clone, Copy)]
+#[derive(Clone, Copy, PartialEq, Eq)]
 pub enum Button {
     Ask,
     Depart,

@@ -1,7 +1,6 @@
 -- The round trips of `specs/RoundTrip`: each part that is read at its place stands there, and each that stands there is
 -- read.
 use mathlib.Core.Path.{◌≡◌, refl, sym, ap, ◌∙◌}
-use mathlib.Core.Logic.{◌≢◌}
 use mathlib.Core.Bool.{Bool, true, false}
 use mathlib.Core.List.{List}
 use Prim.Native.Nat.{ℕ, zero, suc, ◌+◌, ◌*◌, ◌^◌, ◌≤◌, ◌<◌}
@@ -22,8 +21,8 @@ use Rattle.journal.specs.Journal.{blank}
 use Rattle.driver.specs.State.{phase_no}
 use Rattle.rules.specs.State.{no_train, train_of}
 use Rattle.encoding.specs.Types.{Phase, Standing, Asked, Declined, Granted, UnderWay, Arrived, Unit}
-use Rattle.encoding.specs.Types.{Status, Free, AskedAs, Running, Last, Nothing, Done, Train, State, Record, Time}
-use Rattle.encoding.specs.Types.{Place, AtPost, InSection, Nowhere, NotPlaced}
+use Rattle.encoding.specs.Types.{Status, Free, AskedAs, Running, Last, None, Some, Train, State, Record, Time}
+use Rattle.encoding.specs.Types.{Place, AtPost, InSection, Nowhere}
 use Rattle.encoding.specs.Parts.{head_bytes}
 use Rattle.encoding.specs.UnitBytes.{unit_bytes, encodes_unit, phase_of, unit_in}
 use Rattle.encoding.specs.StateBytes.{status_no, detail, last_no, last_from, last_to, train_bytes, state_parts}
@@ -105,12 +104,12 @@ status_encodes (Running k) = refl
 
 last_back : (x : Last) → last_of (last_no x) (last_from x) (last_to x) ≡ x
 unfolding last_of
-last_back Nothing = refl
-last_back (Done p q) = refl
+last_back None = refl
+last_back (Some m) = refl
 
 last_encodes : (x : Last) → encodes_last (last_no x) (last_from x) (last_to x) ≡ true
-last_encodes Nothing = refl
-last_encodes (Done p q) = refl
+last_encodes None = refl
+last_encodes (Some m) = refl
 
 -- a train that stands at i is read
 train_read : (b : List ℕ) (i : ℕ) (x : Train) → At b i (train_bytes x) → train_in b i ≡ x
@@ -270,13 +269,11 @@ place_length_lem : (a : Place) → length (place_bytes a) ≡ place_length
 place_length_lem (AtPost p) = refl
 place_length_lem (InSection i q) = refl
 place_length_lem Nowhere = refl
-place_length_lem (NotPlaced n) = refl
 
-place_back : (a : Place) → ((n : ℕ) → a ≢ NotPlaced n) → place_in (place_bytes a) ≡ a
-place_back (AtPost p) h = refl
-place_back (InSection i q) h = refl
-place_back Nowhere h = refl
-place_back (NotPlaced n) h = absurd (h n refl)
+place_back : (a : Place) → place_in (place_bytes a) ≡ a
+place_back (AtPost p) = refl
+place_back (InSection i q) = refl
+place_back Nowhere = refl
 
 pub round_trip : BytesReadBack
 round_trip = record {

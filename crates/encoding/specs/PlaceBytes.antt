@@ -3,7 +3,7 @@
 use Rattle.std.specs.Prelude.{cond, List, [], ◌∷◌, ℕ, eqb}
 use Rattle.line.specs.Book.{byte_at}
 use Rattle.place.specs.Locating.{at, in_section}
-use Rattle.encoding.specs.Types.{Place, AtPost, InSection, Nowhere, NotPlaced}
+use Rattle.encoding.specs.Types.{Place, AtPost, InSection, Nowhere}
 
 -- where each of them is, and how many bytes they are
 abbrev pub sort_byte : ℕ
@@ -27,12 +27,11 @@ post_sort = 1
 abbrev pub section_sort : ℕ
 section_sort = 2
 
--- a post is the nearest to itself. A refusal, which has no place, is as nothing.
+-- a post is the nearest to itself
 abbrev pub place_bytes : Place → List ℕ
 place_bytes (AtPost p) = post_sort ∷ p.0 ∷ p.0 ∷ []
 place_bytes (InSection i q) = section_sort ∷ i.0 ∷ q.0 ∷ []
 place_bytes Nowhere = nothing_sort ∷ 0 ∷ 0 ∷ []
-place_bytes (NotPlaced n) = nothing_sort ∷ 0 ∷ 0 ∷ []
 
 -- the place that the bytes say, and the nearest post
 abbrev pub place_in : List ℕ → Place

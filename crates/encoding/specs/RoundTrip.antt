@@ -1,8 +1,8 @@
 -- The claims on the layouts: what is written reads back, and only what is written is read. They hold for any list of
 -- numbers, bytes or not.
-use Rattle.std.specs.Prelude.{◌≡◌, ◌≢◌, true, List, ℕ, ◌^◌, ◌<◌, length}
+use Rattle.std.specs.Prelude.{◌≡◌, true, List, ℕ, ◌^◌, ◌<◌, length}
 use Rattle.place.specs.Locating.{at}
-use Rattle.encoding.specs.Types.{Unit, State, Record, Time, Place, NotPlaced}
+use Rattle.encoding.specs.Types.{Unit, State, Record, Time, Place}
 use Rattle.encoding.specs.UnitBytes.{unit_bytes, encodes_unit, unit_in}
 use Rattle.encoding.specs.StateBytes.{state_bytes, encodes_state, state_in}
 use Rattle.encoding.specs.JournalBytes.{record_count, records_in, with_records}
@@ -35,5 +35,5 @@ pub record BytesReadBack : Type 0 where
       → (seconds_in (time_bytes t) ≡ t.seconds) × (rest_in (time_bytes t) ≡ t.rest)
   -- a place is three bytes, which say it, and at a post that this is the nearest
   pub place_length_lem : (a : Place) → length (place_bytes a) ≡ place_length
-  pub place_back : (a : Place) → ((n : ℕ) → a ≢ NotPlaced n) → place_in (place_bytes a) ≡ a
+  pub place_back : (a : Place) → place_in (place_bytes a) ≡ a
   pub own_nearest : (p : ℕ) → nearest_in (place_bytes (at p)) ≡ p

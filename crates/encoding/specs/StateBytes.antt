@@ -6,7 +6,7 @@ use Rattle.std.specs.Prelude.{Bool, not, cond, ◌&&◌, ◌||◌, List, [], ◌
 use Rattle.common.specs.Below.{of_bool, all_below}
 use Rattle.common.specs.Tabulate.{tabulate}
 use Rattle.line.specs.Book.{byte_at, route}
-use Rattle.encoding.specs.Types.{Status, Free, AskedAs, Running, Last, Nothing, Done, Train, State}
+use Rattle.encoding.specs.Types.{Status, Free, AskedAs, Running, Last, None, Some, Train, State}
 use Rattle.encoding.specs.Parts.{joined, each, head_bytes, posts_byte, tracks_byte, sidings_byte, trains_byte}
 use Rattle.encoding.specs.Parts.{head_length}
 use Rattle.encoding.specs.LineBytes.{route_length, route_ends}
@@ -27,16 +27,16 @@ detail (Running k) = k.0
 
 -- last finished move (0 none, 1 one), and its two posts, 0 where there is none
 abbrev pub last_no : Last → ℕ
-last_no Nothing = 0
-last_no (Done p q) = 1
+last_no None = 0
+last_no (Some m) = 1
 
 abbrev pub last_from : Last → ℕ
-last_from Nothing = 0
-last_from (Done p q) = p.0
+last_from None = 0
+last_from (Some m) = m.0.0
 
 abbrev pub last_to : Last → ℕ
-last_to Nothing = 0
-last_to (Done p q) = q.0
+last_to None = 0
+last_to (Some m) = m.1.0
 
 -- what a frame can change of a train
 abbrev pub standing_bytes : Train → List ℕ
@@ -126,7 +126,7 @@ status_of k n = cond (eqb k 0) Free (cond (eqb k 1) (AskedAs n) (Running (record
 
 -- the last finished move of a number; what is above 1 is not read
 unfoldable pub last_of : ℕ → ℕ → ℕ → Last
-last_of k p q = cond (eqb k 0) Nothing (Done (record { 0 = p }) (record { 0 = q }))
+last_of k p q = cond (eqb k 0) None (Some (record { 0 = p }, record { 0 = q }))
 
 -- the train whose bytes begin at i
 abbrev pub train_in : List ℕ → ℕ → Train

@@ -10,8 +10,7 @@ pub fn train_of(state: State, t: TrainNo) -> Train
     requires { t.0 < 6 }
     ensures { result ≡ train_of state t.0 }
 {
-    let i = t.0 as usize;
-    state.fleet[i]
+    state.fleet[t.0 as usize]
 }
 
 // Its status.
@@ -19,8 +18,7 @@ pub fn status_of(state: State, t: TrainNo) -> Status
     requires { t.0 < 6 }
     ensures { result ≡ (train_of state t.0).status }
 {
-    let train = train_of(state, t);
-    train.status
+    train_of(state, t).status
 }
 
 // The tracks at post `p`.
@@ -28,8 +26,7 @@ pub fn tracks_at(state: State, p: PostNo) -> u8
     requires { p.0 < 8 }
     ensures { result ≡ get_or state.tracks p.0 0 }
 {
-    let i = p.0 as usize;
-    state.tracks[i]
+    state.tracks[p.0 as usize]
 }
 
 // The state with another record of train `t`.
@@ -38,8 +35,7 @@ pub fn with_train(state: State, t: TrainNo, train: Train) -> State
     ensures { result ≡ with_train state t.0 train }
 {
     let mut next = state;
-    let i = t.0 as usize;
-    next.fleet[i] = train;
+    next.fleet[t.0 as usize] = train;
     next
 }
 
@@ -48,7 +44,8 @@ pub fn one_logged(state: State) -> State
     requires { state.logged < 255 }
     ensures { result ≡ one_logged state }
 {
-    let mut next = state;
-    next.logged = state.logged + 1;
-    next
+    State {
+        logged: state.logged + 1,
+        ..state
+    }
 }

@@ -9,6 +9,6 @@ mod train;
 pub use fleet::{one_logged, status_of, tracks_at, train_of, with_train};
 pub use possession::{possessed, possessed_of, with_possession};
 pub use train::{
-    arrived, at_end, is_asked, is_free, is_last, is_nothing, is_running, next_move, next_post,
-    reached, track_ahead, with_status,
+    arrived, at_end, is_asked, is_free, is_last, is_running, next_move, next_post, reached,
+    track_ahead, with_status,
 };

@@ -10,8 +10,7 @@ pub fn possessed(state: State, i: SectionNo) -> bool
     requires { state.posts ≤ 8 }
     ensures { result ≡ possessed state i.0 }
 {
-    let possessions = state.possessions;
-    possessed_of(possessions, state.posts, i)
+    possessed_of(state.possessions, state.posts, i)
 }
 
 // The same on a line of so many posts. Places for sections that are not on it are not read.
@@ -20,10 +19,7 @@ pub fn possessed_of(possessions: [bool; 7], posts: u8, i: SectionNo) -> bool
     ensures { result ≡ possessed_of possessions posts i.0 }
 {
     let k = i.0 as usize;
-    if posts as usize <= k + 1 {
-        return false;
-    }
-    possessions[k]
+    k + 1 < posts as usize && possessions[k]
 }
 
 // Section `i` in a gang's hands or not, and so many local runs given.
@@ -31,9 +27,7 @@ pub fn with_possession(state: State, i: SectionNo, held: bool, given: u8) -> Sta
     requires { i.0 < 7 }
     ensures { result ≡ with_possession state i.0 held given }
 {
-    let mut next = state;
-    let k = i.0 as usize;
-    next.possessions[k] = held;
-    next.given = given;
+    let mut next = State { given, ..state };
+    next.possessions[i.0 as usize] = held;
     next
 }

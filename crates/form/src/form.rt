@@ -5,64 +5,33 @@ ghost use Rattle.line.specs.Line.{tracks_in_range, routes_on_line, well_formed};
 use line::{Line, names_posts};
 
 // Places for posts from `posts` on and trains from `trains` on are not read.
+#[tactic(auto, unfolding(line::specs::Line::well_formed))]
 pub fn well_formed(line: Line) -> bool
     ensures { result ≡ well_formed line }
 {
-    if line.posts < 2 {
-        return false;
-    }
-    if 8 < line.posts {
-        return false;
-    }
-    if !tracks_in_range(line) {
-        return false;
-    }
-    if !names_posts(line.posts, line.sidings) {
-        return false;
-    }
-    if line.trains < 1 {
-        return false;
-    }
-    if 6 < line.trains {
-        return false;
-    }
-    routes_on_line(line)
+    (2..=8).contains(&line.posts)
+        && tracks_in_range(&line)
+        && names_posts(line.posts, line.sidings)
+        && (1..=6).contains(&line.trains)
+        && routes_on_line(&line)
 }
 
 // Whether every post has 1 to 4 tracks.
-pub fn tracks_in_range(line: Line) -> bool
-    requires { line.posts ≤ 8 }
-    ensures { result ≡ tracks_in_range line }
+pub fn tracks_in_range(line: &Line) -> bool
+    requires { line.now.posts ≤ 8 }
+    ensures { result ≡ tracks_in_range line.now }
 {
-    let mut p: usize = 0;
-    while p < line.posts as usize {
-        let tracks = line.tracks[p];
-        if tracks < 1 {
-            return false;
-        }
-        if 4 < tracks {
-            return false;
-        }
-        p += 1;
-    }
-    true
+    line.tracks[..line.posts as usize]
+        .iter()
+        .all(|tracks| (1..=4).contains(tracks))
 }
 
-// Whether every train starts and ends on the line.
-pub fn routes_on_line(line: Line) -> bool
-    requires { line.trains ≤ 6 }
-    ensures { result ≡ routes_on_line line }
+// Whether every train starts and ends on the line. The trains are numbered and their routes not sliced: a
+// proof knows how many numbers a field of the line has, and not how many routes.
+pub fn routes_on_line(line: &Line) -> bool
+    requires { line.now.trains ≤ 6 }
+    ensures { result ≡ routes_on_line line.now }
 {
-    let mut t: usize = 0;
-    while t < line.trains as usize {
-        let route = line.routes[t];
-        if line.posts <= route.start.0 {
-            return false;
-        }
-        if line.posts <= route.end.0 {
-            return false;
-        }
-        t += 1;
-    }
-    true
+    (0..line.trains as usize).all(|t| line.routes[t].start.0 < line.posts
+        && line.routes[t].end.0 < line.posts)
 }

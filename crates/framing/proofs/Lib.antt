@@ -1,3 +1,2 @@
--- The laws that the proofs of `read` and `place` cite; those of what a frame reads as are in `frame`.
-pub mod Unnamed
-pub mod Placing
+-- The laws that the proof of `read` cites; those of what a frame reads as are in `frame`.
+pub mod Cases

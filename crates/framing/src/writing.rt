@@ -6,6 +6,7 @@ ghost use Rattle.frame.specs.Frame.{frame_length, frame_bytes, bytes_of};
 use frame::{AFE, AM, FA, FE, FRAME_LENGTH, LA, LB, LE, Message, Move};
 
 // The seven bytes of a message; seven zeros where there is none.
+#[tactic(auto, unfolding(frame::specs::Frame::bytes_of))]
 pub fn write(message: Message) -> [u8; FRAME_LENGTH]
     ensures { result ≡ bytes_of message }
 {
@@ -34,16 +35,5 @@ pub fn place(frame: [u8; FRAME_LENGTH], out: &mut [u8], at: usize) -> bool
     ensures value { result ≡ leb (at + frame_length) (length out.old) }
     ensures out_after { out.new ≡ replaced_if_room out.old at frame }
 {
-    if out.len() < FRAME_LENGTH {
-        return false;
-    }
-    if out.len() - FRAME_LENGTH < at {
-        return false;
-    }
-    let mut i: usize = 0;
-    while i < FRAME_LENGTH {
-        out[at + i] = frame[i];
-        i += 1;
-    }
-    true
+    part::put(&frame, out, at)
 }

@@ -8,7 +8,7 @@ use lib.Bits.{bit_or, or_shifted_r, or_block, or_self, or_zero_r}
 use lib.Count.{ones}
 use lib.Dec.{eqb}
 use lib.ListN.{length, get_or, set, replicate, get_or-replicate, length-set}
-use lib.Pow.{pow-lt, pow-add, pow_pos}
+use lib.Pow.{pow_pos}
 use lib.Seq.{get_or-set_same, get_or-set_other}
 use borrow.Author.Tests.{eq-eqb, ne_eqb}
 use Rattle.common.specs.Below.{of_bool}
@@ -48,14 +48,6 @@ module _ (n : ℕ) (f : ℕ → Bool) (x : ℕ) (e : x ≡ set_below n f) where
   joined_more : (b : Bool) → b ≡ f n → joined b n x ≡ set_below (n + 1) f
   joined_more true p = set_more n f x e true _ p (ap (bit_or x) (omega arith) ∙ or_shifted_r 1 n x (set_low n f x e))
   joined_more false p = set_more n f x e false _ p (omega arith)
-
--- ---- the bit of train t
-
-pub bit_low : (t bit : ℕ) → bit ≡ 2 ^ t → t < 6 → bit < 64
-bit_low t bit e h = rw e (pow-lt h)
-
-pub bit_more : (t bit : ℕ) → bit ≡ 2 ^ t → 2 * bit ≡ 2 ^ (t + 1)
-bit_more t bit e = rw e (omega (arith, pow-add 2 t 1))
 
 -- ---- eight sets, with the train of this bit in that of number i
 

@@ -28,31 +28,24 @@ pub fn holders_of(state: State) -> Holders
     requires { (state.trains ≤ 6) × Placed state }
     ensures { Held state result }
 {
-    let fleet = state.fleet;
-    let sidings = state.sidings;
     let mut posts = [0u8; 8];
     let mut sections = [0u8; 8];
     let mut tracks = [0u8; 8];
-    let mut bit: u8 = 1;
-    let mut t: usize = 0;
-    while t < state.trains as usize {
-        let train = fleet[t];
-        let own = bit;
-        bit = 2 * bit;
-        t += 1;
-        let status = train.status;
+    for t in 0..state.trains as usize {
+        let train = state.fleet[t];
+        let own = 1u8 << t;
         let p = train.at.0 as usize;
-        if is_running(status) {
+        if is_running(train.status) {
             let next = next_post(train);
             let q = next.0 as usize;
             let i = line::section(train.at, next).0 as usize;
-            posts[p] = posts[p] | own;
-            posts[q] = posts[q] | own;
-            sections[i] = sections[i] | own;
+            posts[p] |= own;
+            posts[q] |= own;
+            sections[i] |= own;
             tracks[p] = with_track(tracks[p], train.track);
-            tracks[q] = with_track(tracks[q], track_ahead(status));
-        } else if !line::stabled(sidings, train.route.end, train.at) {
-            posts[p] = posts[p] | own;
+            tracks[q] = with_track(tracks[q], track_ahead(train.status));
+        } else if !line::stabled(state.sidings, train.route.end, train.at) {
+            posts[p] |= own;
             tracks[p] = with_track(tracks[p], train.track);
         }
     }
@@ -68,20 +61,14 @@ pub fn section_free(state: State, holders: Holders, i: SectionNo) -> bool
     requires { (state.posts ≤ 8) × (i.0 < 8) × Held state holders }
     ensures { result ≡ section_free state i.0 }
 {
-    let k = i.0 as usize;
-    let trains = holders.sections[k];
-    holders_in(trains, possessed(state, i)) == 0
+    holders_in(holders.sections[i.0 as usize], possessed(state, i)) == 0
 }
 
 // How many hold a section, by the set of the trains that do and whether a gang has it.
 pub fn holders_in(trains: u8, gang: bool) -> u32
     ensures { result ≡ ones trains + of_bool gang }
 {
-    let count = u32::count_ones(trains as u32);
-    if gang {
-        return count + 1;
-    }
-    count
+    trains.count_ones() + u32::from(gang)
 }
 
 // The set of the tracks that are held at post `p`.
@@ -89,6 +76,5 @@ pub fn tracks_held(holders: Holders, p: PostNo) -> u8
     requires { p.0 < 8 }
     ensures { result ≡ get_or holders.tracks p.0 0 }
 {
-    let k = p.0 as usize;
-    holders.tracks[k]
+    holders.tracks[p.0 as usize]
 }

@@ -6,15 +6,14 @@ use console::{Console, Phase};
 use pieces::{with_book, with_frame};
 
 // 01: "or what there is if input ends; a shorter rest after whole frames is one torn frame".
+#[tactic(auto, unfolding(console::specs::Console::finished))]
 pub fn finish(console: Console, table: &mut [u8]) -> Console
     ensures { desk_of result table.new ≡ finished (desk_of console table.old) }
 {
-    let phase = console.phase;
-    match phase {
+    match console.phase {
         Phase::Book => ended(with_book(console, table)),
         Phase::Frames => ended(last_frame(console, table)),
-        Phase::Refused(_) => console,
-        Phase::Ended => console,
+        Phase::Refused(_) | Phase::Ended => console,
     }
 }
 
@@ -22,31 +21,28 @@ pub fn finish(console: Console, table: &mut [u8]) -> Console
 fn last_frame(console: Console, table: &[u8]) -> Console
     ensures { result ≡ last_frame console table.now }
 {
-    let piece = console.piece;
-    if piece.length == 0 {
-        return console;
+    if console.piece.length == 0 {
+        console
+    } else {
+        with_frame(console, table)
     }
-    with_frame(console, table)
 }
 
 // The console of a refused book stays one.
 fn ended(console: Console) -> Console
     ensures { result ≡ ended_console console }
 {
-    let phase = console.phase;
-    let piece = console.piece;
-    let run = console.run;
-    let phase = after_end(phase);
-    Console { phase, piece, run }
+    Console {
+        phase: after_end(console.phase),
+        ..console
+    }
 }
 
 fn after_end(phase: Phase) -> Phase
     ensures { result ≡ after_end phase }
 {
     match phase {
-        Phase::Book => Phase::Ended,
-        Phase::Frames => Phase::Ended,
         Phase::Refused(_) => phase,
-        Phase::Ended => Phase::Ended,
+        Phase::Book | Phase::Frames | Phase::Ended => Phase::Ended,
     }
 }

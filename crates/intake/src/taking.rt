@@ -4,7 +4,7 @@ ghost use Rattle.console.specs.Console.{desk_of, with_next, book_byte, frame_byt
 
 use console::{Console, Phase};
 use frame::FRAME_LENGTH;
-use pieces::{is_book, with_book, with_byte, with_frame};
+use pieces::{is_book, with_book, with_frame};
 
 // The console once some bytes were taken, one after the other.
 pub fn take(console: Console, table: &mut [u8], bytes: &[u8]) -> Console
@@ -12,24 +12,21 @@ pub fn take(console: Console, table: &mut [u8], bytes: &[u8]) -> Console
         ≡ taken_bytes (desk_of console table.old) bytes.now }
 {
     let mut after = console;
-    let mut i: usize = 0;
-    while i < bytes.len() {
-        after = take_byte(after, table, bytes[i]);
-        i += 1;
+    for byte in bytes {
+        after = take_byte(after, table, *byte);
     }
     after
 }
 
 // Nothing is taken after a refused book, and nothing after the end.
+#[tactic(auto, unfolding(console::specs::Console::taken_byte))]
 fn take_byte(console: Console, table: &mut [u8], byte: u8) -> Console
     ensures { desk_of result table.new ≡ taken_byte (desk_of console table.old) byte }
 {
-    let phase = console.phase;
-    match phase {
+    match console.phase {
         Phase::Book => book_byte(console, table, byte),
         Phase::Frames => frame_byte(console, table, byte),
-        Phase::Refused(_) => console,
-        Phase::Ended => console,
+        Phase::Refused(_) | Phase::Ended => console,
     }
 }
 
@@ -38,11 +35,11 @@ fn book_byte(console: Console, table: &mut [u8], byte: u8) -> Console
     ensures { desk_of result table.new ≡ book_byte (desk_of console table.old) byte }
 {
     let after = with_next(console, byte);
-    let piece = after.piece;
-    if is_book(piece) {
-        return with_book(after, table);
+    if is_book(after.piece) {
+        with_book(after, table)
+    } else {
+        after
     }
-    after
 }
 
 // A frame is answered with its seventh byte.
@@ -50,20 +47,19 @@ fn frame_byte(console: Console, table: &[u8], byte: u8) -> Console
     ensures { result ≡ frame_byte console table.now byte }
 {
     let after = with_next(console, byte);
-    let piece = after.piece;
-    if piece.length < FRAME_LENGTH {
-        return after;
+    if after.piece.length < FRAME_LENGTH {
+        after
+    } else {
+        with_frame(after, table)
     }
-    with_frame(after, table)
 }
 
 // The console with one more byte of its piece.
 fn with_next(console: Console, byte: u8) -> Console
     ensures { result ≡ with_next console byte }
 {
-    let phase = console.phase;
-    let piece = console.piece;
-    let run = console.run;
-    let piece = with_byte(piece, byte);
-    Console { phase, piece, run }
+    Console {
+        piece: console.piece.with_byte(byte),
+        ..console
+    }
 }

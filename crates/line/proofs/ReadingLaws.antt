@@ -7,10 +7,12 @@ use Prim.Native.Nat.{ℕ, zero, suc, ◌<◌}
 use native.Mathlib.Omega.{arith}
 use lib.Dec.{ltb}
 use borrow.Author.Tests.{ltb-true}
+use Rattle.std.specs.declared.result.Result.{Result}
+use Rattle.std.specs.declared.result.Result.TheVariants.{Ok, Err}
 use Rattle.common.specs.Check.{Check, refusal, unless_refused}
 use Rattle.common.proofs.Tests.{by_equality}
 use Rattle.common.proofs.Check.{clear, first_part, not_given, accepts, refuses, number_told}
-use Rattle.line.specs.Sorts.{Line, Outcome, Read, Refused, Reading}
+use Rattle.line.specs.Sorts.{Line, Reading}
 use Rattle.line.specs.Book.{positions_of, line_in, book_checks_from, accepted_book, refused_by, read_from}
 use Rattle.line.specs.Book.{outcome_number}
 
@@ -26,9 +28,9 @@ accepted_of (suc n) m l qs ps e =
     let z : suc n ≡ 0 = ap (λ (r : Reading). outcome_number r.outcome) e in
     absurd (let y : ⊥ = omega arith in y)
 
-abbrev is_read : Outcome → Bool
-is_read Read = true
-is_read (Refused k) = false
+abbrev is_read : Result (Unit {0}) ℕ → Bool
+is_read (Ok done) = true
+is_read (Err k) = false
 
 module _ (least : ℕ) (b : List ℕ) where
   pub read_number : outcome_number (read_from least b).outcome ≡ refusal (book_checks_from least b)
@@ -47,12 +49,12 @@ module _ (least : ℕ) (b : List ℕ) where
   not_met n h k = rw read_number (not_given n (book_checks_from least b) (ltb-true 0 n h) k)
 
   -- by the outcome
-  pub read_as : (r : Reading) → r ≡ read_from least b → r.outcome ≡ Read
+  pub read_as : (r : Reading) → r ≡ read_from least b → r.outcome ≡ Ok tt
       → read_from least b ≡ accepted_book r.line r.positions
   read_as r e whole =
-      sym e ∙ ap (λ (o : Outcome). record { outcome = o; line = r.line; positions = r.positions }) whole
+      sym e ∙ ap (λ (o : Result (Unit {0}) ℕ). record { outcome = o; line = r.line; positions = r.positions }) whole
 
-  pub refused_some : (k : ℕ) → (read_from least b).outcome ≡ Refused k → 0 < refusal (book_checks_from least b)
+  pub refused_some : (k : ℕ) → (read_from least b).outcome ≡ Err k → 0 < refusal (book_checks_from least b)
   unfolding read_from
   refused_some k stopped = by_equality (refusal (book_checks_from least b)) 0
       (λ e.
@@ -67,7 +69,7 @@ module _ (least : ℕ) (b : List ℕ) where
         → f n ≡ unless_refused (refusal (book_checks_from least b ++ cs)) x f
     refused_book_lem n e h = rw (first_part (book_checks_from least b) cs (rw e h), e) (sym (refuses x f h))
 
-    pub book_refused : (r : Reading) → r ≡ read_from least b → (k : ℕ) → r.outcome ≡ Refused k
+    pub book_refused : (r : Reading) → r ≡ read_from least b → (k : ℕ) → r.outcome ≡ Err k
         → (n : ℕ) → n ≡ outcome_number r.outcome → f n ≡ unless_refused (refusal (book_checks_from least b ++ cs)) x f
     book_refused r e k stopped n is =
         let own : n ≡ refusal (book_checks_from least b)

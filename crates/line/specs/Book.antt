@@ -1,12 +1,12 @@
 -- 01, "The line and its book", and 02, cards 1 and 5: what the bytes of a book say, when a book is refused, and which
 -- bytes a line has.
 use Rattle.std.specs.Prelude.{cond, ◌&&◌, List, [], ◌∷◌, ◌++◌, ℕ, ◌+◌, ◌*◌, ◌/◌, ◌%◌, leb, ltb, eqb, length, get_or}
-use Rattle.std.specs.Prelude.{replicate}
+use Rattle.std.specs.Prelude.{replicate, Result, Ok, Err}
 use Rattle.common.specs.Check.{Check, check, refusal, unless_refused}
 use Rattle.common.specs.Tabulate.{tabulate, padded}
 use Rattle.common.specs.Word.{word, long_word, long_word_bytes}
 use Rattle.line.specs.Refusal as number
-use Rattle.line.specs.Sorts.{Route, Line, Outcome, Read, Refused, Reading}
+use Rattle.line.specs.Sorts.{Route, Line, Reading}
 use Rattle.line.specs.Line.{no_route, route_of, tracks_at, in_range, posts_in_range, tracks_in_range, sidings_on_line}
 use Rattle.line.specs.Line.{trains_in_range, routes_on_line}
 use Rattle.line.specs.Positions.{metres_at, positions_in_order}
@@ -180,10 +180,10 @@ abbrev pub empty_line : Line
 empty_line = record { posts = 0; tracks = replicate 8 0; sidings = 0; trains = 0; routes = replicate 6 no_route }
 
 abbrev pub accepted_book : Line → List ℕ → Reading
-accepted_book l ps = record { outcome = Read; line = l; positions = ps }
+accepted_book l ps = record { outcome = Ok tt; line = l; positions = ps }
 
 abbrev pub refused_by : ℕ → Reading
-refused_by n = record { outcome = Refused n; line = empty_line; positions = replicate 8 0 }
+refused_by n = record { outcome = Err n; line = empty_line; positions = replicate 8 0 }
 
 unfoldable pub read_from : ℕ → List ℕ → Reading
 read_from least b =
@@ -197,9 +197,9 @@ abbrev pub read_positioned : List ℕ → Reading
 read_positioned b = read_from last_edition b
 
 -- the paper's number for an outcome; 0 where a book is read
-abbrev pub outcome_number : Outcome → ℕ
-outcome_number Read = 0
-outcome_number (Refused n) = n
+abbrev pub outcome_number : Result (Unit {0}) ℕ → ℕ
+outcome_number (Ok done) = 0
+outcome_number (Err n) = n
 
 -- ---- the bytes of a line and its positions in edition v
 

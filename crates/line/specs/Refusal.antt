@@ -1,6 +1,12 @@
--- 01, "Declining by number", and 02. `src/refusal.rt` has the same numbers for the code. Card 6: "Refusals 10 and 11
--- go"; card 7 removes 13. No other has their numbers.
-use Rattle.std.specs.Prelude.{ℕ}
+-- 01, "Declining by number", and 02. Card 6: "Refusals 10 and 11 go"; card 7 removes 13. No other has their numbers.
+use Rattle.std.specs.Prelude.{ℕ, Result, Ok, Err}
+use Rattle.line.specs.declared.refusal.Refusal.{Refusal}
+use Rattle.line.specs.declared.refusal.Refusal.TheVariants.{StrangeState, ShortStore, TornFrame, OtherEdition}
+use Rattle.line.specs.declared.refusal.Refusal.TheVariants.{UnknownKind, WrongEnd, UnknownTrain, AtItsEnd, WrongPost}
+use Rattle.line.specs.declared.refusal.Refusal.TheVariants.{NoAuthority, TornBook, Posts, Tracks, Trains, OffTheLine}
+use Rattle.line.specs.declared.refusal.Refusal.TheVariants.{Overfull, NoWayThrough, NotNow, NotAwaited, Sidings}
+use Rattle.line.specs.declared.refusal.Refusal.TheVariants.{SectionTaken, NoLocalRun, TwentyGiven, Positions, Speed}
+use Rattle.line.specs.declared.refusal.Refusal.TheVariants.{NoPlace}
 
 abbrev pub strange_state : ℕ
 strange_state = 1
@@ -79,3 +85,37 @@ speed = 28
 
 abbrev pub no_place : ℕ
 no_place = 29
+
+-- the number of each, for the code's own enum
+abbrev pub refusal_number : Refusal → ℕ
+refusal_number StrangeState = strange_state
+refusal_number ShortStore = short_store
+refusal_number TornFrame = torn_frame
+refusal_number OtherEdition = other_edition
+refusal_number UnknownKind = unknown_kind
+refusal_number WrongEnd = wrong_end
+refusal_number UnknownTrain = unknown_train
+refusal_number AtItsEnd = at_its_end
+refusal_number WrongPost = wrong_post
+refusal_number NoAuthority = no_authority
+refusal_number TornBook = torn_book
+refusal_number Posts = posts
+refusal_number Tracks = tracks
+refusal_number Trains = trains
+refusal_number OffTheLine = off_the_line
+refusal_number Overfull = overfull
+refusal_number NoWayThrough = no_way_through
+refusal_number NotNow = not_now
+refusal_number NotAwaited = not_awaited
+refusal_number Sidings = sidings
+refusal_number SectionTaken = section_taken
+refusal_number NoLocalRun = no_local_run
+refusal_number TwentyGiven = twenty_given
+refusal_number Positions = positions
+refusal_number Speed = speed
+refusal_number NoPlace = no_place
+
+-- the number of the refusal that a check ends with; 0 where it passes
+abbrev pub checked : Result (Unit {0}) Refusal → ℕ
+checked (Ok done) = 0
+checked (Err r) = refusal_number r

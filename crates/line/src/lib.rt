@@ -3,13 +3,14 @@
 #![tactic(auto)]
 
 mod line;
-pub mod refusal;
+mod refusal;
 mod route;
 mod siding;
 mod sorts;
 pub mod word;
 
-pub use line::{LONGEST_BOOK, Line, Outcome, Reading};
+pub use line::{LONGEST_BOOK, Line, Reading};
+pub use refusal::Refusal;
 pub use route::{NO_ROUTE, Route, between, distance, next_post, section};
 pub use siding::{names_posts, stabled};
 pub use sorts::{PostNo, SectionNo, TrackNo, TrainNo};

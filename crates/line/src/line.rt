@@ -16,18 +16,12 @@ pub struct Line {
 // eight posts and six trains.
 pub const LONGEST_BOOK: usize = 5 + 8 + 1 + 4 * 8 + 2 * 6;
 
-// Whether a book is read, or the number of its refusal.
-#[derive(Clone, Copy)]
-pub enum Outcome {
-    Read,
-    Refused(u8),
-}
-
-// The line, and beside it the position of each post in metres; 0 for posts from `posts` on and where
-// the edition has no positions. Of a refused book all is 0.
+// Whether a book is read, or the number of its refusal; the line, and beside it the position of each
+// post in metres, 0 for posts from `posts` on and where the edition has no positions. The line of a
+// refused book is handed out too, all 0: so they stand beside one another.
 #[derive(Clone, Copy)]
 pub struct Reading {
-    pub outcome: Outcome,
+    pub outcome: Result<(), u8>,
     pub line: Line,
     pub positions: [u32; 8],
 }

@@ -16,17 +16,9 @@ pub fn names_posts(posts: u8, set: u8) -> bool
 // Whether a train that stands at post `at` is stabled: `at` is its end, and one of the posts with a
 // siding. A number past the eight posts has no bit in the set. That there are no sidings at all is
 // asked first: in a loop over trains it is asked once.
+#[tactic(auto, using(crate::proofs::Holding::past_the_posts))]
 pub fn stabled(sidings: u8, end: PostNo, at: PostNo) -> bool
     ensures { result ≡ is_stabled sidings end.0 at.0 }
 {
-    if sidings == 0 {
-        return false;
-    }
-    if at.0 != end.0 {
-        return false;
-    }
-    if 8 <= at.0 {
-        return false;
-    }
-    (sidings >> at.0) % 2 == 1
+    sidings != 0 && at == end && at.0 < 8 && (sidings >> at.0) % 2 == 1
 }

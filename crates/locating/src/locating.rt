@@ -6,43 +6,37 @@ ghost use Rattle.place.specs.Metres.{within_line};
 ghost use Rattle.place.specs.Locating.{Surveyed, last_reached, placed_at, on_survey, place_of};
 
 use crate::metres::{is_at, is_below, nearer, on_line};
-use line::refusal::{NO_PLACE, WRONG_POST};
-use line::{Outcome, PostNo, SectionNo};
+use line::{PostNo, Refusal, SectionNo};
 use place::{Place, Report};
 
 // The place of a report, by the positions of a book.
-pub fn locate(book: &[u8], report: Report) -> Place
+pub fn locate(book: &[u8], report: Report) -> Result<Place, u8>
     ensures { result ≡ place_of book.now report }
 {
     let reading = book::read_positioned(book);
-    let outcome = reading.outcome;
-    let Outcome::Read = outcome else {
-        return Place::Refused(book::number_of(outcome));
-    };
-    let line = reading.line;
-    let positions = reading.positions;
-    on_survey(line.posts, positions, report)
+    reading.outcome?;
+    on_survey(reading.line.posts, reading.positions, report)
 }
 
 // The same on a line of so many posts, whose positions were read.
-fn on_survey(posts: u8, positions: [u32; 8], report: Report) -> Place
+fn on_survey(posts: u8, positions: [u32; 8], report: Report) -> Result<Place, u8>
     requires { Surveyed posts positions }
     ensures { result ≡ on_survey posts positions report }
 {
     match report {
         Report::Post(post) => {
             if posts <= post.0 {
-                return Place::Refused(WRONG_POST);
+                return Err(Refusal::WrongPost as u8);
             }
-            Place::At(post)
+            Ok(Place::At(post))
         }
         Report::Metres(x) => {
             if !on_line(x, positions[posts as usize - 1]) {
-                return Place::Refused(NO_PLACE);
+                return Err(Refusal::NoPlace as u8);
             }
-            placed_at(x, posts, positions)
+            Ok(placed_at(x, posts, positions))
         }
-        Report::Missing => Place::Nothing,
+        Report::Missing => Ok(Place::Nothing),
     }
 }
 
@@ -65,9 +59,10 @@ fn reached(x: f32, posts: u8, positions: [u32; 8]) -> u8
     requires { (Surveyed posts positions) × (within_line (metres_at positions (posts - 1)) x ≡ true) }
     ensures { result ≡ last_reached positions x (posts - 1) }
 {
-    let mut p = posts - 1;
-    while is_below(x, positions[p as usize]) {
-        p -= 1;
+    for p in (1..posts).rev() {
+        if !is_below(x, positions[p as usize]) {
+            return p;
+        }
     }
-    p
+    0
 }

@@ -1,6 +1,7 @@
-// A batch of records, made one by one.
-ghost use Rattle.std.specs.Prelude.{◌≡◌, ◌<◌};
-ghost use Rattle.journal.specs.Journal.{record_at, batch_length, empty_batch, with_record};
+// A batch of records, made one by one: as many places as one frame can need, and a count, since
+// nothing here is on a heap.
+ghost use Rattle.std.specs.Prelude.{◌≡◌};
+ghost use Rattle.journal.specs.Journal.{empty_batch, with_record};
 
 use crate::record::blank;
 use journal::{BATCH_LENGTH, Batch, Record};
@@ -16,23 +17,13 @@ pub fn empty() -> Batch
 }
 
 // The batch with one record more; a full one stays as it is.
-pub fn with(batch: Batch, next: Record) -> Batch
+#[tactic(auto, using(journal::proofs::Batches::with_room, journal::proofs::Batches::with_full))]
+pub fn with(mut batch: Batch, next: Record) -> Batch
     ensures { result ≡ with_record batch next }
 {
-    let n = batch.n;
-    if n < BATCH_LENGTH {
-        let mut items = batch.items;
-        items[n] = next;
-        return Batch { items, n: n + 1 };
+    if batch.n < BATCH_LENGTH {
+        batch.items[batch.n] = next;
+        batch.n += 1;
     }
     batch
-}
-
-// The k-th record of a batch.
-pub fn nth(batch: Batch, k: usize) -> Record
-    requires { k < batch_length }
-    ensures { result ≡ record_at batch.items k }
-{
-    let items = batch.items;
-    items[k]
 }

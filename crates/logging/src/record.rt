@@ -20,6 +20,7 @@ pub fn blank() -> Record
 }
 
 // The record by which a message is logged; the blank one where there is no message.
+#[tactic(auto, unfolding(journal::specs::Journal::record_of))]
 pub fn record_of(message: Message) -> Record
     ensures { result ≡ record_of message }
 {
@@ -39,30 +40,20 @@ pub fn record_of(message: Message) -> Record
 pub fn record_on(message: Message, track: TrackNo) -> Record
     ensures { result ≡ record_on track.0 message }
 {
-    let entry = record_of(message);
-    let train = entry.train;
-    let from = entry.from;
-    let to = entry.to;
     Record {
-        kind: entry.kind,
-        train,
-        from,
-        to,
         track,
+        ..record_of(message)
     }
 }
 
 fn of_kind(kind: u8, m: Move) -> Record
     ensures { result ≡ record_with kind m }
 {
-    let train = m.train;
-    let from = m.from;
-    let to = m.to;
     Record {
         kind,
-        train,
-        from,
-        to,
+        train: m.train,
+        from: m.from,
+        to: m.to,
         track: TrackNo(0),
     }
 }
@@ -71,8 +62,10 @@ fn of_kind(kind: u8, m: Move) -> Record
 pub fn frame_of(entry: Record) -> [u8; FRAME_LENGTH]
     ensures { result ≡ frame_of entry }
 {
-    let train = entry.train;
-    let from = entry.from;
-    let to = entry.to;
-    framing::bytes(entry.kind, Move { train, from, to })
+    let m = Move {
+        train: entry.train,
+        from: entry.from,
+        to: entry.to,
+    };
+    framing::bytes(entry.kind, m)
 }

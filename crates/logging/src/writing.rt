@@ -1,34 +1,31 @@
 // Writing to the lent journal.
 ghost use Rattle.std.specs.Prelude.{◌≡◌};
-ghost use Rattle.journal.specs.Journal.{fitting, appended};
+ghost use Rattle.journal.specs.Journal.{fit, fitting, appended};
 
-use crate::batch::nth;
 use journal::{BATCH_LENGTH, Batch, Record};
 
 // Writes the records of the batch from place `at` on, and nothing where they do not all fit.
+#[tactic(auto, using(journal::proofs::Appended::fitting_few, journal::proofs::Appended::written_more))]
 pub fn append(journal: &mut [Record], at: usize, batch: Batch)
     ensures { journal.new ≡ appended journal.old at batch }
 {
     let n = fitting(journal.len(), at, batch.n);
-    let mut k = 0;
-    while k < n {
-        journal[at + k] = nth(batch, k);
-        k += 1;
+    for k in 0..n {
+        journal[at + k] = batch.items[k];
     }
 }
 
 // How many of n records are written from place `at` on in a journal of `len` records: all or none.
+#[tactic(auto, unfolding(journal::specs::Journal::fitting))]
 pub fn fitting(len: usize, at: usize, n: usize) -> usize
     ensures { result ≡ fitting len at n }
 {
-    if BATCH_LENGTH < n {
-        return 0;
-    }
-    if len < n {
-        return 0;
-    }
-    if len - n < at {
-        return 0;
-    }
-    n
+    if fit(len, at, n) { n } else { 0 }
+}
+
+// Whether they are no more than one frame adds, and there is room for them.
+fn fit(len: usize, at: usize, n: usize) -> bool
+    ensures { result ≡ fit len at n }
+{
+    n <= BATCH_LENGTH && n <= len && at <= len - n
 }

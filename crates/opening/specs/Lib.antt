@@ -1,2 +1,3 @@
--- The types that the opening's proofs speak of. What it is to do is in `rules`.
+-- The types that the opening's proofs speak of, and its outcome. What it is to do is in `rules`.
 pub mod Types
+pub mod Outcome

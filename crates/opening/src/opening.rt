@@ -3,12 +3,11 @@ ghost use Rattle.std.specs.Prelude.{◌≡◌, true};
 ghost use Rattle.line.specs.Line.{well_formed};
 ghost use Rattle.rules.specs.State.{no_train};
 ghost use Rattle.rules.specs.Opening.{fresh, opened_state, empty_state, opening_of, opening_with, opening};
+ghost use Rattle.opening.specs.Outcome.{opening_by};
 
 use journal::{JOURNAL_LENGTH, Log, Record};
-use line::refusal::{NO_WAY_THROUGH, OVERFULL, SHORT_STORE};
-use line::{Line, NO_ROUTE, Outcome, Route, TrackNo};
-use logging::log_length;
-use rules::{Last, Opened, State, Status, Train};
+use line::{Line, NO_ROUTE, Refusal, Route, TrackNo};
+use rules::{Opened, State, Status, Train};
 use starting::start_tracks;
 use table::TABLE_LENGTH;
 
@@ -28,65 +27,57 @@ pub fn open_log(book: &[u8], table: &mut [u8], log: Log) -> Opened
     ensures { opening_of result table.new
         ≡ opening book.now table.old log.records }
 {
-    let records = log.records;
-    open_with(book, table, log_length(records))
+    open(book, table, &log.records)
 }
 
-// The opening, with a journal of so many records: checks 2, those of the book, 19 and 20, in that
-// order. 20 needs the table, so that it alone leaves it filled.
+// The opening, with a journal of so many records. With a refusal's number the empty state comes back.
 pub fn open_with(book: &[u8], table: &mut [u8], records: usize) -> Opened
     ensures { opening_of result table.new
         ≡ opening_with book.now table.old records }
 {
-    if table.len() < TABLE_LENGTH {
-        return refused(SHORT_STORE);
+    match opened(book, table, records) {
+        Ok(state) => Opened { state, refusal: 0 },
+        Err(refusal) => Opened {
+            state: empty_state(),
+            refusal,
+        },
     }
-    if records < JOURNAL_LENGTH {
-        return refused(SHORT_STORE);
-    }
-    let reading = book::read(book);
-    let outcome = reading.outcome;
-    let Outcome::Read = outcome else {
-        return refused(book::number_of(outcome));
-    };
-    let line = reading.line;
-    if !table::feasible_start(line) {
-        return refused(OVERFULL);
-    }
-    filling::fill(line, table);
-    let travelled = [0u8; 6];
-    let start = table::code(travelled, line.trains);
-    if !table::bit(table, start) {
-        return refused(NO_WAY_THROUGH);
-    }
-    let state = opened_state(line);
-    Opened { state, refusal: 0 }
 }
 
-fn refused(number: u8) -> Opened
-    ensures { (result.state ≡ empty_state) × (result.refusal ≡ number) }
+// Checks 2, those of the book, 19 and 20, in that order. 20 needs the table, so that it alone leaves it
+// filled.
+fn opened(book: &[u8], table: &mut [u8], records: usize) -> Result<State, u8>
+    ensures { opening_by result table.new
+        ≡ opening_with book.now table.old records }
 {
-    let state = empty_state();
-    Opened {
-        state,
-        refusal: number,
+    if table.len() < TABLE_LENGTH || records < JOURNAL_LENGTH {
+        return Err(Refusal::ShortStore as u8);
     }
+    let reading = book::read(book);
+    reading.outcome?;
+    let line = reading.line;
+    if !table::feasible_start(line) {
+        return Err(Refusal::Overfull as u8);
+    }
+    filling::fill(line, table);
+    let start = table::code([0; 6], line.trains);
+    if !table::bit(table, start) {
+        return Err(Refusal::NoWayThrough as u8);
+    }
+    Ok(opened_state(line))
 }
 
 // 01: "an empty state that is not sound (all 0 and Free".
 pub fn empty_state() -> State
     ensures { result ≡ empty_state }
 {
-    let tracks = [0u8; 8];
-    let fleet = [no_train(); 6];
-    let possessions = NO_GANGS;
     State {
         posts: 0,
-        tracks,
+        tracks: [0; 8],
         sidings: 0,
         trains: 0,
-        fleet,
-        possessions,
+        fleet: [no_train(); 6],
+        possessions: NO_GANGS,
         given: 0,
         logged: 0,
     }
@@ -99,21 +90,16 @@ fn opened_state(line: Line) -> State
 {
     let starts = start_tracks(line);
     let mut fleet = [no_train(); 6];
-    let mut t: usize = 0;
-    while t < 6 {
-        let track = starts[t];
-        fleet[t] = fresh(line.routes[t], TrackNo(track));
-        t += 1;
+    for t in 0..6 {
+        fleet[t] = fresh(line.routes[t], TrackNo(starts[t]));
     }
-    let tracks = line.tracks;
-    let possessions = NO_GANGS;
     State {
         posts: line.posts,
-        tracks,
+        tracks: line.tracks,
         sidings: line.sidings,
         trains: line.trains,
         fleet,
-        possessions,
+        possessions: NO_GANGS,
         given: 0,
         logged: 0,
     }
@@ -123,13 +109,12 @@ fn opened_state(line: Line) -> State
 fn fresh(route: Route, track: TrackNo) -> Train
     ensures { result ≡ fresh route track.0 }
 {
-    let at = route.start;
     Train {
         route,
-        at,
+        at: route.start,
         track,
         status: Status::Free,
-        last: Last::Nothing,
+        last: None,
     }
 }
 

@@ -9,12 +9,13 @@ use native.Mathlib.Omega.{arith}
 use lib.Dec.{ltb}
 use lib.ListN.{length}
 use borrow.Author.Tests.{eq-eqb, ne_eqb}
+use Rattle.std.specs.Prelude.{Option, None, Some}
 use Rattle.common.proofs.Tests.{by_cases, by_equality}
 use Rattle.common.proofs.Update.{update_own, update_other}
 use Rattle.line.specs.Book.{line_in}
 use Rattle.frame.specs.Frame.{read_frame, bytes_of}
 use Rattle.driver.specs.State.{own_move}
-use Rattle.driver.specs.Pressing.{last_sent, carried_out, press_button}
+use Rattle.driver.specs.Pressing.{last_sent, sent_bytes, carried_out, press_button}
 use Rattle.driver.specs.History.{CabInput, press, frame, CabExchange, cab_exchange, after, after_all, cab_run}
 use Rattle.driver.proofs.Outcomes.{PressOutcome, refused, accepted, press_outcome}
 use Rattle.rules.specs.Refusals.{of_gang}
@@ -109,13 +110,12 @@ module _ (table : List ℕ) where
     -- what a unit sends is among what is sent
     unit_sends : (u : Unit) (c : CabInput) → (cab_exchange u c).sent ≢ []
         → Memᴰ (cab_exchange u c).sent (unit_frames u c)
-    unit_sends u (press b) h = at (press_button u b).sent refl
+    unit_sends u (press b) h = at (press_button u b).frame refl
       where
-        at : (s : Bool) → (press_button u b).sent ≡ s
-            → Memᴰ (cond (press_button u b).sent (press_button u b).frame [])
-            (pressed_frames (press_button u b))
-        at true e = rw e (Memᴰ.head refl)
-        at false e = absurd (h (rw e))
+        at : (s : Option (List ℕ)) → (press_button u b).frame ≡ s
+            → Memᴰ (sent_bytes (press_button u b).frame) (pressed_frames (press_button u b))
+        at (Some f) e = rw e (Memᴰ.head refl)
+        at None e = absurd (h (rw e))
     unit_sends u (frame f) h = absurd (h refl)
 
     unit_cases : (t : ℕ) (s : PairStep) (rest : List CabInput) (x : CabExchange)
@@ -134,7 +134,7 @@ module _ (table : List ℕ) where
 
     -- where a frame of a press comes from: it is what the exchange has as sent
     abbrev Gives : Pressed → List ℕ → Type 0
-    Gives r f = (cond r.sent r.frame [] ≢ []) × (cond r.sent r.frame [] ≡ f)
+    Gives r f = (sent_bytes r.frame ≢ []) × (sent_bytes r.frame ≡ f)
 
     some_bytes : (a : Message) → bytes_of a ≢ []
     some_bytes a e = omega (arith, bytes_length a, ap length e)

@@ -5,7 +5,7 @@ use Rattle.common.specs.Update.{update}
 use Rattle.line.specs.Line.{route_of}
 use Rattle.frame.specs.Frame.{read_frame}
 use Rattle.driver.specs.Making.{make_unit}
-use Rattle.driver.specs.Pressing.{press_button}
+use Rattle.driver.specs.Pressing.{is_sent, sent_bytes, press_button}
 use Rattle.driver.specs.History.{CabInput, press, frame, after}
 use Rattle.rules.specs.Answer.{Answer, answer}
 use Rattle.rules.specs.Refusals.{of_gang}
@@ -67,7 +67,7 @@ step_of p (to_box n out) =
 
 -- the frame that a press hands back, if it does; a unit that hears one sends none
 abbrev pub pressed_frames : Pressed → List (List ℕ)
-pressed_frames r = cond r.sent (r.frame ∷ []) []
+pressed_frames r = cond (is_sent r.frame) (sent_bytes r.frame ∷ []) []
 
 abbrev pub unit_frames : Unit → CabInput → List (List ℕ)
 unit_frames u (press b) = pressed_frames (press_button u b)

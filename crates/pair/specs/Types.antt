@@ -8,8 +8,7 @@ pub use Rattle.rules.specs.declared.state.Status.{Status}
 pub use Rattle.rules.specs.declared.state.Status.TheVariants.{Free, Asked as Requested, Running}
 pub use Rattle.rules.specs.declared.state.Train.{Train}
 pub use Rattle.rules.specs.declared.state.State.{State}
-pub use Rattle.rules.specs.declared.result.Verdict.{Verdict}
-pub use Rattle.rules.specs.declared.result.Verdict.TheVariants.{Sent, Refused as RefusedBy}
+pub use Rattle.rules.specs.Types.{Verdict, Sent, RefusedBy}
 pub use Rattle.driver.specs.declared.state.Phase.{Phase}
 pub use Rattle.driver.specs.declared.state.Phase.TheVariants.{Standing, Asked, Declined, Granted, UnderWay, Arrived}
 pub use Rattle.driver.specs.declared.state.Button.{Button}

@@ -1,7 +1,7 @@
 -- The claims about place reports.
 use mathlib.Core.Path.{◌≡◌, refl, sym, ap, ◌∙◌, subst}
 use mathlib.Core.Logic.{◌≢◌}
-use mathlib.Core.Bool.{Bool, true, false, not, and-false, or-true}
+use mathlib.Core.Bool.{Bool, true, false, not, and-false, or-true, true≢false}
 use mathlib.Core.List.{List}
 use Prim.Native.Nat.{ℕ, zero, suc, ◌-◌, ◌*◌, ◌<◌}
 use native.Mathlib.Nat.{zero-mul}
@@ -12,7 +12,7 @@ use lib.Ieee.{Float, nan, inf, fin, up}
 use lib.Ieee.Positive.{num, den}
 use borrow.Author.Tests.{le-leb, lt-leb, ne_eqb, ltb-true}
 use Rattle.common.specs.Check.{refusal, unless_refused}
-use Rattle.common.proofs.Tests.{and_both, by_equality, by_cases}
+use Rattle.common.proofs.Tests.{and_both, by_equality}
 use Rattle.common.proofs.Check.{clear, not_given, accepts, number_told}
 use Rattle.line.specs.Refusal as number
 use Rattle.line.specs.declared.line.Line.{Line}
@@ -22,14 +22,15 @@ use Rattle.line.specs.Book.{accepted_book, refused_by, read_from, read_positione
 use Rattle.line.proofs.InOrder.{from_zero_lem}
 use Rattle.line.proofs.ReadingLaws.{read_number}
 use Rattle.line.proofs.Positions.{positions}
-use Rattle.place.specs.Metres.{from_zero, equals, within_line}
-use Rattle.place.specs.Locating.{Report, Post, Metres, Missing, Place, At, In, Nothing, Refused, at}
-use Rattle.place.specs.Locating.{last_reached, placed, place_checks, place_refusal, place_of, Surveyed, on_survey}
+use Rattle.std.specs.Result.{is_ok}
+use Rattle.place.specs.Metres.{from_zero, within_line}
+use Rattle.place.specs.Locating.{Report, Metres, Missing, Place, Result, Ok, Refused, at}
+use Rattle.place.specs.Locating.{placed, place_checks, place_refusal, place_of, Surveyed, on_survey}
 use Rattle.place.specs.Claims.{IsAt, somewhere, Located, PlaceReports}
 use Rattle.place.proofs.Cases.{post_off, post_on, metres_off, is_missing, is_surveyed, by_survey}
 use Rattle.place.proofs.Cases.{refused_book_lem}
 use Rattle.place.proofs.Nearest.{nearest_own}
-use Rattle.place.proofs.Told.{Told, at_one, in_one, off_line, other_sort, told, told_at, told_in}
+use Rattle.place.proofs.Told.{Told, at_one, in_one, off_line, told, told_at, told_in}
 use Rattle.place.proofs.Told.{only_at, only_in}
 use Rattle.place.proofs.SameValue.{same_place}
 
@@ -60,7 +61,7 @@ module _ (b : List ℕ) (l : Line) (ps : List ℕ) (is_read : read_positioned b 
       → place_of b (Metres x) ≡ Refused number.no_place
   refused_off x h = sym (metres_off l.posts ps x h ∙ by (Metres x))
 
-  on_line : (x : Float) (a : Place) → Told l.posts ps x a → within_line (metres_at ps (l.posts - 1)) x ≡ true
+  on_line : (x : Float) (a : Result Place ℕ) → Told l.posts ps x a → within_line (metres_at ps (l.posts - 1)) x ≡ true
       → somewhere a ≡ true
   on_line x _ (at_one p h own) on = refl
   on_line x _ (in_one i h between) on = refl
@@ -69,7 +70,7 @@ module _ (b : List ℕ) (l : Line) (ps : List ℕ) (is_read : read_positioned b 
   place_told : (x : Float) → Told l.posts ps x (place_of b (Metres x))
   place_told x = subst (Told l.posts ps x) (by (Metres x)) (told l.posts ps x s)
 
-  at_post : (x : Float) (p : ℕ) → p < l.posts → IsAt ps x p → place_of b (Metres x) ≡ at p
+  at_post : (x : Float) (p : ℕ) → p < l.posts → IsAt ps x p → place_of b (Metres x) ≡ Ok (at p)
   at_post x p h own = sym (told_at l.posts ps x s p h own ∙ by (Metres x))
 
   located : Located b l ps
@@ -93,39 +94,28 @@ module _ (b : List ℕ) (l : Line) (ps : List ℕ) (is_read : read_positioned b 
 
 -- ---- the number of a report
 
-no_number : (a : Place) → ((k : ℕ) → a ≢ Refused k) → place_refusal a ≡ 0
-no_number (At p) h = refl
-no_number (In i q) h = refl
-no_number Nothing h = refl
+no_number : (a : Result Place ℕ) → ((k : ℕ) → a ≢ Refused k) → place_refusal a ≡ 0
+no_number (Ok a) h = refl
 no_number (Refused k) h = absurd (h k refl)
 
--- where nothing is refused there is a place, or nothing
-not_refused : (n : ℕ) (ps : List ℕ) (r : Report) (k : ℕ) → placed n ps r ≢ Refused k
-not_refused n ps (Post p) k e = other_sort _ _ e (λ z. omega arith)
-not_refused n ps (Metres x) k e = by_cases (equals x (metres_at ps (last_reached ps x (n - 1))))
-    (λ own. other_sort _ _ (rw own at e) (λ z. omega arith))
-    (λ off. other_sort _ _ (rw off at e) (λ z. omega arith))
-not_refused n ps Missing k e = other_sort _ _ e (λ z. omega arith)
-
-some_number : (k : ℕ) (a : Place) → ((n : ℕ) → a ≢ Refused n) → (n : ℕ) → unless_refused k a Refused ≡ Refused n → 0 < n
+some_number : (k : ℕ) (a : Place) (n : ℕ) → unless_refused k (Ok a) Refused ≡ Refused n → 0 < n
 unfolding unless_refused
-some_number zero a h n e = absurd (h n e)
-some_number (suc k) a h n e = let same : suc k ≡ n = ap place_refusal e in omega arith
+some_number zero a n e = absurd (true≢false (ap is_ok e))
+some_number (suc k) a n e = let same : suc k ≡ n = ap place_refusal e in omega arith
 
 module _ (b : List ℕ) (r : Report) where
   pub place_number : place_refusal (place_of b r) ≡ refusal (place_checks b r)
   unfolding place_of
   place_number =
-      let a = placed (posts_of b) (positions_of b) r in
-      let none = no_number a (not_refused (posts_of b) (positions_of b) r) in
-      number_told place_refusal a Refused none (λ k. refl) (refusal (place_checks b r))
+      number_told place_refusal (Ok (placed (posts_of b) (positions_of b) r)) Refused refl (λ k. refl)
+      (refusal (place_checks b r))
 
   own_number : (n : ℕ) → place_of b r ≡ Refused n → place_refusal (place_of b r) ≡ n
   own_number n e = ap place_refusal e
 
   numbered : (n : ℕ) → place_of b r ≡ Refused n → 0 < n
   unfolding place_of
-  numbered n e = some_number _ _ (not_refused (posts_of b) (positions_of b) r) n e
+  numbered n e = some_number _ _ n e
 
   book_first : (n : ℕ) → outcome_number (read_positioned b).outcome ≡ n → n ≢ 0 → place_of b r ≡ Refused n
   book_first n e h = sym (refused_book_lem b r n (sym (read_number last_edition b) ∙ e) (omega arith))

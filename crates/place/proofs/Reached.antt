@@ -8,7 +8,7 @@ use native.Mathlib.Omega.{arith}
 use lib.Ieee.{Float}
 use lib.Ieee.Positive.{num, den}
 use borrow.Author.Tests.{ltb-true, ltb-false, le-ltb}
-use Rattle.common.proofs.Tests.{clash, by_cases, by_equality}
+use Rattle.common.proofs.Tests.{by_cases, by_equality}
 use Rattle.line.specs.Positions.{metres_at}
 use Rattle.place.specs.Metres.{is_below}
 use Rattle.place.specs.Locating.{last_reached}
@@ -18,6 +18,19 @@ module _ (ps : List ℕ) (x : Float) where
   unfolding last_reached
   reached_here zero h = refl
   reached_here (suc p) h = rw h
+
+  pub reached_before : (p : ℕ) → is_below x (metres_at ps p) ≡ true → last_reached ps x p ≡ last_reached ps x (p - 1)
+  unfolding last_reached
+  reached_before zero h = refl
+  reached_before (suc p) h =
+      let same : suc p - 1 ≡ p = omega arith in
+      rw (h, same)
+
+  -- where no post is left but the first
+  pub reached_none : (p : ℕ) → p ≤ 0 → last_reached ps x p ≡ 0
+  unfolding last_reached
+  reached_none zero h = refl
+  reached_none (suc p) h = absurd (not-suc-le-zero h)
 
   pub reached_at_most : (p : ℕ) → last_reached ps x p ≤ p
   unfolding last_reached
@@ -44,17 +57,6 @@ module _ (ps : List ℕ) (x : Float) where
   module _ (first : metres_at ps 0 ≡ 0) where
     first_reached : is_below x (metres_at ps 0) ≡ false
     first_reached = rw first (le-ltb (num x) (0 * den x) (rw (zero-mul (den x)) (omega arith)))
-
-    pub not_first : (p : ℕ) → is_below x (metres_at ps p) ≡ true → 1 ≤ p
-    not_first zero h = clash _ h first_reached
-    not_first (suc p) h = omega arith
-
-    pub reached_before : (p : ℕ) → is_below x (metres_at ps p) ≡ true → last_reached ps x p ≡ last_reached ps x (p - 1)
-    unfolding last_reached
-    reached_before zero h = refl
-    reached_before (suc p) h =
-        let same : suc p - 1 ≡ p = omega arith in
-        rw (h, same)
 
     not_below : (p : ℕ) → is_below x (metres_at ps (last_reached ps x p)) ≡ false
     unfolding last_reached

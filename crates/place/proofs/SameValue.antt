@@ -12,7 +12,7 @@ use borrow.Author.Tests.{leb-false, lt-leb}
 use Rattle.line.specs.Route.{distance}
 use Rattle.line.specs.Positions.{metres_at}
 use Rattle.place.specs.Metres.{from_zero, within_line, gap}
-use Rattle.place.specs.Locating.{Metres, Place, Surveyed, on_survey}
+use Rattle.place.specs.Locating.{Metres, Place, Result, Surveyed, on_survey}
 use Rattle.place.specs.Claims.{Nearest}
 use Rattle.place.proofs.Cases.{metres_off}
 use Rattle.place.proofs.Nearest.{nearest_of_all}
@@ -62,7 +62,7 @@ module _ (x y : Float) (same : num x * den y ≡ num y * den x) where
         let past : leb (num x) (m * den x) ≡ false = rw z at h in
         rw (not_below, lt-leb (num y) (m * den y) (same_after m (leb-false _ _ past)))
 
-    by_told : (a : Place) → Told n ps x a → from_zero x ≡ true → a ≡ on_survey n ps (Metres y)
+    by_told : (a : Result Place ℕ) → Told n ps x a → from_zero x ≡ true → a ≡ on_survey n ps (Metres y)
     by_told _ (at_one p h own) z =
         told_at n ps y s p h (record { number = not_below; equal = same_equal _ own.equal })
     by_told _ (in_one i h b) z =

@@ -8,8 +8,8 @@ use Rattle.line.specs.declared.line.Line.{Line}
 use Rattle.line.specs.Positions.{metres_at}
 use Rattle.line.specs.Book.{named_length, edition_of, accepted_book, read_positioned, outcome_number}
 use Rattle.place.specs.Metres.{from_zero, gap}
-use Rattle.place.specs.Locating.{Report, Post, Metres, Missing, Place, At, In, Nothing, Refused, at, in_section}
-use Rattle.place.specs.Locating.{place_refusal, place_of}
+use Rattle.place.specs.Locating.{Report, Post, Metres, Missing, Place, At, In, Nothing, Result, Ok, Refused}
+use Rattle.place.specs.Locating.{at, in_section, place_refusal, place_of}
 
 -- by its exact value x is the position of post p, or lies between those of post i and the next one
 pub record IsAt (ps : List ℕ) (x : Float) (p : ℕ) : Type 0 where
@@ -28,21 +28,21 @@ pub record Nearest (n : ℕ) (ps : List ℕ) (x : Float) (q : ℕ) : Type 0 wher
   pub lower_farther : (r : ℕ) → r < q → gap x (metres_at ps q) < gap x (metres_at ps r)
 
 -- at a post or in a section
-abbrev pub somewhere : Place → Bool
-somewhere (At p) = true
-somewhere (In i q) = true
-somewhere Nothing = false
+abbrev pub somewhere : Result Place ℕ → Bool
+somewhere (Ok (At p)) = true
+somewhere (Ok (In i q)) = true
+somewhere (Ok Nothing) = false
 somewhere (Refused k) = false
 
 -- once the book is read
 pub record Located (b : List ℕ) (l : Line) (ps : List ℕ) : Type 0 where
   -- "The answer for metres is the post if equal to its position", then and only then
-  pub at_post : (x : Float) (p : ℕ) → p < l.posts → IsAt ps x p → place_of b (Metres x) ≡ at p
-  pub only_at : (x : Float) (p : ℕ) → place_of b (Metres x) ≡ at p → (p < l.posts) × IsAt ps x p
+  pub at_post : (x : Float) (p : ℕ) → p < l.posts → IsAt ps x p → place_of b (Metres x) ≡ Ok (at p)
+  pub only_at : (x : Float) (p : ℕ) → place_of b (Metres x) ≡ Ok (at p) → (p < l.posts) × IsAt ps x p
   -- "else the section, and also the nearest post", of all posts of the line; no other section and no other post
   pub in_section_lem : (x : Float) (i q : ℕ) → i + 1 < l.posts → IsBetween ps x i → Nearest l.posts ps x q
-      → place_of b (Metres x) ≡ in_section i q
-  pub only_in : (x : Float) (i q : ℕ) → place_of b (Metres x) ≡ in_section i q
+      → place_of b (Metres x) ≡ Ok (in_section i q)
+  pub only_in : (x : Float) (i q : ℕ) → place_of b (Metres x) ≡ Ok (in_section i q)
       → (i + 1 < l.posts) × IsBetween ps x i × Nearest l.posts ps x q
   -- at a post that one is the nearest
   pub own_nearest : (x : Float) (p : ℕ) → p < l.posts → IsAt ps x p → Nearest l.posts ps x p
@@ -50,10 +50,10 @@ pub record Located (b : List ℕ) (l : Line) (ps : List ℕ) : Type 0 where
   pub told : (x : Float) → from_zero x ≡ true → num x ≤ metres_at ps (l.posts - 1) * den x
       → somewhere (place_of b (Metres x)) ≡ true
   -- "minus zero is zero", which is post 0
-  pub zero_either_way : (s : Bool) (e : ℤ) → place_of b (Metres (fin s 0 e)) ≡ at 0
+  pub zero_either_way : (s : Bool) (e : ℤ) → place_of b (Metres (fin s 0 e)) ≡ Ok (at 0)
   -- "A post number gives itself. Missing gives nothing and is accepted."
-  pub itself : (p : PostNo) → p.0 < l.posts → place_of b (Post p) ≡ At p
-  pub nothing : place_of b Missing ≡ Nothing
+  pub itself : (p : PostNo) → p.0 < l.posts → place_of b (Post p) ≡ Ok (At p)
+  pub nothing : place_of b Missing ≡ Ok Nothing
   -- "A post number not in the line is 9."
   pub other_post : (p : PostNo) → l.posts ≤ p.0 → place_of b (Post p) ≡ Refused number.wrong_post
   -- "29, not a finite number, below zero or past the last post"

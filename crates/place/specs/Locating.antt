@@ -8,7 +8,9 @@ use Rattle.place.specs.Metres.{equals, is_below, within_line, nearer}
 pub use Rattle.place.specs.declared.report.Report.{Report}
 pub use Rattle.place.specs.declared.report.Report.TheVariants.{Post, Metres, Missing}
 pub use Rattle.place.specs.declared.report.Place.{Place}
-pub use Rattle.place.specs.declared.report.Place.TheVariants.{At, In, Nothing, Refused}
+pub use Rattle.place.specs.declared.report.Place.TheVariants.{At, In, Nothing}
+pub use Rattle.std.specs.declared.result.Result.{Result}
+pub use Rattle.std.specs.declared.result.Result.TheVariants.{Ok, Err as Refused}
 
 abbrev pub at : ℕ → Place
 at p = At (record { 0 = p })
@@ -63,14 +65,13 @@ report_checks n ps r = check number.wrong_post (names_post n r) ∷ check number
 abbrev pub place_checks : List ℕ → Report → List Check
 place_checks b r = book_checks_from last_edition b ++ report_checks (posts_of b) (positions_of b) r
 
-unfoldable pub place_of : List ℕ → Report → Place
-place_of b r = unless_refused (refusal (place_checks b r)) (placed (posts_of b) (positions_of b) r) Refused
+-- its place, or the number that it is refused by
+unfoldable pub place_of : List ℕ → Report → Result Place ℕ
+place_of b r = unless_refused (refusal (place_checks b r)) (Ok (placed (posts_of b) (positions_of b) r)) Refused
 
 -- the number that a report is refused by; 0 of one that is accepted
-abbrev pub place_refusal : Place → ℕ
-place_refusal (At p) = 0
-place_refusal (In i q) = 0
-place_refusal Nothing = 0
+abbrev pub place_refusal : Result Place ℕ → ℕ
+place_refusal (Ok a) = 0
 place_refusal (Refused k) = k
 
 -- ---- inside the code: the part after the book is read
@@ -80,5 +81,5 @@ pub record Surveyed (n : ℕ) (ps : List ℕ) : Type 0 where
   pub few : n ≤ 8
   pub ordered : positions_in_order n ps ≡ true
 
-abbrev pub on_survey : ℕ → List ℕ → Report → Place
-on_survey n ps r = unless_refused (refusal (report_checks n ps r)) (placed n ps r) Refused
+abbrev pub on_survey : ℕ → List ℕ → Report → Result Place ℕ
+on_survey n ps r = unless_refused (refusal (report_checks n ps r)) (Ok (placed n ps r)) Refused

@@ -1,10 +1,9 @@
-// Bytes put into a lent buffer: the head that a line and a state begin with, and a line.
+// A line written to bytes, and the head that a line and a state begin with. Which bytes these are is
+// said in `encoding`.
 #![tactic(auto)]
 
 mod head_bytes;
 mod line_bytes;
-mod placing;
 
 pub use head_bytes::put_head;
 pub use line_bytes::put_line;
-pub use placing::put;

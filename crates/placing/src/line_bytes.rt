@@ -3,22 +3,18 @@ ghost use Rattle.std.specs.Prelude.{◌≡◌, length};
 ghost use Rattle.encoding.specs.LineBytes.{line_length, route_ends, line_bytes};
 
 use crate::head_bytes::put_head;
-use crate::placing::put;
 use encoding::{HEAD_LENGTH, ROUTE_LENGTH};
 use line::{Line, Route};
+use part::put;
 
 // Writes the 23 bytes of a line.
-pub fn put_line(line: Line, to: &mut [u8])
+pub fn put_line(line: &Line, to: &mut [u8])
     requires { length to.old ≡ line_length }
-    ensures { to.new ≡ line_bytes line }
+    ensures { to.new ≡ line_bytes line.now }
 {
-    let tracks = line.tracks;
-    put_head(line.posts, tracks, line.sidings, line.trains, to);
-    let mut t: usize = 0;
-    while t < 6 {
-        let bytes = route_ends(line.routes[t]);
-        put(&bytes, to, HEAD_LENGTH + ROUTE_LENGTH * t);
-        t += 1;
+    put_head(line.posts, &line.tracks, line.sidings, line.trains, to);
+    for (t, route) in line.routes.iter().enumerate() {
+        put(&route_ends(*route), to, HEAD_LENGTH + ROUTE_LENGTH * t);
     }
 }
 

@@ -1,26 +1,28 @@
 // Pressing a button: refusals 1, 21 and 8, in that order.
 ghost use Rattle.std.specs.Prelude.{◌≡◌};
-ghost use Rattle.driver.specs.Pressing.{moved_on, last_sent, silent, sending, press_button};
+ghost use Rattle.driver.specs.Pressing.{moved_on, last_sent, carried_out, silent, sending, press_button};
 
-use crate::permitting::{end_permits, may_press};
+use crate::permitting::permitted;
 use driver::{Button, Phase, Pressed, Unit};
-use frame::{FRAME_LENGTH, Message};
-use line::refusal::{AT_ITS_END, NOT_NOW, STRANGE_STATE};
-use unit::{awaiting, in_phase, last_move, own_move, valid};
+use frame::Message;
+use unit::{awaiting, in_phase, last_move, own_move};
 
 // What a press of a button does.
+#[tactic(auto, unfolding(driver::specs::Pressing::press_button, common::specs::Check::unless_refused))]
 pub fn press(unit: Unit, button: Button) -> Pressed
     ensures { result ≡ press_button unit button }
 {
-    if !valid(unit) {
-        return silent(unit, STRANGE_STATE);
+    match permitted(unit, button) {
+        Ok(()) => carried_out(unit, button),
+        Err(refusal) => silent(unit, refusal as u8),
     }
-    if !may_press(unit, button) {
-        return silent(unit, NOT_NOW);
-    }
-    if !end_permits(unit, button) {
-        return silent(unit, AT_ITS_END);
-    }
+}
+
+// What a press does that is permitted.
+#[tactic(auto, unfolding(driver::specs::Pressing::carried_out))]
+fn carried_out(unit: Unit, button: Button) -> Pressed
+    ensures { result ≡ carried_out unit button }
+{
     match button {
         Button::Ask => sending(in_phase(unit, Phase::Asked), Message::Fa(own_move(unit))),
         Button::Depart => silent(in_phase(unit, Phase::UnderWay), 0),
@@ -34,25 +36,21 @@ pub fn press(unit: Unit, button: Button) -> Pressed
 fn last_sent(unit: Unit) -> Message
     ensures { result ≡ last_sent unit }
 {
-    let phase = unit.phase;
-    if awaiting(phase) {
-        return Message::Fa(own_move(unit));
+    if awaiting(unit.phase) {
+        Message::Fa(own_move(unit))
+    } else {
+        Message::Am(last_move(unit))
     }
-    Message::Am(last_move(unit))
 }
 
 // Standing at the next post.
 fn moved_on(unit: Unit) -> Unit
     ensures { result ≡ moved_on unit }
 {
-    let train = unit.train;
-    let route = unit.route;
-    let at = line::next_post(unit.at, route.end);
     Unit {
-        train: train,
-        route: route,
-        at: at,
+        at: line::next_post(unit.at, unit.route.end),
         phase: Phase::Standing,
+        ..unit
     }
 }
 
@@ -60,21 +58,18 @@ fn silent(unit: Unit, refusal: u8) -> Pressed
     ensures { result ≡ silent unit refusal }
 {
     Pressed {
-        unit: unit,
-        refusal: refusal,
-        sent: false,
-        frame: [0; FRAME_LENGTH],
+        unit,
+        refusal,
+        frame: None,
     }
 }
 
 fn sending(unit: Unit, message: Message) -> Pressed
     ensures { result ≡ sending unit message }
 {
-    let frame = framing::write(message);
     Pressed {
-        unit: unit,
+        unit,
         refusal: 0,
-        sent: true,
-        frame: frame,
+        frame: Some(framing::write(message)),
     }
 }

@@ -1,8 +1,8 @@
 -- Laws of a number in decimal.
-use mathlib.Core.Path.{◌≡◌, refl, sym, ◌∙◌}
-use mathlib.Core.Logic.{◌⊎◌, inl, inr}
-use mathlib.Core.Bool.{Bool, true, false, cond}
-use mathlib.Core.List.{List, [], ◌∷◌, ◌++◌, append_assoc, append-nil}
+use mathlib.Core.Path.{◌≡◌, sym, ◌∙◌}
+use mathlib.Core.Logic.{◌≢◌}
+use mathlib.Core.Bool.{cond}
+use mathlib.Core.List.{List, [], ◌∷◌, ◌++◌, append_assoc}
 use Prim.Native.Nat.{ℕ, zero, suc, ◌+◌, ◌-◌, ◌*◌, ◌/◌, ◌%◌, ◌^◌, ◌≤◌, ◌<◌}
 use native.Mathlib.Nat.{pow-succ'}
 use native.Mathlib.Numerals.{add-one}
@@ -10,8 +10,8 @@ use lib.Seq.{take_all}
 use Rattle.std.proofs.lemmas.List.{drop-set}
 use native.Mathlib.Omega.{arith}
 use lib.Dec.{eqb, ltb, lit<}
-use lib.ListN.{length, take, drop, set, length-set, length-append, length-drop, drop_of_length-le}
-use borrow.Author.Tests.{ne_eqb, lt-ltb, le-ltb}
+use lib.ListN.{length, take, drop, set, length-set, length-append, length-drop}
+use borrow.Author.Tests.{eq-eqb, ne_eqb, lt-ltb, le-ltb}
 use Rattle.common.proofs.Tests.{by_cases, by_order}
 use Rattle.printout.specs.Lines.{decimal_in, decimal, kind_name, record_line, end_line, book_line}
 use Rattle.printout.specs.Text.{record_line_length, end_line_length}
@@ -32,9 +32,8 @@ tenth_none n = by_order n 10 (λ few. rw (lt-ltb n 10 few) (grind arith)) (λ ma
 
 -- the digits of n from place f of twenty on are written, and those of m come before them
 pub record Written (n f m : ℕ) (digits : List ℕ) : Type 0 where
-  pub within : f < 20
   pub places : length digits ≡ 20
-  pub are : decimal n ≡ cond (eqb m 0) [] (decimal_in f m) ++ drop f digits
+  pub are : decimal n ≡ decimal_in f m ++ drop f digits
 
 -- one more of them
 digit_more : (f n : ℕ) (digits : List ℕ) → f < length digits
@@ -45,45 +44,28 @@ digit_more f n digits h =
     rw (drop-set digits f (48 + n % 10) h, ← tenth_none n, add-one f)
     (append_assoc _ ((48 + n % 10) ∷ []) (drop (suc f) digits))
 
--- the last digit
-pub first_written : (n d : ℕ) (digits : List ℕ) → d ≡ 48 + n % 10 → length digits ≡ 20
-    → Written n 19 (n / 10) (set digits 19 d)
-first_written n d digits e h =
-    let none : drop 20 digits ≡ [] = drop_of_length-le digits {i = 20} (omega arith) in
-    let all : decimal n ++ drop 20 digits ≡ decimal n = rw none (append-nil (decimal n)) in
-    record {
-      within = lit< tt;
-      places = rw length-set h;
-      are = sym all ∙ rw e (digit_more 19 n digits (omega arith));
-    }
-
 -- and one before
-pub next_written : (n d f m : ℕ) (digits : List ℕ) → d ≡ 48 + m % 10 → 0 < m → 0 < f → Written n f m digits
-    → Written n (f - 1) (m / 10) (set digits (f - 1) d)
-next_written n d f m digits e p q w =
-    let some : eqb m 0 ≡ false = ne_eqb m 0 (λ z. omega arith) in
+pub next_written : (n f m : ℕ) (digits : List ℕ) → 0 < f → f ≤ 20 → m / 10 ≢ 0 → Written n f m digits
+    → Written n (f - 1) (m / 10) (set digits (f - 1) (48 + m % 10))
+next_written n f m digits p q some w =
     let next : f - 1 + 1 ≡ f = omega arith in
-    let more = rw next at (digit_more (f - 1) m digits (omega (arith, w.within, w.places))) in
-    record {
-      within = omega (arith, w.within);
-      places = rw length-set w.places;
-      are = rw some at w.are ∙ rw e more;
-    }
+    let more = rw next at (digit_more (f - 1) m digits (omega (arith, w.places))) in
+    record { places = rw length-set w.places; are = w.are ∙ rw (ne_eqb (m / 10) 0 some) at more }
 
-both_none : (b : Bool) → cond {A = List ℕ} b [] [] ≡ []
-both_none true = refl
-both_none false = refl
+-- and the first
+pub first_written : (n f m : ℕ) (digits : List ℕ) → 0 < f → f ≤ 20 → m / 10 ≡ 0 → Written n f m digits
+    → take (20 - (f - 1)) (drop (f - 1) (set digits (f - 1) (48 + m % 10))) ≡ decimal n
+first_written n f m digits p q none w =
+    let next : f - 1 + 1 ≡ f = omega arith in
+    let more = rw next at (digit_more (f - 1) m digits (omega (arith, w.places))) in
+    let all = set digits (f - 1) (48 + m % 10) in
+    take_all (20 - (f - 1)) (drop (f - 1) all) (omega (arith, length-drop {A = ℕ}, length-set {A = ℕ}, w.places))
+    ∙ sym (w.are ∙ rw (eq-eqb (m / 10) 0 none) at more)
 
-no_more : (n f m : ℕ) (digits : List ℕ) → (m ≡ 0) ⊎ (f ≡ 0) → Written n f m digits → drop f digits ≡ decimal n
+-- or all twenty
+pub all_written : (n m : ℕ) (digits : List ℕ) → Written n 0 m digits → digits ≡ decimal n
 unfolding decimal_in
-no_more n f m digits (inl e) w = rw e at (sym w.are)
-no_more n f m digits (inr e) w = rw e (sym (rw (e, both_none (eqb m 0)) at w.are))
-
--- and the whole number
-pub all_written : (n f m : ℕ) (digits : List ℕ) → (m ≡ 0) ⊎ (f ≡ 0) → Written n f m digits
-    → take (20 - f) (drop f digits) ≡ decimal n
-all_written n f m digits e w =
-    take_all (20 - f) (drop f digits) (omega (arith, length-drop f digits, w.places)) ∙ no_more n f m digits e w
+all_written n m digits w = sym w.are
 
 -- a number below 10 ^ k has at most k digits
 pub decimal_length : (f n k : ℕ) → n < 10 ^ k → 0 < k → length (decimal_in f n) ≤ k

@@ -6,8 +6,8 @@ use native.Mathlib.Omega.{arith}
 use native.Mathlib.Numerals.{add-one}
 use lib.ListN.{length, length-append}
 use Rattle.journal.specs.Journal.{record_at}
-use Rattle.printout.specs.Types.{Record, Text}
-use Rattle.printout.specs.Text.{record_line_length, end_line_length, text_length, text_of, followed}
+use Rattle.printout.specs.Types.{Record}
+use Rattle.printout.specs.Text.{Text, record_line_length, end_line_length, text_length, text_of, followed}
 use Rattle.printout.specs.Lines.{record_line, end_line, record_lines, run_lines}
 use Rattle.printout.proofs.Room.{held, fits}
 

@@ -1,7 +1,8 @@
 -- A text by value: its bytes, then zeros, and how many bytes it has.
-use Rattle.std.specs.Prelude.{cond, ℕ, ◌+◌, ◌*◌, ◌-◌, ltb, length, set, replicate}
-use mathlib.Core.List.{List, ◌++◌, foldl}
-use Rattle.printout.specs.Types.{Text}
+use Rattle.std.specs.Prelude.{ℕ, ◌+◌, ◌*◌}
+use mathlib.Core.List.{List, foldl}
+use Rattle.bounded.specs.declared.bytes.Bytes.{Bytes}
+use Rattle.bounded.specs.Bytes.{bytes_from, bytes_with}
 
 -- as many bytes as the longest line of a record has
 abbrev pub record_line_length : ℕ
@@ -15,18 +16,17 @@ end_line_length = 29
 abbrev pub text_length : ℕ
 text_length = 255 * record_line_length + end_line_length
 
--- l, and zeros after it as far as n
-abbrev pub zeroed : ℕ → List ℕ → List ℕ
-zeroed n l = l ++ replicate (n - length l) 0
+-- bytes, as many as are printed at most
+abbrev pub Text : Type 0
+Text = Bytes text_length
 
 -- the text that holds l
 abbrev pub text_of : List ℕ → Text
-text_of l = record { bytes = zeroed text_length l; length = length l }
+text_of l = bytes_from text_length l
 
 -- a text with one byte more, where there is room
-unfoldable pub text_with : Text → ℕ → Text
-text_with t b =
-    cond (ltb t.length text_length) (record { bytes = set t.bytes t.length b; length = t.length + 1 }) t
+abbrev pub text_with : Text → ℕ → Text
+text_with t b = bytes_with text_length t b
 
 -- a text with a word after it
 abbrev pub followed : Text → List ℕ → Text

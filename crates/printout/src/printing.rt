@@ -4,7 +4,7 @@ ghost use Rattle.printout.specs.Text.{text_length, text_of};
 ghost use Rattle.printout.specs.Lines.{run_lines, book_line};
 
 use crate::lines::{with_book, with_end, with_record};
-use crate::text::{Text, empty};
+use crate::text::Text;
 use journal::Log;
 
 // The records below the count, then the counts.
@@ -12,11 +12,9 @@ pub fn run_text(log: Log, logged: u8, refused: u64) -> Text
     ensures length_le_text_length { result.length ≤ text_length }
     ensures value { result ≡ text_of (run_lines log.records logged refused) }
 {
-    let mut text = empty();
-    let mut i: u8 = 0;
-    while i < logged {
+    let mut text = Text::empty();
+    for i in 0..logged {
         text = with_record(text, i, logging::log_at(log, i as usize));
-        i += 1;
     }
     with_end(text, logged, refused)
 }
@@ -25,5 +23,5 @@ pub fn book_text(refusal: u8) -> Text
     ensures length_le_text_length { result.length ≤ text_length }
     ensures value { result ≡ text_of (book_line refusal) }
 {
-    with_book(empty(), refusal)
+    with_book(Text::empty(), refusal)
 }

@@ -7,9 +7,8 @@ use crate::word::word_of;
 use codec::{RECORD_LENGTH, append};
 use decoding::{encodes_state, state_in};
 use encoding::{LINE_LENGTH, STATE_LENGTH};
-use line::refusal::STRANGE_STATE;
+use line::Refusal;
 use placing::put_line;
-use rules::Verdict;
 use storing::{put_changes, put_state};
 
 // Reads a book and writes the line that it describes.
@@ -18,13 +17,11 @@ pub extern "C" fn quangevit_read_book(book: &[u8], line: &mut [u8]) -> u32
     ensures { book_call result line.new ≡ read_book_call book.now line.old }
 {
     if line.len() != LINE_LENGTH {
-        return word_of(STRANGE_STATE, 0);
+        return word_of(Refusal::StrangeState as u8, 0);
     }
     let reading = book::read(book);
-    let found = reading.line;
-    put_line(found, line);
-    let outcome = reading.outcome;
-    word_of(book::number_of(outcome), 0)
+    put_line(&reading.line, line);
+    word_of(book::number_of(reading.outcome), 0)
 }
 
 // Opens a book: fills the table and writes the state. Of the journal only the length is looked at.
@@ -39,11 +36,10 @@ pub extern "C" fn quangevit_open(
         ≡ open_call book.now state.old table.old journal.now }
 {
     if state.len() != STATE_LENGTH {
-        return word_of(STRANGE_STATE, 0);
+        return word_of(Refusal::StrangeState as u8, 0);
     }
     let opened = opening::open_with(book, table, journal.len() / RECORD_LENGTH);
-    let after = opened.state;
-    put_state(after, state);
+    put_state(&opened.state, state);
     word_of(opened.refusal, 0)
 }
 
@@ -61,19 +57,15 @@ pub extern "C" fn quangevit_answer(
         frame.now out.old }
 {
     if !encodes_state(state) {
-        return word_of(STRANGE_STATE, 0);
+        return word_of(Refusal::StrangeState as u8, 0);
     }
     let before = state_in(state);
     let outcome = dispatcher::step(before, table, journal.len() / RECORD_LENGTH, frame, out);
-    let reply = outcome.reply;
-    let verdict = reply.verdict;
-    match verdict {
-        Verdict::Refused(n) => word_of(n, 0),
-        Verdict::Sent(n) => {
-            let batch = outcome.batch;
-            append(journal, outcome.at, batch);
-            let after = reply.state;
-            put_changes(after, state);
+    match outcome.reply.verdict {
+        Err(n) => word_of(n, 0),
+        Ok(n) => {
+            append(journal, outcome.at, outcome.batch);
+            put_changes(&outcome.reply.state, state);
             word_of(0, n)
         }
     }

@@ -4,8 +4,7 @@ ghost use Rattle.calls.specs.PlanningCalls.{time_call, running_time_call};
 
 use crate::word::word_of;
 use codec::{TIME_LENGTH, put_time};
-use line::PostNo;
-use line::refusal::STRANGE_STATE;
+use line::{PostNo, Refusal};
 
 // The running time from one post of a book to another, at a speed in km/h. A question that is refused
 // leaves `time` alone.
@@ -22,12 +21,13 @@ pub extern "C" fn quangevit_running_time(
         ≡ running_time_call book.now from to speed time.old }
 {
     if time.len() != TIME_LENGTH {
-        return word_of(STRANGE_STATE, 0);
+        return word_of(Refusal::StrangeState as u8, 0);
     }
-    let answer = timing::running_time(book, PostNo(from), PostNo(to), speed);
-    if answer.refusal != 0 {
-        return word_of(answer.refusal, 0);
+    match timing::running_time(book, PostNo(from), PostNo(to), speed) {
+        Ok(answer) => {
+            put_time(answer, time);
+            word_of(0, 0)
+        }
+        Err(number) => word_of(number, 0),
     }
-    put_time(answer, time);
-    word_of(answer.refusal, 0)
 }

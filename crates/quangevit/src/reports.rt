@@ -1,15 +1,11 @@
 // For a cab that knows where it is: the place of a report.
 ghost use Rattle.std.specs.Prelude.{◌≡◌};
-ghost use Rattle.calls.specs.PlaceCalls.{place_call, report_of, locate_call};
+ghost use Rattle.calls.specs.PlaceCalls.{place_call, known_report, known_place, locate_call};
 
 use crate::word::word_of;
 use codec::{PLACE_LENGTH, put_place};
-use line::PostNo;
-use line::refusal::{STRANGE_STATE, UNKNOWN_KIND};
-use place::{Report, place_refusal};
-
-// The number of the last kind of report, metres.
-const LAST_KIND: u8 = 2;
+use line::{PostNo, Refusal};
+use place::{Place, Report};
 
 // The place of a report: missing, a post or metres, by its kind. A report that is refused leaves
 // `place` alone.
@@ -26,27 +22,34 @@ pub extern "C" fn quangevit_locate(
         ≡ locate_call book.now kind post metres place.old }
 {
     if place.len() != PLACE_LENGTH {
-        return word_of(STRANGE_STATE, 0);
+        return word_of(Refusal::StrangeState as u8, 0);
     }
-    if LAST_KIND < kind {
-        return word_of(UNKNOWN_KIND, 0);
+    match found(book, kind, post, metres) {
+        Ok(at) => {
+            put_place(at, place);
+            word_of(0, 0)
+        }
+        Err(number) => word_of(number, 0),
     }
-    let found = locating::locate(book, report_of(kind, post, metres));
-    let number = place_refusal(found);
-    if number != 0 {
-        return word_of(number, 0);
-    }
-    put_place(found, place);
-    word_of(number, 0)
+}
+
+// The place of a report by its kind.
+fn found(book: &[u8], kind: u8, post: u8, metres: f32) -> Result<Place, u8>
+    ensures { result ≡ known_place book.now kind post metres }
+{
+    let report = report_of(kind, post, metres)?;
+    locating::locate(book, report)
 }
 
 // The report of a kind.
-fn report_of(kind: u8, post: u8, metres: f32) -> Report
-    ensures { result ≡ report_of kind post metres }
+#[tactic(auto, unfolding(calls::specs::PlaceCalls::report_of))]
+fn report_of(kind: u8, post: u8, metres: f32) -> Result<Report, Refusal>
+    ensures { result ≡ known_report kind post metres }
 {
     match kind {
-        0 => Report::Missing,
-        1 => Report::Post(PostNo(post)),
-        2..=255 => Report::Metres(metres),
+        0 => Ok(Report::Missing),
+        1 => Ok(Report::Post(PostNo(post))),
+        2 => Ok(Report::Metres(metres)),
+        3..=255 => Err(Refusal::UnknownKind),
     }
 }

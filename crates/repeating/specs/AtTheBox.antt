@@ -5,8 +5,7 @@ use Rattle.journal.specs.Journal.{journal_length, blank, record_of, record_on}
 use Rattle.completion.specs.Table.{table_length}
 use Rattle.rules.specs.declared.state.Status.{Status}
 use Rattle.rules.specs.declared.state.Status.TheVariants.{Free, Asked, Running}
-use Rattle.rules.specs.declared.state.Last.{Last}
-use Rattle.rules.specs.declared.state.Last.TheVariants.{Nothing, Done}
+use Rattle.rules.specs.Types.{Last, None, Some}
 use Rattle.rules.specs.State.{train_of, with_train, counting}
 use Rattle.assurance.specs.Types.{Message, State, Verdict, Sent, RefusedBy}
 use Rattle.assurance.specs.Run.{Ran}
@@ -26,7 +25,7 @@ lasts_in s trains = map (λ t. (train_of s t).last) trains
 
 -- the move from post p to q as a last one
 abbrev pub done_from : ℕ → ℕ → Last
-done_from p q = Done (record { 0 = p }) (record { 0 = q })
+done_from p q = Some (record { 0 = p }, record { 0 = q })
 
 -- messages that come to a box in the state s, while the table has no bit
 abbrev pub ran_without_bits : State → List Message → Ran
@@ -53,7 +52,7 @@ pub record RepeatsOnX : Type 0 where
       ∷ record_of (afe 0 1 2)
       ∷ []
   pub statuses : statuses_in repeats_on_x.state (0 ∷ 1 ∷ []) ≡ Asked 3 ∷ Free ∷ []
-  pub lasts : lasts_in repeats_on_x.state (0 ∷ 1 ∷ []) ≡ done_from 0 1 ∷ Nothing ∷ []
+  pub lasts : lasts_in repeats_on_x.state (0 ∷ 1 ∷ []) ≡ done_from 0 1 ∷ None ∷ []
   -- "All of demand 3 covers lists with repeats.": the observer has train 0 with its authority after an FA and its
   -- repeat, and in the end at post 1, asking
   pub authorised : seen_in book_x (ran book_x (map bytes_of (fa 0 0 1 ∷ fa 0 0 1 ∷ []))) 0
@@ -159,19 +158,19 @@ verdicts_by_last s t a lasts = map (λ w. verdicts_of (ran_without_bits (last_as
 pub record LastMoves : Type 0 where
   -- "in a sound state none at its start": Free, Running, or parked there
   pub at_start : verdicts_by_last (opened_blank book_x).state 0 (fa 0 0 1)
-      (Nothing ∷ done_from 0 1 ∷ done_from 1 0 ∷ done_from 0 0 ∷ [])
+      (None ∷ done_from 0 1 ∷ done_from 1 0 ∷ done_from 0 0 ∷ [])
       ≡ (Sent 1 ∷ []) ∷ (RefusedBy 1 ∷ []) ∷ (RefusedBy 1 ∷ []) ∷ (RefusedBy 1 ∷ []) ∷ []
   pub running : verdicts_by_last (ran book_x (bytes_of (fa 0 0 1) ∷ [])).state 0 (am 0 0 1)
-      (Nothing ∷ done_from 0 1 ∷ []) ≡ (Sent 0 ∷ []) ∷ (RefusedBy 1 ∷ []) ∷ []
+      (None ∷ done_from 0 1 ∷ []) ≡ (Sent 0 ∷ []) ∷ (RefusedBy 1 ∷ []) ∷ []
   pub parked : verdicts_by_last (opened_blank (parked_at 2)).state 1 (fa 1 1 1)
-      (Nothing ∷ done_from 0 1 ∷ done_from 1 1 ∷ []) ≡ (RefusedBy 8 ∷ []) ∷ (RefusedBy 1 ∷ []) ∷ (RefusedBy 1 ∷ []) ∷ []
+      (None ∷ done_from 0 1 ∷ done_from 1 1 ∷ []) ≡ (RefusedBy 8 ∷ []) ∷ (RefusedBy 1 ∷ []) ∷ (RefusedBy 1 ∷ []) ∷ []
   -- "else the one-post move towards its end that reached the present post": for train 1 that from 2 to 1, and not
   -- none, one from the other side, the next one, one that leads nowhere or one from no neighbour
   pub on_its_way : verdicts_by_last first_home 1 (am 1 2 1)
-      (done_from 2 1 ∷ Nothing ∷ done_from 0 1 ∷ done_from 1 0 ∷ done_from 1 1 ∷ done_from 3 1 ∷ [])
+      (done_from 2 1 ∷ None ∷ done_from 0 1 ∷ done_from 1 0 ∷ done_from 1 1 ∷ done_from 3 1 ∷ [])
       ≡ (Sent 0 ∷ []) ∷ replicate 5 (RefusedBy 1 ∷ [])
   -- for train 0 at its end that from 1 to 2, and not none, the one before it or the whole way
   pub at_end_lem : verdicts_by_last first_home 0 (am 0 1 2)
-      (done_from 1 2 ∷ Nothing ∷ done_from 0 1 ∷ done_from 0 2 ∷ []) ≡ (Sent 0 ∷ []) ∷ replicate 3 (RefusedBy 1 ∷ [])
+      (done_from 1 2 ∷ None ∷ done_from 0 1 ∷ done_from 0 2 ∷ []) ≡ (Sent 0 ∷ []) ∷ replicate 3 (RefusedBy 1 ∷ [])
   -- places past the trains are not read
   pub past : verdicts_by_last (opened_blank book_x).state 2 (fa 0 0 1) (done_from 9 9 ∷ []) ≡ (Sent 1 ∷ []) ∷ []

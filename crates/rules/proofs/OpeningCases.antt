@@ -16,7 +16,7 @@ use Rattle.common.proofs.Check.{refuses}
 use Rattle.common.proofs.Tabulate.{padded_none, past_padded}
 use Rattle.line.specs.Refusal.{short_store, overfull, no_way_through}
 use Rattle.line.specs.Book.{first_edition, line_in, book_checks, accepted_book, read_book, outcome_number}
-use Rattle.line.specs.declared.line.Outcome.TheVariants.{Refused}
+use Rattle.std.specs.declared.result.Result.TheVariants.{Err}
 use Rattle.line.specs.declared.line.Reading.{Reading}
 use Rattle.line.specs.Line.{route_of, well_formed}
 use Rattle.line.proofs.ReadingLaws.{read_number, read_line, refused_some}
@@ -88,7 +88,7 @@ module _ (book table : List ℕ) (records : ℕ) where
     stores = rw (le-leb table_length (length table) long, le-leb journal_length records room)
 
     -- 14, 4, 15, 14, 16, 23, 27, 17, 14, 18
-    pub book_refused : (r : Reading) → r ≡ read_book book → (k : ℕ) → r.outcome ≡ Refused k
+    pub book_refused : (r : Reading) → r ≡ read_book book → (k : ℕ) → r.outcome ≡ Err k
         → (n : ℕ) → n ≡ outcome_number r.outcome → Gives (refused_with n table)
     book_refused r e k stopped n is =
         let own : n ≡ refusal (book_checks book)

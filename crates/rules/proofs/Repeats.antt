@@ -11,7 +11,7 @@ use Rattle.common.proofs.Check.{Refuses, clear, not_given, refusal_is, accepts}
 use Rattle.line.specs.Route.{next_post}
 use Rattle.line.proofs.Travel.{Between, of_between, next_up, next_down}
 use Rattle.frame.specs.Frame.{read_frame}
-use Rattle.rules.specs.Types.{Move, Message, Fa, Am, Last, Nothing, Done, PostNo, RefusedBy}
+use Rattle.rules.specs.Types.{Move, Message, Fa, Am, Last, None, Some, PostNo, RefusedBy}
 use Rattle.rules.specs.State.{is_nothing, is_last, train_of}
 use Rattle.rules.specs.Answer.{again, accepted, answered, refused, answer}
 use Rattle.rules.specs.Refusals.{Handed, RefusedAs, NamesNext}
@@ -47,9 +47,9 @@ not_a_number h n positive c =
     (λ p t e. let z : ◌≡◌ {A = ℕ} 0 1 = cc in omega arith)
 
 -- no move is finished: there is none
-no_last : (x : Last) → is_nothing x ≡ true → x ≡ Nothing
-no_last Nothing e = refl
-no_last (Done p q) e = absurd (false≢true e)
+no_last : (x : Last) → is_nothing x ≡ true → x ≡ None
+no_last None e = refl
+no_last (Some m) e = absurd (false≢true e)
 
 -- the post before the present one leads to it
 came_by : (a p e : ℕ) → Between a p e → p ≢ a → CameBy a e p (next_post p a) p
@@ -72,7 +72,7 @@ came_by a p e b past = ⊎_elim
     }) b
 
 -- a train's last finished move is known by its two posts
-named_last : (x : Last) (p q : PostNo) → x ≡ Done p q → is_last x p.0 q.0 ≡ true
+named_last : (x : Last) (p q : PostNo) → x ≡ Some (p, q) → is_last x p.0 q.0 ≡ true
 named_last x p q e = rw (e, eq-eqb p.0 p.0 refl) (eq-eqb q.0 q.0 refl)
 
 pub repeats_answered : RepeatsAnswered

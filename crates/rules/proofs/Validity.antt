@@ -18,7 +18,7 @@ use Rattle.line.specs.Holding.{is_stabled, holds_post, holds_section, post_holde
 use Rattle.line.proofs.Holding.{standing_section}
 use Rattle.line.proofs.Travel.{Between, between_of, of_between, next_below}
 use Rattle.line.proofs.WellFormed.{WellFormed, ranged, well_formed_lem, is_well_formed}
-use Rattle.rules.specs.Types.{Status, Free, Asked, Running, Last, Nothing, Done, Train, State}
+use Rattle.rules.specs.Types.{Status, Free, Asked, Running, Last, None, Some, Train, State}
 use Rattle.rules.specs.State.{is_free, is_asked, is_running, asked_as, is_nothing, is_last, at_end, next_of, located_at}
 use Rattle.rules.specs.State.{track_at, train_of, line_of, located, possessed, holders_of}
 use Rattle.rules.specs.Valid.{last_valid, train_valid, sections_valid, posts_valid, track_valid, tracks_valid}
@@ -103,11 +103,11 @@ train_tested x n d = (
 -- ---- the last finished move
 
 -- where a train has one, no other is its last
-pub is_last_lem : (x : Last) (p q : ℕ) → is_last x p q ≡ true → x ≡ Done (record { 0 = p }) (record { 0 = q })
-is_last_lem Nothing p q e = absurd (false≢true e)
-is_last_lem (Done a b) p q e =
-    let from : a.0 ≡ p = eqb-true _ _ (and_left (eqb a.0 p) _ e) in
-    let to : b.0 ≡ q = eqb-true _ _ (and_right (eqb a.0 p) _ e) in
+pub is_last_lem : (x : Last) (p q : ℕ) → is_last x p q ≡ true → x ≡ Some (record { 0 = p }, record { 0 = q })
+is_last_lem None p q e = absurd (false≢true e)
+is_last_lem (Some m) p q e =
+    let from : m.0.0 ≡ p = eqb-true _ _ (and_left (eqb m.0.0 p) _ e) in
+    let to : m.1.0 ≡ q = eqb-true _ _ (and_right (eqb m.0.0 p) _ e) in
     rw (← from, ← to)
 
 module _ (x : Train) (v : last_valid x ≡ true) where
@@ -129,8 +129,8 @@ module _ (x : Train) (v : last_valid x ≡ true) where
       (h, sym (eqb-true back p (and_left (eqb back p) _ z)), sym (eqb-true x.at.0 q (and_right (eqb back p) _ z))))
     where
       none : (y : Last) → is_nothing y ≡ true → is_last y p q ≡ true → ⊥
-      none Nothing a b = false≢true b
-      none (Done c d) a b = false≢true a
+      none None a b = false≢true b
+      none (Some m) a b = false≢true a
 
 -- ---- the tests of two trains' numbers
 

@@ -12,7 +12,7 @@ use Rattle.tracks.specs.Tracks.{has_track, unless_away, track_for}
 use Rattle.journal.specs.Journal.{journal_length}
 use Rattle.completion.specs.Configuration.{start, whereabouts, code, feasible}
 use Rattle.completion.specs.Table.{table_length, bit_of, filled}
-use Rattle.rules.specs.Types.{Route, Line, Record, Free, Nothing, Train, State, Opened}
+use Rattle.rules.specs.Types.{Route, Line, Record, Free, None, Train, State, Opened}
 
 -- 2: of the journal only the number of records is looked at
 abbrev pub stores_check : List ℕ → ℕ → Check
@@ -56,7 +56,7 @@ opened_track l t = get_or (start_tracks l l.trains) t 0
 
 -- a train at its start, on track k, with no move finished; of no route, at post 0
 abbrev pub fresh : Route → ℕ → Train
-fresh r k = record { route = r; at = r.start; track = record { 0 = k }; status = Free; last = Nothing }
+fresh r k = record { route = r; at = r.start; track = record { 0 = k }; status = Free; last = None }
 
 -- "every train Free at its start, count 0"; where a line has 0, the state has. No gang has a section.
 abbrev pub opened_state : Line → State

@@ -3,7 +3,7 @@
 use Rattle.std.specs.Prelude.{◌≡◌, ◌≢◌, true, List, [], ◌∷◌, ℕ, ◌<◌, length}
 use Rattle.common.specs.Part.{replaced}
 use Rattle.line.specs.Route.{next_post, between}
-use Rattle.rules.specs.Types.{Message, Fa, Fe, Afe, Am, Move, Record, Nothing, Done, PostNo, State, Sent}
+use Rattle.rules.specs.Types.{Message, Fa, Fe, Afe, Am, Move, Record, None, Some, PostNo, State, Sent}
 use Rattle.rules.specs.State.{is_asked, is_running, train_of}
 use Rattle.rules.specs.Valid.{consistent}
 use Rattle.rules.specs.Answer.{frames_of, Answer}
@@ -39,14 +39,14 @@ pub record RepeatsAnswered : Type 0 where
   -- "an AM naming the train's last finished move is taken with no output", wherever the train is by now and whatever
   -- its status
   pub arrived : (h : Handed) (m : Move) → Reads of_train h (Am m) → m.train.0 < h.state.trains
-      → (named h (Am m)).last ≡ Done m.from m.to → AnsweredBy h []
+      → (named h (Am m)).last ≡ Some (m.from, m.to) → AnsweredBy h []
   -- "Refusals 10 and 11 go": whatever is handed in
   pub ten_gone : (h : Handed) → RefusedAs 10 h → ⊥
   pub eleven_gone : (h : Handed) → RefusedAs 11 h → ⊥
   -- "in a sound state none at its start, else the one-post move towards its end that reached the present post"
   pub none_at_start : (s : State) (t : ℕ) → consistent s ≡ true → t < s.trains
-      → (train_of s t).at.0 ≡ (train_of s t).route.start.0 → (train_of s t).last ≡ Nothing
+      → (train_of s t).at.0 ≡ (train_of s t).route.start.0 → (train_of s t).last ≡ None
   pub one_past_start : (s : State) (t : ℕ) → consistent s ≡ true → t < s.trains
       → let x = train_of s t in
       x.at.0 ≢ x.route.start.0 → (p q : PostNo)
-      × (x.last ≡ Done p q) × CameBy x.route.start.0 x.route.end.0 x.at.0 p.0 q.0
+      × (x.last ≡ Some (p, q)) × CameBy x.route.start.0 x.route.end.0 x.at.0 p.0 q.0

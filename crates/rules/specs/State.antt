@@ -8,7 +8,7 @@ use Rattle.line.specs.Holding.{Whereabouts, moving, standing, section_holders}
 use Rattle.tracks.specs.Tracks.{has_track, unless_away, track_for}
 use Rattle.frame.specs.Frame.{move_of}
 use Rattle.completion.specs.Configuration.{Configuration}
-use Rattle.rules.specs.Types.{Line, Move, Status, Free, Asked, Running, Last, Nothing, Done, Train, State}
+use Rattle.rules.specs.Types.{Line, Move, Status, Free, Asked, Running, Last, None, Some, Train, State}
 
 -- ---- one train
 
@@ -41,12 +41,12 @@ track_ahead (Running k) = k.0
 
 -- 02, card 6: no move is finished yet; the last finished one is that from post p to q
 abbrev pub is_nothing : Last → Bool
-is_nothing Nothing = true
-is_nothing (Done a b) = false
+is_nothing None = true
+is_nothing (Some m) = false
 
 abbrev pub is_last : Last → ℕ → ℕ → Bool
-is_last Nothing p q = false
-is_last (Done a b) p q = eqb a.0 p && eqb b.0 q
+is_last None p q = false
+is_last (Some m) p q = eqb m.0.0 p && eqb m.1.0 q
 
 abbrev pub at_end : Train → Bool
 at_end x = eqb x.at.0 x.route.end.0
@@ -77,7 +77,7 @@ no_train = record {
   at = record { 0 = 0 };
   track = record { 0 = 0 };
   status = Free;
-  last = Nothing;
+  last = None;
 }
 
 abbrev pub train_of : State → ℕ → Train
@@ -144,7 +144,7 @@ arrived_next sidings x = record {
   at = record { 0 = next_of x };
   track = record { 0 = unless_away sidings x.route.end.0 (next_of x) (track_ahead x.status) };
   status = Free;
-  last = Done x.at (record { 0 = next_of x });
+  last = Some (x.at, record { 0 = next_of x });
 }
 
 -- the state with these records of its trains, these possessions, so many local runs given and so many records logged

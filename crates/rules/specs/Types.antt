@@ -1,4 +1,5 @@
 -- The declared types that the definitions speak of, under one module.
+use Rattle.std.specs.Prelude.{ℕ, Option, Result}
 pub use Rattle.line.specs.declared.sorts.TrainNo.{TrainNo}
 pub use Rattle.line.specs.declared.sorts.PostNo.{PostNo}
 pub use Rattle.line.specs.declared.sorts.TrackNo.{TrackNo}
@@ -11,11 +12,17 @@ pub use Rattle.journal.specs.declared.record.Record.{Record}
 pub use Rattle.journal.specs.declared.batch.Batch.{Batch}
 pub use Rattle.rules.specs.declared.state.Status.{Status}
 pub use Rattle.rules.specs.declared.state.Status.TheVariants.{Free, Asked, Running}
-pub use Rattle.rules.specs.declared.state.Last.{Last}
-pub use Rattle.rules.specs.declared.state.Last.TheVariants.{Nothing, Done}
+pub use Rattle.std.specs.declared.option.Option.TheVariants.{None, Some}
 pub use Rattle.rules.specs.declared.state.Train.{Train}
 pub use Rattle.rules.specs.declared.state.State.{State}
-pub use Rattle.rules.specs.declared.result.Verdict.{Verdict}
-pub use Rattle.rules.specs.declared.result.Verdict.TheVariants.{Sent, Refused as RefusedBy}
+pub use Rattle.std.specs.declared.result.Result.TheVariants.{Ok as Sent, Err as RefusedBy}
 pub use Rattle.rules.specs.declared.result.Reply.{Reply}
 pub use Rattle.rules.specs.declared.result.Opened.{Opened}
+
+-- a train's last finished move, its from and its to post, or none
+abbrev pub Last : Type 0
+Last = Option (PostNo × PostNo)
+
+-- what became of a frame: so many frames sent, or the number of its refusal
+abbrev pub Verdict : Type 0
+Verdict = Result ℕ ℕ

@@ -10,21 +10,15 @@ pub enum Status {
     Running(TrackNo),
 }
 
-// 02, card 6: "The state keeps each train's last finished move, or none": its from and to post.
-#[derive(Clone, Copy)]
-pub enum Last {
-    Nothing,
-    Done(PostNo, PostNo),
-}
-
-// `track` is that at its present post, 0 where the train is stabled.
+// `track` is that at its present post, 0 where the train is stabled. 02, card 6: "The state keeps each
+// train's last finished move, or none": its from and to post.
 #[derive(Clone, Copy)]
 pub struct Train {
     pub route: Route,
     pub at: PostNo,
     pub track: TrackNo,
     pub status: Status,
-    pub last: Last,
+    pub last: Option<(PostNo, PostNo)>,
 }
 
 // `sidings` is the set of posts that have one. `possessions` says of each section whether a gang has

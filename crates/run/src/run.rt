@@ -1,12 +1,10 @@
 // A run of the box: from frame to frame.
-ghost use Rattle.std.specs.Prelude.{◌≡◌, ◌≤◌, take};
-ghost use Rattle.line.specs.Claims.{longest};
+ghost use Rattle.std.specs.Prelude.{◌≡◌};
 ghost use Rattle.console.specs.Run.{fresh_run, count_after, after_frame};
 
 use console::Run;
 use dispatcher::OUT_LENGTH;
 use journal::Log;
-use line::LONGEST_BOOK;
 use rules::{State, Verdict};
 
 // The run before its first frame.
@@ -20,24 +18,17 @@ pub fn begun(state: State, log: Log) -> Run
     }
 }
 
-// The run after one more frame, which is the first `length` bytes.
-pub fn after_frame(run: Run, table: &[u8], bytes: [u8; LONGEST_BOOK], length: usize) -> Run
-    requires { length ≤ longest }
-    ensures { result ≡ after_frame run table.now (take length bytes) }
+// The run after one more frame.
+#[tactic(auto, unfolding(console::specs::Run::after_frame))]
+pub fn after_frame(run: Run, table: &[u8], frame: &[u8]) -> Run
+    ensures { result ≡ after_frame run table.now frame.now }
 {
-    let state = run.state;
-    let log = run.log;
     let mut out = [0u8; OUT_LENGTH];
-    let turn = dispatcher::answer_log(state, table, log, &bytes[..length], &mut out);
-    let reply = turn.reply;
-    let verdict = reply.verdict;
-    let state = reply.state;
-    let log = turn.log;
-    let refused = count_after(run.refused, verdict);
+    let turn = dispatcher::answer_log(run.state, table, run.log, frame, &mut out);
     Run {
-        state,
-        log,
-        refused,
+        state: turn.reply.state,
+        log: turn.log,
+        refused: count_after(run.refused, turn.reply.verdict),
     }
 }
 
@@ -46,11 +37,7 @@ fn count_after(refused: u64, verdict: Verdict) -> u64
     ensures { result ≡ count_after refused verdict }
 {
     match verdict {
-        Verdict::Refused(_) => if refused < u64::MAX {
-            refused + 1
-        } else {
-            refused
-        },
-        Verdict::Sent(_) => refused,
+        Ok(_) => refused,
+        Err(_) => refused.saturating_add(1),
     }
 }

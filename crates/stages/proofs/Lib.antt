@@ -1,3 +1,2 @@
--- The laws of the stages, what each answers, and of the loop over the positions.
-pub mod Stages
+-- The law of the test of positions.
 pub mod Ordered

@@ -19,23 +19,23 @@ number_of (Passed n) = 0
 number_of (Stopped n) = n
 
 -- the editions from `least` on
-unfoldable pub posts_stage : ℕ → List ℕ → Stage
+abbrev pub posts_stage : ℕ → List ℕ → Stage
 posts_stage least b = stage_of (posts_checks least b) (posts_of b)
 
-unfoldable pub tracks_stage : Line → Stage
+abbrev pub tracks_stage : Line → Stage
 tracks_stage l = stage_of (tracks_checks l) l.posts
 
-unfoldable pub sidings_stage : List ℕ → Stage
+abbrev pub sidings_stage : List ℕ → Stage
 sidings_stage b = stage_of (sidings_checks (line_in b)) (sidings_of b)
 
 -- the positions ps of n posts
-unfoldable pub positions_stage : ℕ → List ℕ → Stage
+abbrev pub positions_stage : ℕ → List ℕ → Stage
 positions_stage n ps = stage_of (positions_checks n ps) n
 
-unfoldable pub trains_stage : List ℕ → Stage
+abbrev pub trains_stage : List ℕ → Stage
 trains_stage b = stage_of (trains_checks b) (trains_of b)
 
-unfoldable pub routes_stage : Line → Stage
+abbrev pub routes_stage : Line → Stage
 routes_stage l = stage_of (routes_checks l) l.trains
 
 -- ---- between the posts and the trains of a book

@@ -2,7 +2,7 @@
 -- pair.
 use mathlib.Core.Path.{◌≡◌, refl, sym, ap, ◌∙◌}
 use mathlib.Core.Logic.{◌≢◌, ◌⊎◌, inl, inr}
-use mathlib.Core.Bool.{Bool, true, false, ◌&&◌}
+use mathlib.Core.Bool.{Bool, true, false, ◌&&◌, true≢false}
 use mathlib.Core.List.{List}
 use Prim.Native.Nat.{ℕ, zero, suc, ◌+◌, ◌*◌, ◌/◌, ◌^◌, ◌≤◌, ◌<◌}
 use native.Mathlib.Nat.{div-add-mod, div-le_self, mod-lt, mul-add, mul_comm, zero-div, zero-mod}
@@ -12,7 +12,7 @@ use lib.ListN.{length}
 use borrow.Author.Tests.{ltb-true}
 use Rattle.common.specs.Check.{refusal, unless_refused}
 use Rattle.common.proofs.Tests.{and_left, and_right}
-use Rattle.common.proofs.Check.{passed_by, both_pass, clear, not_given, accepts, refuses, number_told}
+use Rattle.common.proofs.Check.{passed_by, both_pass, clear, not_given, accepts, number_told}
 use Rattle.common.proofs.Word.{high_digit}
 use Rattle.line.specs.Refusal as number
 use Rattle.line.specs.declared.line.Line.{Line}
@@ -24,7 +24,9 @@ use Rattle.line.proofs.InOrder.{no_nearer}
 use Rattle.line.proofs.ReadingLaws.{read_number}
 use Rattle.line.proofs.Positions.{positions}
 use Rattle.line.proofs.Positioned.{in_order}
-use Rattle.timing.specs.Timing.{Time, most_speed, metres, timed, question_checks, time_checks, no_time, running_time}
+use Rattle.std.specs.Result.{is_ok}
+use Rattle.timing.specs.Timing.{Time, Result, Ok, Err, most_speed, metres, timed, question_checks, time_checks}
+use Rattle.timing.specs.Timing.{no_time, running_time, time_refusal}
 use Rattle.timing.specs.Claims.{Divides, Asked, RunningTime}
 use Rattle.timing.proofs.Cases.{metres_read, few_metres, refused_book_lem, from_off, to_off, too_slow}
 use Rattle.timing.proofs.Cases.{too_fast, is_timed}
@@ -37,32 +39,33 @@ one_pair d s u r w h k e =
     let rests : d * u + r ≡ d * u + w = rw same at e in
     (same, omega arith)
 
--- over no metres
-no_metres : (n v : ℕ) → let t = unless_refused n (timed 0 v) no_time in (t.seconds ≡ 0) × (t.rest ≡ 0)
+-- ---- the time of an answer
+
+abbrev time_or : Time → Result Time ℕ → Time
+time_or d (Ok t) = t
+time_or d (Err n) = d
+
+-- what has no time has a number
+some_number : (k : ℕ) (t : Time) (n : ℕ) → unless_refused k (Ok t) no_time ≡ no_time n → 0 < n
 unfolding unless_refused
-no_metres zero v = (zero-div _, zero-mod _)
-no_metres (suc n) v = (refl, refl)
+some_number zero t n e = absurd (true≢false (ap is_ok e))
+some_number (suc k) t n e = let same : suc k ≡ n = ap time_refusal e in omega arith
 
 -- ---- the number of a question
 
 module _ (b : List ℕ) (p q v : ℕ) where
-  pub time_number : (running_time b p q v).refusal ≡ refusal (time_checks b p q v)
+  pub time_number : time_refusal (running_time b p q v) ≡ refusal (time_checks b p q v)
   unfolding running_time
   time_number =
-      number_told (λ (t : Time). t.refusal) (timed (metres b p q) v) no_time
-      refl (λ k. refl) (refusal (time_checks b p q v))
+      number_told time_refusal (Ok (timed (metres b p q) v)) no_time refl (λ k. refl) (refusal (time_checks b p q v))
 
-  no_time_lem : let t = running_time b p q v in t.refusal ≢ 0 → (t.seconds ≡ 0) × (t.rest ≡ 0)
+  no_time_lem : (n : ℕ) → running_time b p q v ≡ no_time n → 0 < n
   unfolding running_time
-  no_time_lem h =
-      let n = refusal (time_checks b p q v) in
-      let other : n ≢ 0 = λ z. h (time_number ∙ z) in
-      let some : 0 < n = omega arith in
-      rw (refuses (timed (metres b p q) v) no_time some) (refl, refl)
+  no_time_lem n e = some_number _ _ n e
 
   -- ---- who is answered
 
-  pub answered : (running_time b p q v).refusal ≡ 0 → Asked b p q v
+  pub answered : time_refusal (running_time b p q v) ≡ 0 → Asked b p q v
   unfolding read_from
   answered e =
       let both = both_pass (book_checks_from last_edition b) (question_checks b p q v) refl (sym time_number ∙ e) in
@@ -78,39 +81,46 @@ module _ (b : List ℕ) (p q v : ℕ) where
       }
 
   module _ (a : Asked b p q v) where
-    time_is : timed (metres b p q) v ≡ running_time b p q v
+    time_is : Ok (timed (metres b p q) v) ≡ running_time b p q v
     time_is = is_timed b p q v a.line a.positions a.read a.from a.to a.slow a.fast
 
-    accepted : (running_time b p q v).refusal ≡ 0
-    accepted = ap (λ (t : Time). t.refusal) (sym time_is)
+    pub accepted : (t : Time) × (running_time b p q v ≡ Ok t)
+    accepted = (timed (metres b p q) v, sym time_is)
 
-    -- ---- what is answered
+  -- ---- what is answered
 
+  module _ (t : Time) (is : running_time b p q v ≡ Ok t) where
     abbrev way : ℕ
     way = 18 * metres b p q
 
-    some : 0 < 5 * v
-    some = omega (arith, a.slow)
+    asked : Asked b p q v
+    asked = answered (ap time_refusal is)
 
-    divides : let t = running_time b p q v in Divides (metres b p q) v t.seconds t.rest
-    divides = rw (← time_is) record {
+    some : 0 < 5 * v
+    some = omega (arith, asked.slow)
+
+    time_same : timed (metres b p q) v ≡ t
+    time_same = ap (time_or t) (time_is asked ∙ is)
+
+    pub divides : Divides (metres b p q) v t.seconds t.rest
+    divides = rw (← time_same) record {
       exact = sym (div-add-mod way (5 * v));
       small = mod-lt way some;
     }
 
-    only : (s r : ℕ) → Divides (metres b p q) v s r
-        → let t = running_time b p q v in (s ≡ t.seconds) × (r ≡ t.rest)
+    only : (s r : ℕ) → Divides (metres b p q) v s r → (s ≡ t.seconds) × (r ≡ t.rest)
     only s r d =
         one_pair (5 * v) s _ r _ d.small divides.small (sym d.exact ∙ divides.exact)
 
     -- 32 bits hold both
-    pub in_32_bits : let t = running_time b p q v in (t.seconds < 2 ^ 32) × (t.rest < 2 ^ 32)
+    pub in_32_bits : (t.seconds < 2 ^ 32) × (t.rest < 2 ^ 32)
     in_32_bits =
+        let a = asked in
         let far = metres_read b a.line a.positions a.read p q in
         let few = few_metres b a.line a.positions a.read p q a.from a.to in
         let seconds : way / (5 * v) ≤ way = div-le_self way (5 * v) in
         let rest = mod-lt way some in
-        rw (← time_is) (omega arith, omega (arith, a.fast))
+        rw (← time_same) (omega arith, omega (arith, a.fast))
 
   -- ---- who is refused
 
@@ -122,7 +132,7 @@ module _ (b : List ℕ) (p q v : ℕ) where
   other_edition_lem long right e =
       book_first number.other_edition (positions.asked_for_lem b long right e) (λ z. omega arith)
 
-  not_met : (n : ℕ) → ltb 0 n ≡ true → clear n (time_checks b p q v) ≡ true → (running_time b p q v).refusal ≢ n
+  not_met : (n : ℕ) → ltb 0 n ≡ true → clear n (time_checks b p q v) ≡ true → time_refusal (running_time b p q v) ≢ n
   not_met n h k = rw time_number (not_given n (time_checks b p q v) (ltb-true 0 n h) k)
 
   module _ (l : Line) (ps : List ℕ) (is_read : read_positioned b ≡ accepted_book l ps) where
@@ -153,21 +163,20 @@ asked_between a x y from to = record {
   fast = a.fast;
 }
 
-adds_up : (b : List ℕ) (p q r v : ℕ) → p ≤ q → q ≤ r → Asked b p r v
-    → let s = running_time b p q v in
-    let t = running_time b q r v in
-    let u = running_time b p r v in
-    5 * v * (s.seconds + t.seconds) + (s.rest + t.rest) ≡ 5 * v * u.seconds + u.rest
-adds_up b p q r v h k a =
+adds_up : (b : List ℕ) (p q r v : ℕ) (s t u : Time) → p ≤ q → q ≤ r
+    → running_time b p q v ≡ Ok s → running_time b q r v ≡ Ok t → running_time b p r v ≡ Ok u
+    → 5 * v * (s.seconds + t.seconds) + (s.rest + t.rest) ≡ 5 * v * u.seconds + u.rest
+adds_up b p q r v s t u h k is-s is-t is-u =
+    let a = asked b p r v u is-u in
     let near = no_nearer a.line.posts a.positions (in_order b a.line a.positions a.read) in
     let first = asked_between a p q a.from (omega (arith, a.to)) in
     let second = asked_between a q r (omega (arith, a.to)) a.to in
     let one = apart b p q v first (near p q h (omega (arith, a.to))) in
     let other = apart b q r v second (near q r k a.to) in
     let whole = apart b p r v a (near p r (omega arith) a.to) in
-    let s = (divides b p q v first).exact in
-    let t = (divides b q r v second).exact in
-    let u = (divides b p r v a).exact in
+    let s-exact = (divides b p q v s is-s).exact in
+    let t-exact = (divides b q r v t is-t).exact in
+    let u-exact = (divides b p r v u is-u).exact in
     rw mul-add (omega arith)
 
 -- ---- the posts exchanged, and the same post twice
@@ -184,11 +193,10 @@ either_way b p q v =
     let far : metres b p q ≡ metres b q p = omega arith in
     rw (far, both_ways (ltb p (posts_of b)) (ltb q (posts_of b)))
 
-same_post : (b : List ℕ) (p v : ℕ) → let t = running_time b p p v in (t.seconds ≡ 0) × (t.rest ≡ 0)
-unfolding running_time
-same_post b p v =
+same_post : (b : List ℕ) (p v : ℕ) (t : Time) → running_time b p p v ≡ Ok t → (t.seconds ≡ 0) × (t.rest ≡ 0)
+same_post b p v t is =
     let none : metres b p p ≡ 0 = omega arith in
-    rw none (no_metres (refusal (time_checks b p p v)) v)
+    rw (← time_same b p p v t is, none) (zero-div _, zero-mod _)
 
 pub running_time_lem : RunningTime
 running_time_lem = record {

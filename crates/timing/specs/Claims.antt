@@ -4,7 +4,7 @@ use Rattle.line.specs.Refusal as number
 use Rattle.line.specs.declared.line.Line.{Line}
 use Rattle.line.specs.Positions.{metres_at}
 use Rattle.line.specs.Book.{named_length, edition_of, accepted_book, read_positioned, outcome_number}
-use Rattle.timing.specs.Timing.{metres, no_time, running_time}
+use Rattle.timing.specs.Timing.{Time, Ok, metres, no_time, running_time, time_refusal}
 
 -- "18 × L = 5 × v × q + r and r is below 5 × v", of m metres, s seconds and the rest r
 pub record Divides (m v s r : ℕ) : Type 0 where
@@ -24,27 +24,25 @@ pub record Asked (b : List ℕ) (p q v : ℕ) : Type 0 where
 pub record RunningTime : Type 0 where
   -- who is answered, and what: by the metres between the positions that were read, and no other pair of seconds and
   -- rest would do
-  pub answered : (b : List ℕ) (p q v : ℕ) → (running_time b p q v).refusal ≡ 0 → Asked b p q v
-  pub accepted : (b : List ℕ) (p q v : ℕ) → Asked b p q v → (running_time b p q v).refusal ≡ 0
+  pub answered : (b : List ℕ) (p q v : ℕ) → time_refusal (running_time b p q v) ≡ 0 → Asked b p q v
+  pub accepted : (b : List ℕ) (p q v : ℕ) → Asked b p q v → (t : Time) × (running_time b p q v ≡ Ok t)
   pub apart : (b : List ℕ) (p q v : ℕ) (a : Asked b p q v)
       → metres_at a.positions p ≤ metres_at a.positions q
       → metres_at a.positions p + metres b p q ≡ metres_at a.positions q
-  pub divides : (b : List ℕ) (p q v : ℕ) → Asked b p q v
-      → let t = running_time b p q v in Divides (metres b p q) v t.seconds t.rest
-  pub only : (b : List ℕ) (p q v : ℕ) → Asked b p q v → (s r : ℕ) → Divides (metres b p q) v s r
-      → let t = running_time b p q v in (s ≡ t.seconds) × (r ≡ t.rest)
+  pub divides : (b : List ℕ) (p q v : ℕ) (t : Time) → running_time b p q v ≡ Ok t
+      → Divides (metres b p q) v t.seconds t.rest
+  pub only : (b : List ℕ) (p q v : ℕ) (t : Time) → running_time b p q v ≡ Ok t
+      → (s r : ℕ) → Divides (metres b p q) v s r
+      → (s ≡ t.seconds) × (r ≡ t.rest)
   -- it does not matter which post is named first, and from a post to itself it takes no time
   pub either_way : (b : List ℕ) (p q v : ℕ) → running_time b p q v ≡ running_time b q p v
-  pub same_post : (b : List ℕ) (p v : ℕ) → let t = running_time b p p v in (t.seconds ≡ 0) × (t.rest ≡ 0)
+  pub same_post : (b : List ℕ) (p v : ℕ) (t : Time) → running_time b p p v ≡ Ok t → (t.seconds ≡ 0) × (t.rest ≡ 0)
   -- with the rests no second is lost: those of two ways, one after the other, and of both together
-  pub adds_up : (b : List ℕ) (p q r v : ℕ) → p ≤ q → q ≤ r → Asked b p r v
-      → let s = running_time b p q v in
-      let t = running_time b q r v in
-      let u = running_time b p r v in
+  pub adds_up : (b : List ℕ) (p q r v : ℕ) (s t u : Time) → p ≤ q → q ≤ r
+      → running_time b p q v ≡ Ok s → running_time b q r v ≡ Ok t → running_time b p r v ≡ Ok u →
       5 * v * (s.seconds + t.seconds) + (s.rest + t.rest) ≡ 5 * v * u.seconds + u.rest
-  -- a question that is refused has no time
-  pub no_time_lem : (b : List ℕ) (p q v : ℕ) → let t = running_time b p q v in
-      t.refusal ≢ 0 → (t.seconds ≡ 0) × (t.rest ≡ 0)
+  -- a question that has no time is refused by a number
+  pub no_time_lem : (b : List ℕ) (p q v n : ℕ) → running_time b p q v ≡ no_time n → 0 < n
   -- "The book is read first": what it is refused by, the question is
   pub book_first : (b : List ℕ) (p q v n : ℕ) → outcome_number (read_positioned b).outcome ≡ n → n ≢ 0
       → running_time b p q v ≡ no_time n
@@ -57,6 +55,6 @@ pub record RunningTime : Type 0 where
   pub then_speed : (b : List ℕ) (p q v : ℕ) (l : Line) (ps : List ℕ) → read_positioned b ≡ accepted_book l ps
       → p < l.posts → q < l.posts → (v < 1) ⊎ (160 < v) → running_time b p q v ≡ no_time number.speed
   -- no store is lent and no train placed: whether the trains of the book could start or get through is not asked
-  pub not_2 : (b : List ℕ) (p q v : ℕ) → (running_time b p q v).refusal ≢ number.short_store
-  pub not_19 : (b : List ℕ) (p q v : ℕ) → (running_time b p q v).refusal ≢ number.overfull
-  pub not_20 : (b : List ℕ) (p q v : ℕ) → (running_time b p q v).refusal ≢ number.no_way_through
+  pub not_2 : (b : List ℕ) (p q v : ℕ) → time_refusal (running_time b p q v) ≢ number.short_store
+  pub not_19 : (b : List ℕ) (p q v : ℕ) → time_refusal (running_time b p q v) ≢ number.overfull
+  pub not_20 : (b : List ℕ) (p q v : ℕ) → time_refusal (running_time b p q v) ≢ number.no_way_through

@@ -8,6 +8,8 @@ use Rattle.line.specs.Route.{distance}
 use Rattle.line.specs.Positions.{metres_at}
 use Rattle.line.specs.Book.{last_edition, posts_of, positions_of, book_checks_from}
 pub use Rattle.timing.specs.declared.timing.Time.{Time}
+pub use Rattle.std.specs.declared.result.Result.{Result}
+pub use Rattle.std.specs.declared.result.Result.TheVariants.{Ok, Err}
 
 -- how far two posts of a book are apart, whichever is named first
 abbrev pub metres : List ℕ → ℕ → ℕ → ℕ
@@ -15,7 +17,7 @@ metres b p q = distance (metres_at (positions_of b) p) (metres_at (positions_of 
 
 -- so many metres at v km/h: a second is 5 v eighteenths of a metre
 abbrev pub timed : ℕ → ℕ → Time
-timed m v = record { refusal = 0; seconds = 18 * m / (5 * v); rest = 18 * m % (5 * v) }
+timed m v = record { seconds = 18 * m / (5 * v); rest = 18 * m % (5 * v) }
 
 -- ---- when a question is refused
 
@@ -35,8 +37,14 @@ time_checks b p q v = book_checks_from last_edition b ++ question_checks b p q v
 
 -- ---- the answer
 
-abbrev pub no_time : ℕ → Time
-no_time n = record { refusal = n; seconds = 0; rest = 0 }
+-- a question that is refused has its number, and no time
+abbrev pub no_time : ℕ → Result Time ℕ
+no_time n = Err n
 
-unfoldable pub running_time : List ℕ → ℕ → ℕ → ℕ → Time
-running_time b p q v = unless_refused (refusal (time_checks b p q v)) (timed (metres b p q) v) no_time
+unfoldable pub running_time : List ℕ → ℕ → ℕ → ℕ → Result Time ℕ
+running_time b p q v = unless_refused (refusal (time_checks b p q v)) (Ok (timed (metres b p q) v)) no_time
+
+-- the number that a question is refused by; 0 of one that is answered
+abbrev pub time_refusal : Result Time ℕ → ℕ
+time_refusal (Ok t) = 0
+time_refusal (Err n) = n

@@ -3,4 +3,4 @@
 
 mod free;
 
-pub use free::{FreeTrack, free_track, with_track};
+pub use free::{free_track, with_track};

@@ -7,4 +7,4 @@ mod making;
 mod state;
 
 pub use making::make;
-pub use state::{awaiting, in_phase, last_move, own_move, phase_number, same, valid};
+pub use state::{awaiting, in_phase, last_move, own_move, valid};

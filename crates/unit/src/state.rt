@@ -1,8 +1,7 @@
 // Whether a state that is handed in is valid (01: sound), the unit's own move and its last one, and
 // its phases.
 ghost use Rattle.std.specs.Prelude.{◌≡◌};
-ghost use Rattle.driver.specs.State.{numbers_fit, phase_no, same_phase, awaiting, own_move, last_move};
-ghost use Rattle.driver.specs.State.{in_phase, valid_unit};
+ghost use Rattle.driver.specs.State.{numbers_fit, awaiting, own_move, last_move, in_phase, valid_unit};
 
 use driver::{Phase, Unit};
 use frame::Move;
@@ -10,79 +9,38 @@ use line::{PostNo, TrainNo};
 
 // 01: "A unit state is sound if train and posts are in range, the present post lies between start
 // and end, and only Standing may be at the end."
+#[tactic(auto, unfolding(driver::specs::State::valid_unit, driver::specs::State::same_phase))]
 pub fn valid(unit: Unit) -> bool
     ensures { result ≡ valid_unit unit }
 {
-    let route = unit.route;
-    let phase = unit.phase;
-    if !numbers_fit(unit.train, route.start, route.end) {
-        return false;
-    }
-    if !line::between(route.start, unit.at, route.end) {
-        return false;
-    }
-    if unit.at.0 != route.end.0 {
-        return true;
-    }
-    same(phase, Phase::Standing)
+    numbers_fit(unit.train, unit.route.start, unit.route.end)
+        && line::between(unit.route.start, unit.at, unit.route.end)
+        && (unit.at != unit.route.end || unit.phase == Phase::Standing)
 }
 
 // Trains 0 to 5, posts 0 to 7.
+#[tactic(auto, unfolding(driver::specs::State::numbers_fit))]
 pub(crate) fn numbers_fit(train: TrainNo, start: PostNo, end: PostNo) -> bool
     ensures { result ≡ numbers_fit train.0 start.0 end.0 }
 {
-    if train.0 > 5 {
-        return false;
-    }
-    start.0 <= 7 && end.0 <= 7
-}
-
-// Whether the two are one phase.
-pub fn same(a: Phase, b: Phase) -> bool
-    ensures { result ≡ same_phase a b }
-{
-    phase_number(a) == phase_number(b)
-}
-
-// Phases in their order, from 0.
-pub fn phase_number(phase: Phase) -> u8
-    ensures { result ≡ phase_no phase }
-{
-    match phase {
-        Phase::Standing => 0,
-        Phase::Asked => 1,
-        Phase::Declined => 2,
-        Phase::Granted => 3,
-        Phase::UnderWay => 4,
-        Phase::Arrived => 5,
-    }
+    train.0 <= 5 && start.0 <= 7 && end.0 <= 7
 }
 
 // Whether the unit has asked and has no authority yet.
 pub fn awaiting(phase: Phase) -> bool
     ensures { result ≡ awaiting phase }
 {
-    match phase {
-        Phase::Standing => false,
-        Phase::Asked => true,
-        Phase::Declined => true,
-        Phase::Granted => false,
-        Phase::UnderWay => false,
-        Phase::Arrived => false,
-    }
+    matches!(phase, Phase::Asked | Phase::Declined)
 }
 
 // The move of the unit's train from its present to its next post.
 pub fn own_move(unit: Unit) -> Move
     ensures { result ≡ own_move unit }
 {
-    let train = unit.train;
-    let route = unit.route;
-    let from = unit.at;
     Move {
-        train: train,
-        from: from,
-        to: line::next_post(from, route.end),
+        train: unit.train,
+        from: unit.at,
+        to: line::next_post(unit.at, unit.route.end),
     }
 }
 
@@ -91,26 +49,15 @@ pub fn own_move(unit: Unit) -> Move
 pub fn last_move(unit: Unit) -> Move
     ensures { result ≡ last_move unit }
 {
-    let train = unit.train;
-    let route = unit.route;
-    let to = unit.at;
     Move {
-        train: train,
-        from: line::next_post(to, route.start),
-        to: to,
+        train: unit.train,
+        from: line::next_post(unit.at, unit.route.start),
+        to: unit.at,
     }
 }
 
 pub fn in_phase(unit: Unit, phase: Phase) -> Unit
     ensures { result ≡ in_phase unit phase }
 {
-    let train = unit.train;
-    let route = unit.route;
-    let at = unit.at;
-    Unit {
-        train: train,
-        route: route,
-        at: at,
-        phase: phase,
-    }
+    Unit { phase, ..unit }
 }

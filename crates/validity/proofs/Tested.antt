@@ -3,12 +3,12 @@
 use mathlib.Core.Path.{◌≡◌, refl, sym, ap, ◌∙◌}
 use mathlib.Core.Logic.{◌≢◌, ⊎_elim}
 use mathlib.Core.Bool.{Bool, true, false, not, ◌&&◌, ◌||◌, and-false, and-true}
-use Prim.Native.Nat.{ℕ, ◌+◌, ◌/◌, ◌%◌, ◌^◌, ◌≤◌, ◌<◌}
+use Prim.Native.Nat.{ℕ, ◌+◌, ◌≤◌, ◌<◌}
 use native.Mathlib.Omega.{arith}
 use lib.Count.{ones}
-use lib.Dec.{leb, ltb, eqb}
+use lib.Dec.{leb, ltb}
 use lib.ListN.{get_or}
-use borrow.Author.Tests.{ltb-true, eqb-false, not-true, lt-ltb, le-ltb, le-leb, lt-leb, eq-eqb, ne_eqb}
+use borrow.Author.Tests.{ltb-true, eqb-false, not-true}
 use Rattle.common.specs.Below.{of_bool, all_below}
 use Rattle.common.proofs.Tests.{same_test, and_left, and_right, and_both}
 use Rattle.common.proofs.Below.{all_below_lem, below_all, all_cong}
@@ -17,7 +17,7 @@ use Rattle.line.specs.Line.{in_range, posts_in_range, tracks_in_range, sidings_o
 use Rattle.line.specs.Line.{routes_on_line, well_formed}
 use Rattle.line.specs.Holding.{holds_post, post_holders}
 use Rattle.line.proofs.Travel.{between_of}
-use Rattle.line.proofs.WellFormed.{high, ranged, below_range, above_range}
+use Rattle.line.proofs.WellFormed.{high}
 use Rattle.validity.specs.Types.{Status, Train, State, Holders}
 use Rattle.holding.specs.Holders.{Placed, Held}
 use Rattle.validity.specs.Tests.{counts_valid, on_line, record_valid, records_valid}
@@ -27,9 +27,9 @@ use Rattle.rules.proofs.Trains.{running_busy, route_of_lem}
 use Rattle.holding.proofs.Located.{placed_at}
 use Rattle.holding.proofs.HolderSets.{posts_counted, section_counted}
 use Rattle.validity.proofs.OwnTracks.{own_tracks_lem}
-use Rattle.rules.specs.Valid.{last_valid, train_valid, sections_valid, posts_valid, track_valid, tracks_valid}
+use Rattle.rules.specs.Valid.{train_valid, sections_valid, posts_valid, track_valid, tracks_valid}
 use Rattle.rules.specs.Valid.{away_valid}
-use Rattle.rules.specs.Valid.{number_below, same_number, number_valid, most_given, consistent, most_counted, valid}
+use Rattle.rules.specs.Valid.{number_below, same_number, number_valid, most_given, consistent}
 
 -- ---- one train's record
 
@@ -37,18 +37,8 @@ module _ (x : Train) where
   abbrev on_route : Bool
   on_route = between x.route.start.0 x.at.0 x.route.end.0
 
-  pub off_route : on_route ≡ false → false ≡ train_valid x
-  off_route e = rw e
-
   abbrev fits : Bool
   fits = is_free x.status || not (at_end x)
-
-  module _ (e : on_route ≡ true) where
-    pub status_amiss : fits ≡ false → false ≡ train_valid x
-    status_amiss f = rw (e, f)
-
-    pub last_decides : fits ≡ true → (b : Bool) → b ≡ last_valid x → b ≡ train_valid x
-    last_decides f b g = g ∙ rw (e, f)
 
   -- one that is not Free is short of its end
   short_of_end : train_valid x ≡ true → is_free x.status ≡ false → x.at.0 ≢ x.route.end.0
@@ -91,33 +81,6 @@ module _ (s : State) (h : Holders) (held : Held s h) (p : ℕ) (small : p < 8)
       rw (sym within_same ∙ e) (sym (f ∙ rw (posts_counted s h held p small, held.tracks p small)
       (own_tracks_lem (λ t. holds_post (located s t) p) (λ t. track_at (train_of s t) p) s.trains tracks
       (few_tracks e))))
-
-module _ (tracks h i : ℕ) where
-  pub no_tracks : tracks < 1 → false ≡ held_within tracks h i
-  no_tracks l = rw (below_range 1 4 tracks l)
-
-  pub many_tracks : 4 < tracks → false ≡ held_within tracks h i
-  many_tracks l = rw (above_range 1 4 tracks l)
-
-  module _ (some : 1 ≤ tracks) (few : tracks ≤ 4) where
-    pub too_many : tracks < h → false ≡ held_within tracks h i
-    too_many l = rw (ranged 1 4 tracks some few, lt-leb h tracks l)
-
-    pub few_enough : h ≤ tracks → leb i 1 ≡ held_within tracks h i
-    few_enough l = rw (ranged 1 4 tracks some few, le-leb h tracks l)
-
--- as many tracks as holders, each of its own
-
-module _ (tracks h set : ℕ) where
-  pub track_0 : set % 2 ≢ 0 → false ≡ own_tracks tracks h set
-  track_0 e = rw (ne_eqb (set % 2) 0 e)
-
-  module _ (some : set % 2 ≡ 0) where
-    pub past_tracks : 2 ≤ set / 2 ^ tracks → false ≡ own_tracks tracks h set
-    past_tracks l = rw (eq-eqb (set % 2) 0 some, le-ltb (set / 2 ^ tracks) 2 l)
-
-    pub tracks_decide : set / 2 ^ tracks < 2 → eqb (ones set) h ≡ own_tracks tracks h set
-    tracks_decide l = rw (eq-eqb (set % 2) 0 some, lt-ltb (set / 2 ^ tracks) 2 l)
 
 -- ---- the state: the definition's tests are these
 
@@ -224,13 +187,3 @@ module _ (s : State) where
       module _ (g : places ≡ true) where
         pub numbers_decide : numbers ≡ consistent s
         numbers_decide = sym (grouped ∙ rw (e, f, g))
-
-  -- the count beside them
-
-  pub count_fails : most_counted < s.logged → false ≡ valid s
-  unfolding valid
-  count_fails h = sym (rw (lt-leb s.logged most_counted h) (and-false (consistent s)))
-
-  pub count_passes : s.logged ≤ most_counted → (b : Bool) → b ≡ consistent s → b ≡ valid s
-  unfolding valid
-  count_passes h b e = e ∙ sym (rw (le-leb s.logged most_counted h) (and-true (consistent s)))

@@ -10,9 +10,9 @@ ghost use Rattle.holding.specs.Holders.{Placed};
 ghost use Rattle.validity.specs.Tests.{counts_valid, on_line, record_valid, records_valid};
 ghost use Rattle.validity.specs.Tests.{held_within, own_tracks, place_valid};
 
-use fleet::{at_end, is_free, is_last, is_nothing, possessed_of, status_of, train_of};
+use fleet::{at_end, is_free, is_last, possessed_of, status_of};
 use holding::{holders_in, holders_of};
-use line::{Route, SectionNo, TrainNo};
+use line::{Route, SectionNo, TrackNo, TrainNo};
 use rules::{State, Status, Train};
 
 // 02, card 4: LA is answered by LE only if "fewer than 20 local runs were given since opening".
@@ -21,75 +21,46 @@ pub const MOST_GIVEN: u8 = 20;
 // 02, card 7: "A state whose journal count is above 229 becomes strange, refusal 1."
 const MOST_COUNTED: u8 = 229;
 
+#[tactic(auto, unfolding(rules::specs::Valid::valid))]
 pub fn valid(state: State) -> bool
     ensures { result ≡ valid state }
 {
-    if MOST_COUNTED < state.logged {
-        return false;
-    }
-    consistent(state)
+    consistent(state) && state.logged <= MOST_COUNTED
 }
 
 // All but the range of the count.
 fn consistent(state: State) -> bool
     ensures { result ≡ consistent state }
 {
-    if !counts_valid(state.posts, state.sidings, state.trains, state.given) {
-        return false;
-    }
-    if !trains_valid(state) {
-        return false;
-    }
-    if !places_valid(state) {
-        return false;
-    }
-    numbers_valid(state)
+    counts_valid(state.posts, state.sidings, state.trains, state.given)
+        && trains_valid(state)
+        && places_valid(state)
+        && numbers_valid(state)
 }
 
 // There are 2 to 8 posts, sidings at some of them, at most twenty local runs, and 1 to 6 trains.
 fn counts_valid(posts: u8, sidings: u8, trains: u8, given: u8) -> bool
     ensures { result ≡ counts_valid posts sidings trains given }
 {
-    if posts < 2 {
-        return false;
-    }
-    if 8 < posts {
-        return false;
-    }
-    if !line::names_posts(posts, sidings) {
-        return false;
-    }
-    if MOST_GIVEN < given {
-        return false;
-    }
-    1 <= trains && trains <= 6
+    matches!(posts, 2..=8)
+        && line::names_posts(posts, sidings)
+        && given <= MOST_GIVEN
+        && matches!(trains, 1..=6)
 }
 
 fn trains_valid(state: State) -> bool
     requires { state.trains ≤ 6 }
     ensures { result ≡ records_valid state }
 {
-    let mut t: u8 = 0;
-    while t < state.trains {
-        if !record_valid(state.posts, state.sidings, train_of(state, TrainNo(t))) {
-            return false;
-        }
-        t += 1;
-    }
-    true
+    state.fleet[..state.trains as usize]
+        .iter()
+        .all(|train| record_valid(state.posts, state.sidings, *train))
 }
 
 fn record_valid(posts: u8, sidings: u8, train: Train) -> bool
     ensures { result ≡ record_valid posts sidings train }
 {
-    let route = train.route;
-    if !on_line(posts, route) {
-        return false;
-    }
-    if !train_valid(train) {
-        return false;
-    }
-    away_valid(sidings, train)
+    on_line(posts, train.route) && train_valid(train) && away_valid(sidings, train)
 }
 
 // The route starts and ends on a line of so many posts.
@@ -103,25 +74,16 @@ fn on_line(posts: u8, route: Route) -> bool
 fn train_valid(train: Train) -> bool
     ensures { result ≡ train_valid train }
 {
-    let route = train.route;
-    if !line::between(route.start, train.at, route.end) {
-        return false;
-    }
-    if !status_valid(train) {
-        return false;
-    }
-    last_valid(train)
+    line::between(train.route.start, train.at, train.route.end)
+        && status_valid(train)
+        && last_valid(train)
 }
 
 // Only a train short of its end is Asked or Running.
 fn status_valid(train: Train) -> bool
     ensures { result ≡ is_free train.status || not (at_end train) }
 {
-    let status = train.status;
-    if is_free(status) {
-        return true;
-    }
-    !at_end(train)
+    is_free(train.status) || !at_end(train)
 }
 
 // 02, card 6: "none at its start, else the one-post move towards its end that reached the present
@@ -129,22 +91,18 @@ fn status_valid(train: Train) -> bool
 fn last_valid(train: Train) -> bool
     ensures { result ≡ last_valid train }
 {
-    let route = train.route;
-    let last = train.last;
-    if train.at.0 == route.start.0 {
-        return is_nothing(last);
+    if train.at == train.route.start {
+        return train.last.is_none();
     }
-    is_last(last, line::next_post(train.at, route.start), train.at)
+    let before = line::next_post(train.at, train.route.start);
+    is_last(train.last, before, train.at)
 }
 
 // 02, card 2: "one put away in a siding has none".
 fn away_valid(sidings: u8, train: Train) -> bool
     ensures { result ≡ away_valid sidings train }
 {
-    if !line::stabled(sidings, train.route.end, train.at) {
-        return true;
-    }
-    train.track.0 == 0
+    !line::stabled(sidings, train.route.end, train.at) || train.track == TrackNo(0)
 }
 
 // Each post has 1 to 4 tracks and no more holders, each of them a track of its own; and each section
@@ -154,18 +112,15 @@ fn places_valid(state: State) -> bool
     ensures { result ≡ all_below state.posts (place_valid state) }
 {
     let holders = holders_of(state);
-    let tracks = state.tracks;
-    let possessions = state.possessions;
-    let mut p: usize = 0;
-    while p < state.posts as usize {
-        let gang = possessed_of(possessions, state.posts, SectionNo(p as u8));
-        if !held_within(tracks[p], holders.posts[p], holders.sections[p], gang) {
+    for p in 0..state.posts as usize {
+        let tracks = state.tracks[p];
+        let gang = possessed_of(state.possessions, state.posts, SectionNo(p as u8));
+        if !held_within(tracks, holders.posts[p], holders.sections[p], gang) {
             return false;
         }
-        if !own_tracks(tracks[p], holders.posts[p], holders.tracks[p]) {
+        if !own_tracks(tracks, holders.posts[p], holders.tracks[p]) {
             return false;
         }
-        p += 1;
     }
     true
 }
@@ -175,16 +130,7 @@ fn places_valid(state: State) -> bool
 fn held_within(tracks: u8, post: u8, section: u8, gang: bool) -> bool
     ensures { result ≡ held_within tracks (ones post) (ones section + of_bool gang) }
 {
-    if tracks < 1 {
-        return false;
-    }
-    if 4 < tracks {
-        return false;
-    }
-    if (tracks as u32) < u32::count_ones(post as u32) {
-        return false;
-    }
-    holders_in(section, gang) <= 1
+    matches!(tracks, 1..=4) && post.count_ones() <= tracks as u32 && holders_in(section, gang) <= 1
 }
 
 // 02, card 2: "the tracks held at a post differ and are in its count": the set of those held at one
@@ -193,13 +139,7 @@ fn own_tracks(tracks: u8, post: u8, held: u8) -> bool
     requires { tracks < 8 }
     ensures { result ≡ own_tracks tracks (ones post) held }
 {
-    if held % 2 != 0 {
-        return false;
-    }
-    if 2 <= held >> tracks {
-        return false;
-    }
-    u32::count_ones(held as u32) == u32::count_ones(post as u32)
+    held % 2 == 0 && held >> tracks < 2 && held.count_ones() == post.count_ones()
 }
 
 // The numbers of the Asked trains' requests are below the count, and no two are the same.
@@ -207,12 +147,10 @@ fn numbers_valid(state: State) -> bool
     requires { state.trains ≤ 6 }
     ensures { result ≡ all_below state.trains (number_valid state) }
 {
-    let mut t: u8 = 0;
-    while t < state.trains {
+    for t in 0..state.trains {
         if !number_valid(state, TrainNo(t)) {
             return false;
         }
-        t += 1;
     }
     true
 }
@@ -223,46 +161,27 @@ fn number_valid(state: State, t: TrainNo) -> bool
     ensures { result ≡ number_valid state t.0 }
 {
     let status = status_of(state, t);
-    if !number_below(status, state.logged) {
-        return false;
-    }
-    let mut u: u8 = 0;
-    while u < t.0 {
-        if same_number(status, status_of(state, TrainNo(u))) {
-            return false;
-        }
-        u += 1;
-    }
-    true
+    let earlier = &state.fleet[..t.0 as usize];
+    number_below(status, state.logged)
+        && earlier
+            .iter()
+            .all(|train| !same_number(status, train.status))
 }
 
 fn number_below(status: Status, count: u8) -> bool
     ensures { result ≡ number_below status count }
 {
     match status {
-        Status::Free => true,
         Status::Asked(n) => n < count,
-        Status::Running(_) => true,
+        _ => true,
     }
 }
 
 fn same_number(a: Status, b: Status) -> bool
     ensures { result ≡ same_number a b }
 {
-    match a {
-        Status::Free => false,
-        Status::Asked(m) => has_number(b, m),
-        Status::Running(_) => false,
-    }
-}
-
-// Whether it is the status of a train whose request has the number `m`.
-fn has_number(status: Status, m: u8) -> bool
-    ensures { result ≡ same_number (Status.Asked m) status }
-{
-    match status {
-        Status::Free => false,
-        Status::Asked(n) => m == n,
-        Status::Running(_) => false,
+    match (a, b) {
+        (Status::Asked(m), Status::Asked(n)) => m == n,
+        _ => false,
     }
 }

@@ -3,7 +3,7 @@ use mathlib.Core.Path.{◌≡◌, ap, ◌∙◌}
 use mathlib.Core.Bool.{true}
 use Prim.Native.Nat.{◌+◌}
 use Rattle.journal.specs.Journal.{empty_batch, record_of}
-use Rattle.accepting.specs.Types.{La, Batch, State}
+use Rattle.accepting.specs.Types.{La, State, Progress}
 use Rattle.rules.specs.State.{with_possession}
 use Rattle.authority.specs.Progress.{progress_with}
 use Rattle.accepting.proofs.Lending.{possession_named, lent_told}
@@ -18,9 +18,8 @@ returns c =
     c.with_possession-lent.ensures in
     let asked : c.logged-asked.result ≡ progress_with after empty_batch (record_of (La c.args.m)) =
     c.logged-asked.ensures
-    ∙ ap (progress_with after c.empty.result) c.record_of.ensures
-    ∙ ap (λ (b : Batch). progress_with after b (record_of (La c.args.m)))
-    c.empty.ensures in
+    ∙ ap (progress_with c.new.result.state c.new.result.batch) c.record_of.ensures
+    ∙ ap (λ (p : Progress). progress_with p.state p.batch (record_of (La c.args.m))) c.new.ensures in
     λ table.
     c.logged.ensures
     ∙ ap (progress_with c.logged-asked.result.state c.logged-asked.result.batch) c.record_of-2.ensures

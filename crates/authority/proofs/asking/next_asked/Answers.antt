@@ -2,11 +2,8 @@
 use mathlib.Core.Path.{refl}
 use native.Mathlib.Numerals.{add-one}
 use native.Mathlib.Omega.{arith}
-use Rattle.authority.proofs.Askers.{next_none, next_more}
+use Rattle.authority.proofs.Askers.{next_more}
 use Rattle.authority.proofs.asking.next_asked.Goals as goal
-
-pub loop-t-init : goal.loop-t-init
-loop-t-init c = (omega arith, next_none _ _)
 
 pub loop-t-preserved : goal.loop-t-preserved
 loop-t-preserved c = (

@@ -2,27 +2,9 @@
 use mathlib.Core.Path.{◌≡◌}
 use Prim.Native.Nat.{◌≤◌, ◌<◌}
 use native.Mathlib.Omega.{arith}
-use Rattle.authority.proofs.GrantTest.{few_trains, short_way, few_reached, Stored}
+use Rattle.authority.proofs.GrantTest.{few_trains, few_reached, Stored}
 use Rattle.authority.proofs.GrantTest.{stored_moved}
 use Rattle.authority.proofs.grantable.reached_with.Goals as goal
-
-pub bounds-fleet-u : goal.bounds-fleet-u
-bounds-fleet-u c =
-    let few : c.args.state.trains ≤ 6 = few_trains _ c.requires.0 in
-    omega (arith, few)
-
-pub reached-requires : goal.reached-requires
-reached-requires c = short_way _ c.requires.0 _ (omega arith)
-
-pub bounds-travelled-u : goal.bounds-travelled-u
-bounds-travelled-u c =
-    let few : c.args.state.trains ≤ 6 = few_trains _ c.requires.0 in
-    omega (arith, few)
-
-pub bounds-travelled-i : goal.bounds-travelled-i
-bounds-travelled-i c =
-    let few : c.args.state.trains ≤ 6 = few_trains _ c.requires.0 in
-    omega (arith, few, c.requires.1)
 
 pub overflow_add-travelled : goal.overflow_add-travelled
 overflow_add-travelled c =
@@ -30,11 +12,6 @@ overflow_add-travelled c =
     let all : c.loop-u.u ≡ c.args.state.trains = omega arith in
     let stored : Stored c.args.state c.args.state.trains c.loop-u.travelled = rw all at c.loop-u.invariant.1 in
     omega (arith, stored.each asker c.requires.1, few_reached c.args.state c.requires.0 asker c.requires.1)
-
-pub bounds-travelled-i-2 : goal.bounds-travelled-i-2
-bounds-travelled-i-2 c =
-    let few : c.args.state.trains ≤ 6 = few_trains _ c.requires.0 in
-    omega (arith, few, c.requires.1)
 
 pub returns : goal.returns
 returns c =

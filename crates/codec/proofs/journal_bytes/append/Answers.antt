@@ -5,7 +5,7 @@ use borrow.Author.Rules.{rules}
 use Rattle.journal.specs.Journal.{batch_length}
 use mathlib.Core.Path.{◌≡◌}
 use native.Mathlib.Omega.{arith}
-use Rattle.codec.proofs.Writing.{start, one_more, all_written}
+use Rattle.codec.proofs.Writing.{start, taken_length, entry_more, all_written}
 use Rattle.codec.proofs.journal_bytes.append.Goals as goal
 
 pub loop-k-init : goal.loop-k-init
@@ -15,9 +15,10 @@ loop-k-init c =
 
 pub loop-k-preserved : goal.loop-k-preserved
 loop-k-preserved c =
-    one_more c.loop-k.invariant (omega arith) _ c.record_bytes-entry.ensures _ c.put.ensures
+    entry_more c.loop-k.invariant (omega arith) _ c.record_bytes.ensures _ c.put.ensures.to_after
 
 pub returns : goal.returns
 returns c =
     let a = c.args in
-    all_written a.bytes.now a.at a.batch _ c.fitting-n.ensures _ _ c.loop-k.invariant (omega arith)
+    all_written a.bytes.now a.at a.batch _ c.fitting-n.ensures _ _ c.loop-k.invariant
+    (omega (arith, taken_length c.loop-k.invariant))

@@ -8,4 +8,4 @@ pub returns : goal.returns
 returns c =
     is_put _ _ _ _ (c.requires ∙ sym (round_trip.place_length_lem c.args.place))
     c.sort_and_numbers-bytes.ensures
-    c.put.ensures
+    c.put.ensures.to_after

@@ -8,4 +8,4 @@ pub returns : goal.returns
 unfolding time_bytes
 returns c =
     is_put _ _ _ _ (search rules) c.seconds_and_rest-bytes.ensures
-    c.put.ensures
+    c.put.ensures.to_after

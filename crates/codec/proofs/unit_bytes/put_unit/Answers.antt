@@ -7,5 +7,5 @@ use Rattle.codec.proofs.unit_bytes.put_unit.Goals as goal
 pub returns : goal.returns
 unfolding unit_bytes
 returns c =
-    is_put _ _ _ _ (search rules) c.bytes_of-bytes.ensures
-    c.put.ensures
+    is_put _ _ _ _ (search rules) c.bytes_of.ensures
+    c.put.ensures.to_after

@@ -1,11 +1,20 @@
--- `encodes_possessions` meets its contract. The loop's invariant: the sections passed have 0 or 1.
+-- `encodes_possessions` meets its contract: the bytes of all seven sections are tested.
+use mathlib.Core.Path.{refl, ◌∙◌}
+use mathlib.Core.Bool.{Bool}
+use Prim.Native.Nat.{ℕ}
+use lib.Dec.{leb}
 use native.Mathlib.Omega.{arith}
-use borrow.Author.Tests.{lt-leb}
-use Rattle.common.proofs.Below.{passing_fails, passing_all}
+use borrow.Author.Rules.{rules}
+use borrow.Author.Tests.{tests}
+use Rattle.std.proofs.lemmas.Iterator.{YieldsList-from_slice}
+use Rattle.std.proofs.lemmas.Iterator.Search.{all_from_yields_List}
+use Rattle.encoding.specs.StateBytes.{possessions_at, given_at}
+use Rattle.decoding.proofs.Lists.{all_in_part}
 use Rattle.decoding.proofs.encodes.encodes_possessions.Goals as goal
 
-pub returns-then-bytes-i-gt1 : goal.returns-then-bytes-i-gt1
-returns-then-bytes-i-gt1 c = passing_fails c.loop-i.invariant (omega arith) (lt-leb _ 1 c.if-bytes-i-gt1.true)
-
 pub returns : goal.returns
-returns c = passing_all c.loop-i.invariant (omega arith)
+returns c =
+    let test : ℕ → Bool = λ k. leb k 1 in
+    all_from_yields_List test _ _ _ c.all.ensures.ran (YieldsList-from_slice _ c.iter.ensures.rest)
+    (λ x b q k. search (rules, tests))
+    ∙ all_in_part test c.args.bytes.now possessions_at given_at 7 refl (omega arith)

@@ -1,14 +1,13 @@
--- `possessions_in` meets its contract. The loop's invariant: the sections passed are in their places.
-use mathlib.Core.Bool.{false}
-use native.Mathlib.Omega.{arith}
-use Rattle.decoding.proofs.Lists.{filling_none, filling_more, filling_all}
+-- `possessions_in` meets its contract: a gang has each section whose byte is 1.
+use Prim.Native.Nat.{◌+◌}
+use lib.Dec.{eqb}
+use borrow.Author.Rules.{rules}
+use Rattle.line.specs.Book.{byte_at}
+use Rattle.encoding.specs.StateBytes.{possessions_at}
+use Rattle.decoding.proofs.Lists.{made}
 use Rattle.decoding.proofs.state_bytes.possessions_in.Goals as goal
 
-pub loop-i-init : goal.loop-i-init
-loop-i-init c = filling_none 7 _ false
-
-pub loop-i-preserved : goal.loop-i-preserved
-loop-i-preserved c = filling_more c.loop-i.invariant (omega arith)
-
 pub returns : goal.returns
-returns c = filling_all c.loop-i.invariant (omega arith)
+returns c =
+    made _ (λ i. eqb (byte_at c.args.bytes.now (possessions_at + i)) 1) _ (λ i y q k. search rules) _ 7
+    c.from_fn.ensures.items

@@ -45,7 +45,7 @@ returns-else-not-on_line c =
     let is-metres : c.args.report ≡ Metres x = c.in-Metres.is in
     let args = c.args in
     let on = sym c.on_line.ensures ∙ c.if-not-on_line.false in
-    rw is-metres (c.placed_at.ensures ∙ metres_on args.posts args.positions x on)
+    rw (is-metres, c.placed_at.ensures) (metres_on args.posts args.positions x on)
 
 pub returns-in-Missing : goal.returns-in-Missing
 returns-in-Missing c =

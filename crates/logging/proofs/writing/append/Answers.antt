@@ -5,14 +5,9 @@ use Prim.Native.Nat.{◌<◌}
 use native.Mathlib.Omega.{arith}
 use lib.ListN.{length}
 use borrow.Author.Rules.{rules}
-use Rattle.journal.specs.Journal.{batch_length, fitting}
-use Rattle.journal.proofs.Appended.{fitting_few, fitting_room, count, written, written_more, all_written}
+use Rattle.journal.specs.Journal.{fitting}
+use Rattle.journal.proofs.Appended.{fitting_room, count, written, all_written}
 use Rattle.logging.proofs.writing.append.Goals as goal
-
-pub nth-requires : goal.nth-requires
-nth-requires c =
-    let few = fitting_few (length c.args.journal.now) c.args.at c.args.batch.n in
-    omega (arith, few, c.fitting-n.ensures)
 
 pub overflow_add-at : goal.overflow_add-at
 overflow_add-at c =
@@ -34,16 +29,6 @@ bounds-journal-at c =
     omega (arith, c.fitting-n.ensures) in
     let place = fitting_room (length c.args.journal.now) c.args.at c.args.batch.n c.loop-k.k less in
     omega (arith, place)
-
-pub loop-k-preserved : goal.loop-k-preserved
-loop-k-preserved c =
-    let j = c.args.journal.now in
-    let at = c.args.at in
-    let b = c.args.batch in
-    let k = c.loop-k.k in
-    let seven : length b.items ≡ batch_length = search rules in
-    let less : k < count j at b = omega (arith, c.fitting-n.ensures) in
-    (omega arith, rw (c.loop-k.invariant.1, c.nth.ensures) (written_more j at b seven k less))
 
 pub returns : goal.returns
 returns c =

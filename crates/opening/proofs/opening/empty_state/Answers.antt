@@ -5,4 +5,4 @@ use Rattle.opening.proofs.opening.empty_state.Goals as goal
 
 pub returns : goal.returns
 unfolding values_from start_tracks
-returns c = rw c.no_train-fleet.ensures
+returns c = rw c.no_train.ensures

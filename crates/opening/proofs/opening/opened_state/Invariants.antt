@@ -1,7 +1,6 @@
 -- `opening::opened_state` meets its contract. The loop's invariant: the trains passed stand at their starts,
 -- on their tracks.
 use mathlib.Core.Path.{◌≡◌}
-use Prim.Native.Nat.{◌≤◌, ◌-◌}
 use Rattle.common.specs.Tabulate.{padded}
 use Rattle.line.specs.Line.{route_of}
 use Rattle.rules.specs.State.{no_train}
@@ -10,7 +9,4 @@ use Rattle.opening.proofs.opening.opened_state.Given as goal
 
 abbrev pub invariant-loop-t : goal.invariant-loop-t
 invariant-loop-t l =
-    (l.t ≤ 6) × (l.fleet ≡ padded 6 l.t (λ u. fresh (route_of l.line u) (opened_track l.line u)) no_train)
-
-abbrev pub decreases-loop-t : goal.decreases-loop-t
-decreases-loop-t l = 6 - l.t
+    l.fleet ≡ padded 6 l.t (λ u. fresh (route_of l.line u) (opened_track l.line u)) no_train

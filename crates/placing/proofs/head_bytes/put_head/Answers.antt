@@ -11,11 +11,11 @@ use Rattle.placing.proofs.head_bytes.put_head.Goals as goal
 
 pub returns : goal.returns
 returns c =
-    let eight : length c.args.tracks ≡ 8 = search rules in
+    let eight : length c.args.tracks.now ≡ 8 = search rules in
     let tracked : List ℕ = c.put.new.to in
     let sided : List ℕ = set tracked sidings_byte c.args.sidings in
-    let head : List ℕ = head_bytes c.args.posts c.args.tracks c.args.sidings c.args.trains in
+    let head : List ℕ = head_bytes c.args.posts c.args.tracks.now c.args.sidings c.args.trains in
     let written : set sided trains_byte c.args.trains ≡ replaced c.args.to.now 0 head =
-    head_put c.args.posts c.args.tracks c.args.sidings c.args.trains eight
-    c.args.to.now c.requires c.put.ensures in
+    head_put c.args.posts c.args.tracks.now c.args.sidings c.args.trains eight
+    c.args.to.now c.requires c.put.ensures.to_after in
     written

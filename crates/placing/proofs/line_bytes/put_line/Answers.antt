@@ -11,30 +11,30 @@ use Rattle.placing.proofs.line_bytes.put_line.Goals as goal
 
 pub loop-t-init : goal.loop-t-init
 loop-t-init c =
-    let eight : length c.args.line.tracks ≡ 8 = search rules in
-    let six : length c.args.line.routes ≡ 6 = search rules in
-    let size : length (line_bytes c.args.line) ≡ line_length = line_length_lem c.args.line eight six in (
+    let eight : length c.args.line.now.tracks ≡ 8 = search rules in
+    let six : length c.args.line.now.routes ≡ 6 = search rules in
+    let size : length (line_bytes c.args.line.now) ≡ line_length = line_length_lem c.args.line.now eight six in (
       omega arith,
       head_begun _ _ _ _ eight _ (c.requires ∙ sym size) (omega (arith, size))
-          c.put_head.ensures (line_head c.args.line eight six),
+          c.put_head.ensures (line_head c.args.line.now eight six),
     )
 
 pub loop-t-preserved : goal.loop-t-preserved
 loop-t-preserved c =
-    let eight : length c.args.line.tracks ≡ 8 = search rules in
-    let six : length c.args.line.routes ≡ 6 = search rules in
-    let size : length (line_bytes c.args.line) ≡ line_length = line_length_lem c.args.line eight six in
-    let l = c.args.line in
+    let eight : length c.args.line.now.tracks ≡ 8 = search rules in
+    let six : length c.args.line.now.routes ≡ 6 = search rules in
+    let size : length (line_bytes c.args.line.now) ≡ line_length = line_length_lem c.args.line.now eight six in
+    let l = c.args.line.now in
     let t = c.loop-t.t in (
       omega arith,
-      part_more c.loop-t.invariant.1 (at_route l eight six t (omega arith)) c.route_ends-bytes.ensures
-          c.put.ensures (omega (arith, size)) (route_at (t + 1)) (omega arith),
+      part_more c.loop-t.invariant.1 (at_route l eight six t (omega arith)) c.route_ends.ensures
+          c.put.ensures.to_after (omega (arith, size)) (route_at (t + 1)) (omega arith),
     )
 
 pub returns : goal.returns
 returns c =
-    let eight : length c.args.line.tracks ≡ 8 = search rules in
-    let six : length c.args.line.routes ≡ 6 = search rules in
-    let size : length (line_bytes c.args.line) ≡ line_length = line_length_lem c.args.line eight six in
-    let written : c.loop-t.to ≡ line_bytes c.args.line = filled c.loop-t.invariant.1 (omega (arith, size)) in
+    let eight : length c.args.line.now.tracks ≡ 8 = search rules in
+    let six : length c.args.line.now.routes ≡ 6 = search rules in
+    let size : length (line_bytes c.args.line.now) ≡ line_length = line_length_lem c.args.line.now eight six in
+    let written : c.loop-t.to ≡ line_bytes c.args.line.now = filled c.loop-t.invariant.1 (omega (arith, size)) in
     written

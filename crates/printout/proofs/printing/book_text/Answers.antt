@@ -1,7 +1,6 @@
 -- The line fits.
 use Rattle.std.proofs.Common.{◌≤◌, [], length, ap, ◌∙◌, arith}
-use Rattle.printout.specs.Types.{Text}
-use Rattle.printout.specs.Text.{text_length, followed}
+use Rattle.printout.specs.Text.{Text, text_length, followed}
 use Rattle.printout.specs.Lines.{book_line}
 use Rattle.printout.proofs.Room.{held, fits}
 use Rattle.printout.proofs.printing.book_text.Goals as goal

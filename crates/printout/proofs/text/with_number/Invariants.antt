@@ -2,8 +2,5 @@
 use Rattle.printout.proofs.Decimals.{Written}
 use Rattle.printout.proofs.text.with_number.Given as goal
 
-abbrev pub invariant-loop-rest : goal.invariant-loop-rest
-invariant-loop-rest l = Written l.n l.first l.rest l.digits
-
-abbrev pub decreases-loop-rest : goal.decreases-loop-rest
-decreases-loop-rest l = l.first
+abbrev pub invariant-loop-first : goal.invariant-loop-first
+invariant-loop-first l = Written l.n l.first l.rest l.digits

@@ -28,18 +28,18 @@ put_changes-requires c =
           c.state_in-before.ensures _ _ c.step-outcome.ensures,
     )
 
-pub returns-in-Refused : goal.returns-in-Refused
-returns-in-Refused c =
+pub returns-in-Err : goal.returns-in-Err
+returns-in-Err c =
     let encoded : encodes_state c.args.state.now ≡ true = sym c.encodes_state.ensures ∙ c.if-not-encodes_state.false in
     let a = c.args in
     answer_refused a.state.now a.table.now a.journal.now a.frame.now a.out.now
-    encoded _ c.state_in-before.ensures _ _ c.step-outcome.ensures _ c.in-Refused.is _
-    c.word_of-in-Refused.ensures
+    encoded _ c.state_in-before.ensures _ _ c.step-outcome.ensures _ c.in-Err.is _
+    c.word_of-in-Err.ensures
 
-pub returns-in-Sent : goal.returns-in-Sent
-returns-in-Sent c =
+pub returns-in-Ok : goal.returns-in-Ok
+returns-in-Ok c =
     let encoded : encodes_state c.args.state.now ≡ true = sym c.encodes_state.ensures ∙ c.if-not-encodes_state.false in
     let a = c.args in
     answered a.state.now a.table.now a.journal.now a.frame.now a.out.now encoded _
     c.state_in-before.ensures _ _ c.step-outcome.ensures _ c.append.ensures _ c.put_changes.ensures _
-    (c.word_of-in-Sent.ensures ∙ ap verdict_word (sym c.in-Sent.is))
+    (c.word_of-in-Ok.ensures ∙ ap verdict_word (sym c.in-Ok.is))

@@ -1,16 +1,18 @@
--- `in_order` meets its contract. The loop's invariant: the positions of the posts passed are in order.
+-- `in_order` meets its contract: `all` tests each post from the second on against the one before it.
+use mathlib.Core.Path.{◌∙◌}
+use Prim.Native.Nat.{◌-◌}
 use native.Mathlib.Omega.{arith}
-use Rattle.stages.proofs.Ordered.{not_from_zero, not_above, too_far, all_ordered}
+use borrow.Author.Tests.{tests}
+use Rattle.std.proofs.Common.{rules}
+use Rattle.std.proofs.lemmas.Iterator.{YieldsList-from_range}
+use Rattle.std.proofs.lemmas.Iterator.Search.{all_from_yields_List}
+use Rattle.stages.proofs.Ordered.{rises, order_test}
 use Rattle.stages.proofs.positions.in_order.Goals as goal
 
-pub returns-then-positions-ne0 : goal.returns-then-positions-ne0
-returns-then-positions-ne0 c = not_from_zero _ _ c.if-positions-ne0.true
-
-pub returns-then-here-positions : goal.returns-then-here-positions
-returns-then-here-positions c = not_above _ _ c.loop-p.invariant (omega arith) (omega arith)
-
-pub returns-then-here-gt-MOST_METRES : goal.returns-then-here-gt-MOST_METRES
-returns-then-here-gt-MOST_METRES c = too_far _ _ c.loop-p.p (omega arith) (omega arith)
-
-pub returns : goal.returns
-returns c = all_ordered _ _ c.loop-p.invariant (omega arith)
+pub returns-then-positions-eq-FIRST_METRES : goal.returns-then-positions-eq-FIRST_METRES
+returns-then-positions-eq-FIRST_METRES c =
+    let ps = c.args.positions.now in
+    let n = c.args.given in
+    all_from_yields_List (rises ps) _ _ c.all.result c.all.ensures.ran
+    (YieldsList-from_range 1 n (n - 1) (cc) (omega arith)) (λ x b q k. search (rules, tests))
+    ∙ order_test n ps (omega arith)

@@ -6,6 +6,3 @@ use Rattle.tracks.proofs.free.largest.Given as goal
 
 abbrev pub invariant-loop-k : goal.invariant-loop-k
 invariant-loop-k l = (l.k ≤ l.tracks) × HeldFrom (bit_at l.held) (l.k + 1) (l.tracks + 1)
-
-abbrev pub decreases-loop-k : goal.decreases-loop-k
-decreases-loop-k l = l.k

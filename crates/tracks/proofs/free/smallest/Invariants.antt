@@ -1,11 +1,8 @@
 -- `smallest` meets its contract. The loop's invariant: the tracks passed are held.
-use Prim.Native.Nat.{◌+◌, ◌-◌, ◌≤◌}
+use Prim.Native.Nat.{◌≤◌}
 use Rattle.common.specs.Bits.{bit_at}
 use Rattle.tracks.proofs.Choice.{HeldFrom}
 use Rattle.tracks.proofs.free.smallest.Given as goal
 
 abbrev pub invariant-loop-k : goal.invariant-loop-k
 invariant-loop-k l = (1 ≤ l.k) × HeldFrom (bit_at l.held) 1 l.k
-
-abbrev pub decreases-loop-k : goal.decreases-loop-k
-decreases-loop-k l = l.tracks + 1 - l.k

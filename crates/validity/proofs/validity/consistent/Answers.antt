@@ -7,41 +7,54 @@ use Rattle.validity.specs.Tests.{counts_valid, records_valid, place_valid}
 use Rattle.validity.proofs.Tested.{counts_fail, eight_posts, six_trains, trains_fail, all_placed}
 use Rattle.validity.proofs.Tested.{places_fail, numbers_decide}
 use Rattle.validity.proofs.validity.consistent.Goals as goal
+use Rattle.validity.proofs.validity.consistent.Goals.{then-counts_valid, else-counts_valid, then-trains_valid}
+use Rattle.validity.proofs.validity.consistent.Goals.{else-trains_valid}
 
-pub returns-then-not-counts_valid : goal.returns-then-not-counts_valid
-returns-then-not-counts_valid c = counts_fail _ (sym c.counts_valid.ensures ∙ c.if-not-counts_valid.true)
-
-pub returns-then-not-trains_valid : goal.returns-then-not-trains_valid
-returns-then-not-trains_valid c =
-    let given : State = c.args.state in
-    let counts : counts_valid given.posts given.sidings given.trains given.given ≡ true =
-    sym c.counts_valid.ensures ∙ c.if-not-counts_valid.false in
-    trains_fail given counts (sym c.trains_valid.ensures ∙ c.if-not-trains_valid.true)
+abbrev Counts : State → Type 0
+Counts s = counts_valid s.posts s.sidings s.trains s.given ≡ true
 
 pub places_valid-requires : goal.places_valid-requires
 places_valid-requires c =
     let given : State = c.args.state in
-    let counts : counts_valid given.posts given.sidings given.trains given.given ≡ true =
-    sym c.counts_valid.ensures ∙ c.if-not-counts_valid.false in
-    let trains : records_valid given ≡ true = sym c.trains_valid.ensures ∙ c.if-not-trains_valid.false in
-    let s = given in
-    (eight_posts s counts, six_trains s counts, all_placed s counts trains)
+    elim c.if-counts_valid.branch [
+      | then-counts_valid w ↦
+          let counts : Counts given = sym c.counts_valid.ensures ∙ w.if-counts_valid.true in
+          let trains : records_valid given ≡ true =
+          sym w.trains_valid.ensures ∙ sym w.value-is ∙ c.if-trains_valid.true in
+          (eight_posts given counts, six_trains given counts, all_placed given counts trains)
+      | else-counts_valid w ↦ cc
+    ]
 
-pub returns-then-not-places_valid : goal.returns-then-not-places_valid
-returns-then-not-places_valid c =
+pub returns-then-places_valid : goal.returns-then-places_valid
+returns-then-places_valid c =
     let given : State = c.args.state in
-    let counts : counts_valid given.posts given.sidings given.trains given.given ≡ true =
-    sym c.counts_valid.ensures ∙ c.if-not-counts_valid.false in
-    let trains : records_valid given ≡ true = sym c.trains_valid.ensures ∙ c.if-not-trains_valid.false in
-    places_fail given counts trains
-    (sym c.places_valid.ensures ∙ c.if-not-places_valid.true)
+    elim c.if-trains_valid.branch [
+      | then-trains_valid w ↦ elim c.if-counts_valid.branch [
+        | then-counts_valid v ↦
+            let counts : Counts given = sym c.counts_valid.ensures ∙ v.if-counts_valid.true in
+            let trains : records_valid given ≡ true =
+            sym v.trains_valid.ensures ∙ sym v.value-is ∙ w.if-trains_valid.true in
+            let places : all_below given.posts (place_valid given) ≡ true =
+            sym w.places_valid.ensures ∙ sym w.value-is ∙ c.if-places_valid.true in
+            c.numbers_valid.ensures ∙ numbers_decide given counts trains places
+        | else-counts_valid v ↦ cc
+      ]
+      | else-trains_valid w ↦ cc
+    ]
 
-pub returns : goal.returns
-returns c =
+pub returns-else-places_valid : goal.returns-else-places_valid
+returns-else-places_valid c =
     let given : State = c.args.state in
-    let counts : counts_valid given.posts given.sidings given.trains given.given ≡ true =
-    sym c.counts_valid.ensures ∙ c.if-not-counts_valid.false in
-    let trains : records_valid given ≡ true = sym c.trains_valid.ensures ∙ c.if-not-trains_valid.false in
-    let places : all_below given.posts (place_valid given) ≡ true =
-    sym c.places_valid.ensures ∙ c.if-not-places_valid.false in
-    c.numbers_valid.ensures ∙ numbers_decide given counts trains places
+    c.if-places_valid.false ∙ elim c.if-counts_valid.branch [
+      | then-counts_valid v ↦
+          let counts : Counts given = sym c.counts_valid.ensures ∙ v.if-counts_valid.true in
+          elim c.if-trains_valid.branch [
+            | then-trains_valid w ↦
+                let trains : records_valid given ≡ true =
+                sym v.trains_valid.ensures ∙ sym v.value-is ∙ w.if-trains_valid.true in
+                places_fail given counts trains (sym w.places_valid.ensures ∙ sym w.value-is ∙ c.if-places_valid.false)
+            | else-trains_valid w ↦
+                trains_fail given counts (sym v.trains_valid.ensures ∙ sym v.value-is ∙ w.if-trains_valid.false)
+          ]
+      | else-counts_valid v ↦ counts_fail given (sym c.counts_valid.ensures ∙ v.if-counts_valid.false)
+    ]

@@ -1,11 +1,7 @@
 -- `numbers_valid` meets its contract. The loop's invariant: the numbers of the trains passed are valid.
-use Prim.Native.Nat.{◌-◌}
 use Rattle.common.proofs.Below.{Passing}
 use Rattle.rules.specs.Valid.{number_valid}
 use Rattle.validity.proofs.validity.numbers_valid.Given as goal
 
 abbrev pub invariant-loop-t : goal.invariant-loop-t
 invariant-loop-t l = Passing l.state.trains (number_valid l.state) l.t
-
-abbrev pub decreases-loop-t : goal.decreases-loop-t
-decreases-loop-t l = l.state.trains - l.t

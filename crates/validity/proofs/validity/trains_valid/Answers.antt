@@ -1,28 +1,20 @@
--- `trains_valid` meets its contract. The loop's invariant: the records of the trains passed are valid.
-use mathlib.Core.Path.{◌≡◌, sym, ap, ◌∙◌}
+-- `trains_valid` meets its contract: the records tested are those of the line's trains.
+use mathlib.Core.Path.{◌∙◌}
 use native.Mathlib.Omega.{arith}
-use Rattle.common.proofs.Below.{passing_more, passing_fails, passing_all}
-use Rattle.validity.specs.Types.{Train, State}
-use Rattle.rules.specs.State.{train_of}
+use lib.ListN.{take}
+use Rattle.std.proofs.Common.{rules, tests}
+use Rattle.std.proofs.lemmas.Iterator.{YieldsList-from_slice}
+use Rattle.std.proofs.lemmas.Iterator.Search.{all_from_yields_List}
+use Rattle.rules.specs.State.{no_train}
+use Rattle.validity.specs.Types.{State}
 use Rattle.validity.specs.Tests.{record_valid}
+use Rattle.validity.proofs.Records.{first_all}
 use Rattle.validity.proofs.validity.trains_valid.Goals as goal
 
-pub returns-then-not-record_valid : goal.returns-then-not-record_valid
-returns-then-not-record_valid c =
-    let given : State = c.args.state in
-    let tested : record_valid given.posts given.sidings (train_of given c.loop-t.t) ≡ c.record_valid.result =
-    ap (λ (x : Train). record_valid given.posts given.sidings x) (sym c.train_of.ensures)
-    ∙ sym c.record_valid.ensures in
-    passing_fails c.loop-t.invariant (omega arith) (tested ∙ c.if-not-record_valid.true)
-
-pub loop-t-preserved : goal.loop-t-preserved
-loop-t-preserved c =
-    let given : State = c.args.state in
-    let tested : record_valid given.posts given.sidings (train_of given c.loop-t.t) ≡ c.record_valid.result =
-    ap (λ (x : Train). record_valid given.posts given.sidings x) (sym c.train_of.ensures)
-    ∙ sym c.record_valid.ensures in
-    passing_more c.loop-t.invariant (omega arith)
-    (tested ∙ c.if-not-record_valid.false)
-
 pub returns : goal.returns
-returns c = passing_all c.loop-t.invariant (omega arith)
+returns c =
+    let given : State = c.args.state in
+    all_from_yields_List (record_valid given.posts given.sidings) _ _ _ c.all.ensures.ran
+    (YieldsList-from_slice (take given.trains given.fleet) cc)
+    (λ x b q k. search (rules, tests))
+    ∙ first_all (record_valid given.posts given.sidings) given.fleet no_train given.trains (omega arith)

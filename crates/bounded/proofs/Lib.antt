@@ -1,0 +1,2 @@
+-- Laws of bytes that come one by one.
+pub mod Room

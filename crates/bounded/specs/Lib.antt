@@ -1,0 +1,2 @@
+-- Bytes by value, at most so many.
+pub mod Bytes

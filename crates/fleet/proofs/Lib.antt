@@ -1,2 +1,0 @@
--- One train's record, read and changed.
-pub mod Moves
