@@ -11,7 +11,7 @@ use Rattle.common.specs.Check.{refusal}
 use Rattle.common.specs.Part.{replaced}
 use Rattle.common.proofs.Check.{accepts, refuses}
 use Rattle.frame.specs.Frame.{read_frame}
-use Rattle.journal.specs.Journal.{blank, journal_length, batch_length, empty_batch, appended}
+use Rattle.journal.specs.Journal.{blank, journal_length, most_sent, batch_length, empty_batch, appended}
 use Rattle.journal.proofs.Appended.{appended_none}
 use Rattle.dispatcher.specs.Types.{Move, Message, Record, State, Sent, RefusedBy, Progress, Repeat, Not, Silent}
 use Rattle.dispatcher.specs.Types.{Told, Outcome}
@@ -82,7 +82,7 @@ some_told Not e = absurd (false≢true e)
 some_told Silent e = refl
 some_told (Told a) e = refl
 
-pub none_told : (r : Repeat) → is_repeat (told_by r) ≡ false → told_by r ≡ none
+none_told : (r : Repeat) → is_repeat (told_by r) ≡ false → told_by r ≡ none
 none_told Not e = refl
 none_told Silent e = absurd (true≢false e)
 none_told (Told a) e = absurd (true≢false e)
@@ -144,7 +144,12 @@ module _ (s : State) (table : List ℕ) (count : ℕ) (frame out : List ℕ) whe
               ∙ rw (ea) (sym (taken journal long ∙ rw told (told_again_lem s journal out answers)));
         }
 
-    module _ (fresh : again s (read_frame frame) ≡ none) where
+    -- a frame that the code finds to repeat none, by the message that it read
+    module _ (a : Message) (read : a ≡ read_frame frame)
+        (r : Repeat) (found : told_by r ≡ again s a) (new : is_repeat (told_by r) ≡ false) where
+      fresh : again s (read_frame frame) ≡ none
+      fresh = sym (found ∙ ap (again s) read) ∙ none_told r new
+
       abbrev work : Work
       work = anew table s (read_frame frame)
 
@@ -158,14 +163,17 @@ module _ (s : State) (table : List ℕ) (count : ℕ) (frame out : List ℕ) whe
       kept : Batched (batch_of work.logged) work.logged
       kept = batched work.logged left.few
 
-      module _ (p : Progress) (held : p ≡ progress_of work) where
+      module _ (p : Progress) (is : p ≡ progress_of (anew table s a)) where
+        held : p ≡ progress_of work
+        held = is ∙ ap (λ (m : Message). progress_of (anew table s m)) read
+
         size : p.batch.n ≡ length work.logged
         size = ap (λ (q : Progress). q.batch.n) held ∙ kept.count
 
         pub step_some : 1 ≤ p.batch.n
         step_some = omega (arith, size, paired left)
 
-        pub step_few : p.batch.n ≤ batch_length
+        step_few : p.batch.n ≤ batch_length
         step_few = omega (arith, size, left.few)
 
         seven : length p.batch.items ≡ batch_length
@@ -174,9 +182,12 @@ module _ (s : State) (table : List ℕ) (count : ℕ) (frame out : List ℕ) whe
         pub step_within : p.batch.n ≤ length p.batch.items
         step_within = omega (arith, seven, step_few)
 
-        pub step_count : length (answers_in p.batch.items p.batch.n) ≡ p.batch.n - 1
+        step_count : length (answers_in p.batch.items p.batch.n) ≡ p.batch.n - 1
         step_count = length-take-le (p.batch.n - 1) (drop 1 p.batch.items)
             (omega (arith, seven, step_few, length-drop 1 p.batch.items))
+
+        pub step_sent : length (answers_in p.batch.items p.batch.n) ≤ most_sent
+        step_sent = omega (arith, step_few, step_count)
 
         frames : frames_in (answers_in p.batch.items p.batch.n) ≡ frames_of work.sent
         frames =
