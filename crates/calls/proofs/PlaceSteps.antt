@@ -11,11 +11,11 @@ use borrow.Author.Tests.{eq-eqb, ne_eqb, le-leb, lt-leb, leb-true, leb-false}
 use Rattle.common.proofs.Tests.{by_cases}
 use Rattle.common.proofs.Check.{Refuses, none, stop, pass, accepted_by, refused_by_lem}
 use Rattle.line.specs.Refusal.{strange_state, unknown_kind}
-use Rattle.place.specs.Locating.{place_of}
-use Rattle.encoding.specs.PlaceBytes.{place_length, place_bytes}
-use Rattle.calls.specs.Types.{Place, Result, Ok, Refused}
+use Rattle.place.specs.Locating.{place_refusal, place_of}
+use Rattle.encoding.specs.PlaceBytes.{place_length}
+use Rattle.calls.specs.Types.{Place, Result}
 use Rattle.calls.specs.Word.{word_of}
-use Rattle.calls.specs.PlaceCalls.{place_call, metres_kind, report_of, locate_call_checks, place_after}
+use Rattle.calls.specs.PlaceCalls.{place_call, metres_kind, report_of, locate_call_checks, place_written, place_after}
 use Rattle.calls.specs.PlaceCalls.{known_place, locate_call}
 
 module _ (book : List ℕ) (kind post : ℕ) (x : Float) (place : List ℕ) where
@@ -54,11 +54,8 @@ module _ (book : List ℕ) (kind post : ℕ) (x : Float) (place : List ℕ) wher
         (λ e. rw e (is_located (leb-true kind metres_kind e)))
         (λ e. rw e (no_kind (leb-false kind metres_kind e) _ refl))
 
-    module _ (a : Result Place ℕ) (is : a ≡ known_place book kind post x) where
-      pub not_located : (n : ℕ) → a ≡ Refused n → (w : ℕ) → w ≡ word_of n 0
-          → place_call w place ≡ locate_call book kind post x place
-      not_located n refused w e = rw (e, ← by_kind, ← is, refused)
-
-      pub located : (p : Place) → a ≡ Ok p → (after : List ℕ) → after ≡ place_bytes p → (w : ℕ) → w ≡ word_of 0 0
-          → place_call w after ≡ locate_call book kind post x place
-      located p accepted after q w e = rw (e, q, ← by_kind, ← is, accepted)
+    -- the word is by the number of the answer, and the bytes are those that it leaves
+    pub answered : (a : Result Place ℕ) → a ≡ known_place book kind post x
+        → (after : List ℕ) → after ≡ place_written a place → (w : ℕ) → w ≡ word_of (place_refusal a) 0
+        → place_call w after ≡ locate_call book kind post x place
+    answered a is after q w e = rw (e, q, ← by_kind, ← is)

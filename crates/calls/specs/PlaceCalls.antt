@@ -4,7 +4,7 @@ use Rattle.common.specs.Check.{Check, check, refusal, unless_refused}
 use Rattle.line.specs.Refusal.{strange_state, unknown_kind}
 use Rattle.line.specs.declared.refusal.Refusal.{Refusal}
 use Rattle.line.specs.declared.refusal.Refusal.TheVariants.{UnknownKind}
-use Rattle.place.specs.Locating.{at, in_section, place_of}
+use Rattle.place.specs.Locating.{at, in_section, place_refusal, place_of}
 use Rattle.encoding.specs.PlaceBytes.{place_length, place_bytes}
 use Rattle.calls.specs.Types.{PlaceReport, Post, Metres, Missing, Place, Nothing, Result, Ok, Refused}
 use Rattle.calls.specs.Word.{word_of, refusal_in}
@@ -40,9 +40,12 @@ locate_call_checks kind room =
     ∷ []
 
 -- the place is written where the report is accepted; a refusal changes nothing
+abbrev pub place_written : Result Place ℕ → List ℕ → List ℕ
+place_written (Ok a) place = place_bytes a
+place_written (Refused n) place = place
+
 abbrev pub place_after : Result Place ℕ → List ℕ → PlaceCall
-place_after (Ok a) place = place_call (word_of 0 0) (place_bytes a)
-place_after (Refused n) place = place_call (word_of n 0) place
+place_after a place = place_call (word_of (place_refusal a) 0) (place_written a place)
 
 unfoldable pub locate_call : List ℕ → ℕ → ℕ → Float → List ℕ → PlaceCall
 locate_call book kind post x place =

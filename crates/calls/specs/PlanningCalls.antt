@@ -14,9 +14,12 @@ abbrev pub time_call : ℕ → List ℕ → TimeCall
 time_call answer time = record { answer = answer; time = time }
 
 -- the time is written where the question is accepted; a refusal changes nothing
+abbrev pub time_written : Result Time ℕ → List ℕ → List ℕ
+time_written (Ok t) time = time_bytes t
+time_written (Err n) time = time
+
 abbrev pub time_after : Result Time ℕ → List ℕ → TimeCall
-time_after (Ok t) time = time_call (word_of 0 0) (time_bytes t)
-time_after (Err n) time = time_call (word_of n 0) time
+time_after a time = time_call (word_of (time_refusal a) 0) (time_written a time)
 
 -- a `time` buffer that is not 8 bytes is 1, nothing changed. Else as 02, card 5.
 unfoldable pub running_time_call : List ℕ → ℕ → ℕ → ℕ → List ℕ → TimeCall

@@ -4,6 +4,7 @@ ghost use Rattle.rules.specs.Answer.{answer_of, answer};
 
 use crate::stepping::step;
 use journal::{Log, Record};
+use logging::{log_length, log_with};
 use rules::{Reply, State};
 
 // Answers a frame. The answers' frames are at the beginning of `out`.
@@ -29,11 +30,16 @@ pub struct Logged {
     pub log: Log,
 }
 
-// The same with a journal by value.
-pub fn answer_log(state: State, table: &[u8], mut log: Log, frame: &[u8], out: &mut [u8]) -> Logged
+// The same with a journal by value, by `log_length` and `log_with`: `answer` over its records would leave
+// these two, which are promised, to nothing that runs.
+pub fn answer_log(state: State, table: &[u8], log: Log, frame: &[u8], out: &mut [u8]) -> Logged
     ensures { answer_of result.reply result.log.records out.new
         ≡ answer state table.now log.records frame.now out.old }
 {
-    let reply = answer(state, table, &mut log.records, frame, out);
-    Logged { reply, log }
+    let o = step(state, table, log_length(log.records), frame, out);
+    let log = log_with(log, o.at, o.batch);
+    Logged {
+        reply: o.reply,
+        log,
+    }
 }

@@ -1,9 +1,9 @@
 -- Pressing a button. 01: "Checks: .. 1, then 21, then 8 for buttons."
-use Rattle.std.specs.Prelude.{Bool, true, false, cond, not, ◌&&◌, ◌||◌, List, [], ◌∷◌, ℕ, Option, None, Some}
+use Rattle.std.specs.Prelude.{Bool, true, false, cond, not, ◌&&◌, ◌||◌, List, [], ◌∷◌, ℕ, replicate, Option, None, Some}
 use Rattle.common.specs.Check.{Check, check, refusal, unless_refused}
 use Rattle.line.specs.Refusal.{strange_state, not_now, at_its_end}
 use Rattle.line.specs.Route.{next_post}
-use Rattle.frame.specs.Frame.{bytes_of}
+use Rattle.frame.specs.Frame.{frame_length, bytes_of}
 use Rattle.driver.specs.Types.{Message, Fa, Am, Unit, Pressed, Button, Ask, Depart, Reached, Report, Again}
 use Rattle.driver.specs.Types.{Standing, Asked, Granted, UnderWay, Arrived}
 use Rattle.driver.specs.State.{same_phase, awaiting, ended, own_move, past_start, last_move, in_phase, valid_unit}
@@ -56,6 +56,11 @@ is_sent (Some f) = true
 abbrev pub sent_bytes : Option (List ℕ) → List ℕ
 sent_bytes None = []
 sent_bytes (Some f) = f
+
+-- the seven bytes within the answer, which are 0 where no frame is given
+abbrev pub seven_bytes : Option (List ℕ) → List ℕ
+seven_bytes None = replicate frame_length 0
+seven_bytes (Some f) = f
 
 -- ---- the flow
 

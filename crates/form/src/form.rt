@@ -26,8 +26,7 @@ pub fn tracks_in_range(line: &Line) -> bool
         .all(|tracks| (1..=4).contains(tracks))
 }
 
-// Whether every train starts and ends on the line. The trains are numbered and their routes not sliced: a
-// proof knows how many numbers a field of the line has, and not how many routes.
+// Whether every train starts and ends on the line. The trains are numbered and their routes not sliced.
 pub fn routes_on_line(line: &Line) -> bool
     requires { line.now.trains ≤ 6 }
     ensures { result ≡ routes_on_line line.now }

@@ -8,6 +8,6 @@ mod record;
 mod writing;
 
 pub use batch::{empty, with};
-pub use log::{blank_log, log_at, log_length};
+pub use log::{blank_log, log_at, log_length, log_with};
 pub use record::{frame_of, record_of, record_on};
 pub use writing::{append, fitting};

@@ -1,10 +1,11 @@
 // A journal by value, for programs that keep one.
 ghost use Rattle.std.specs.Prelude.{◌≡◌, length};
-ghost use Rattle.journal.specs.Journal.{record_at};
+ghost use Rattle.journal.specs.Journal.{record_at, appended};
 ghost use Rattle.journal.specs.Log.{blank_log};
 
 use crate::record::blank;
-use journal::{JOURNAL_LENGTH, Log, Record};
+use crate::writing::append;
+use journal::{Batch, JOURNAL_LENGTH, Log, Record};
 
 // A journal with no record in it.
 pub fn blank_log() -> Log
@@ -31,4 +32,12 @@ pub fn log_at(log: Log, i: usize) -> Record
     } else {
         blank()
     }
+}
+
+// The log with the records of the batch from place `at` on; as it is where they do not all fit.
+pub fn log_with(mut log: Log, at: usize, batch: Batch) -> Log
+    ensures { result.records ≡ appended log.records at batch }
+{
+    append(&mut log.records, at, batch);
+    log
 }

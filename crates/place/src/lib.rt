@@ -4,4 +4,4 @@
 
 mod report;
 
-pub use report::{Place, Report};
+pub use report::{Place, Report, place_refusal};

@@ -5,4 +5,4 @@
 mod permitting;
 mod pressing;
 
-pub use pressing::press;
+pub use pressing::{press, seven_bytes};

@@ -1,10 +1,10 @@
 // Pressing a button: refusals 1, 21 and 8, in that order.
 ghost use Rattle.std.specs.Prelude.{◌≡◌};
-ghost use Rattle.driver.specs.Pressing.{moved_on, last_sent, carried_out, silent, sending, press_button};
+ghost use Rattle.driver.specs.Pressing.{moved_on, last_sent, carried_out, silent, sending, seven_bytes, press_button};
 
 use crate::permitting::permitted;
 use driver::{Button, Phase, Pressed, Unit};
-use frame::Message;
+use frame::{FRAME_LENGTH, Message};
 use unit::{awaiting, in_phase, last_move, own_move};
 
 // What a press of a button does.
@@ -72,4 +72,11 @@ fn sending(unit: Unit, message: Message) -> Pressed
         refusal: 0,
         frame: Some(framing::write(message)),
     }
+}
+
+// 01: "FA and AM are handed back as seven bytes within the answer", all 0 where none is given.
+pub fn seven_bytes(answer: Pressed) -> [u8; FRAME_LENGTH]
+    ensures { result ≡ seven_bytes answer.frame }
+{
+    answer.frame.unwrap_or([0; FRAME_LENGTH])
 }

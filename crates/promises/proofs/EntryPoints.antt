@@ -3,6 +3,7 @@ use Rattle.book.proofs.read.Met.{met as read-book-met}
 use Rattle.book.proofs.read_positioned.Met.{met as read-positioned-met}
 use Rattle.timing.proofs.running_time.Met.{met as running-time-met}
 use Rattle.locating.proofs.locate.Met.{met as locate-met}
+use Rattle.place.proofs.place_refusal.Met.{met as place-refusal-met}
 use Rattle.framing.proofs.read.Met.{met as read-frame-met}
 use Rattle.framing.proofs.write.Met.{met as write-frame-met}
 use Rattle.framing.proofs.place.Met.{met as place-frame-met}
@@ -19,9 +20,11 @@ use Rattle.logging.proofs.frame_of.Met.{met as frame-of-met}
 use Rattle.logging.proofs.blank_log.Met.{met as blank-log-met}
 use Rattle.logging.proofs.log_length.Met.{met as log-length-met}
 use Rattle.logging.proofs.log_at.Met.{met as log-at-met}
+use Rattle.logging.proofs.log_with.Met.{met as log-with-met}
 use Rattle.logging.proofs.fitting.Met.{met as fitting-met}
 use Rattle.unit.proofs.make.Met.{met as make-unit-met}
 use Rattle.pressing.proofs.press.Met.{met as press-met}
+use Rattle.pressing.proofs.seven_bytes.Met.{met as seven-bytes-met}
 use Rattle.hearing.proofs.hear.Met.{met as hear-met}
 use Rattle.unit.proofs.valid.Met.{met as valid-unit-met}
 use Rattle.opening.proofs.open.Met.{met as open-met}
@@ -54,6 +57,7 @@ functions = record {
   read_positioned_lem = read-positioned-met;
   running_time_lem = running-time-met;
   locate = locate-met;
+  place_refusal_lem = place-refusal-met;
   read_frame_lem = read-frame-met;
   write_frame = write-frame-met;
   place_frame = place-frame-met;
@@ -70,6 +74,7 @@ functions = record {
   blank_log_lem = blank-log-met;
   log_length = log-length-met;
   log_at = log-at-met;
+  log_with = log-with-met;
   fitting = fitting-met;
 }
 
@@ -77,6 +82,7 @@ pub ends : {M : Type 1} → Ends M
 ends = record {
   make_unit_lem = make-unit-met;
   press = press-met;
+  seven_bytes_lem = seven-bytes-met;
   hear = hear-met;
   valid_unit_lem = valid-unit-met;
   open_box = open-met;

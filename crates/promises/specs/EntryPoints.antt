@@ -4,6 +4,7 @@ use Rattle.book.proofs.read.Statement.{statement as ReadBook}
 use Rattle.book.proofs.read_positioned.Statement.{statement as ReadPositioned}
 use Rattle.timing.proofs.running_time.Statement.{statement as RunningTime}
 use Rattle.locating.proofs.locate.Statement.{statement as Locate}
+use Rattle.place.proofs.place_refusal.Statement.{statement as PlaceRefusal}
 use Rattle.framing.proofs.read.Statement.{statement as ReadFrame}
 use Rattle.framing.proofs.write.Statement.{statement as WriteFrame}
 use Rattle.framing.proofs.place.Statement.{statement as PlaceFrame}
@@ -20,9 +21,11 @@ use Rattle.logging.proofs.frame_of.Statement.{statement as FrameOf}
 use Rattle.logging.proofs.blank_log.Statement.{statement as BlankLog}
 use Rattle.logging.proofs.log_length.Statement.{statement as LogLength}
 use Rattle.logging.proofs.log_at.Statement.{statement as LogAt}
+use Rattle.logging.proofs.log_with.Statement.{statement as LogWith}
 use Rattle.logging.proofs.fitting.Statement.{statement as Fitting}
 use Rattle.unit.proofs.make.Statement.{statement as MakeUnit}
 use Rattle.pressing.proofs.press.Statement.{statement as Press}
+use Rattle.pressing.proofs.seven_bytes.Statement.{statement as SevenBytes}
 use Rattle.hearing.proofs.hear.Statement.{statement as Hear}
 use Rattle.unit.proofs.valid.Statement.{statement as ValidUnit}
 use Rattle.opening.proofs.open.Statement.{statement as Open}
@@ -54,6 +57,7 @@ pub record Functions (M : Type 1) : Type 2 where
   pub read_positioned_lem : ReadPositioned M
   pub running_time_lem : RunningTime M
   pub locate : Locate M
+  pub place_refusal_lem : PlaceRefusal M
   pub read_frame_lem : ReadFrame M
   pub write_frame : WriteFrame M
   pub place_frame : PlaceFrame M
@@ -70,12 +74,14 @@ pub record Functions (M : Type 1) : Type 2 where
   pub blank_log_lem : BlankLog M
   pub log_length : LogLength M
   pub log_at : LogAt M
+  pub log_with : LogWith M
   pub fitting : Fitting M
 
 -- the ends
 pub record Ends (M : Type 1) : Type 2 where
   pub make_unit_lem : MakeUnit M
   pub press : Press M
+  pub seven_bytes_lem : SevenBytes M
   pub hear : Hear M
   pub valid_unit_lem : ValidUnit M
   pub open_box : Open M

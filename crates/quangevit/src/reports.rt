@@ -5,7 +5,7 @@ ghost use Rattle.calls.specs.PlaceCalls.{place_call, known_report, known_place, 
 use crate::word::word_of;
 use codec::{PLACE_LENGTH, put_place};
 use line::{PostNo, Refusal};
-use place::{Place, Report};
+use place::{Place, Report, place_refusal};
 
 // The place of a report: missing, a post or metres, by its kind. A report that is refused leaves
 // `place` alone.
@@ -24,13 +24,11 @@ pub extern "C" fn quangevit_locate(
     if place.len() != PLACE_LENGTH {
         return word_of(Refusal::StrangeState as u8, 0);
     }
-    match found(book, kind, post, metres) {
-        Ok(at) => {
-            put_place(at, place);
-            word_of(0, 0)
-        }
-        Err(number) => word_of(number, 0),
+    let answer = found(book, kind, post, metres);
+    if let Ok(at) = answer {
+        put_place(at, place);
     }
+    word_of(place_refusal(answer), 0)
 }
 
 // The place of a report by its kind.

@@ -59,9 +59,12 @@ module _ (b : List ℕ) (p q v : ℕ) where
   time_number =
       number_told time_refusal (Ok (timed (metres b p q) v)) no_time refl (λ k. refl) (refusal (time_checks b p q v))
 
-  no_time_lem : (n : ℕ) → running_time b p q v ≡ no_time n → 0 < n
+  no_time_lem : time_refusal (running_time b p q v) ≢ 0 → (t : Time) → running_time b p q v ≢ Ok t
+  no_time_lem h t e = h (ap time_refusal e)
+
+  numbered : (n : ℕ) → running_time b p q v ≡ no_time n → 0 < n
   unfolding running_time
-  no_time_lem n e = some_number _ _ n e
+  numbered n e = some_number _ _ n e
 
   -- ---- who is answered
 
@@ -163,21 +166,24 @@ asked_between a x y from to = record {
   fast = a.fast;
 }
 
-adds_up : (b : List ℕ) (p q r v : ℕ) (s t u : Time) → p ≤ q → q ≤ r
-    → running_time b p q v ≡ Ok s → running_time b q r v ≡ Ok t → running_time b p r v ≡ Ok u
-    → 5 * v * (s.seconds + t.seconds) + (s.rest + t.rest) ≡ 5 * v * u.seconds + u.rest
-adds_up b p q r v s t u h k is-s is-t is-u =
-    let a = asked b p r v u is-u in
+adds_up : (b : List ℕ) (p q r v : ℕ) → p ≤ q → q ≤ r → Asked b p r v
+    → (s : Time) × (t : Time) × (u : Time)
+    × (running_time b p q v ≡ Ok s) × (running_time b q r v ≡ Ok t) × (running_time b p r v ≡ Ok u)
+    × (5 * v * (s.seconds + t.seconds) + (s.rest + t.rest) ≡ 5 * v * u.seconds + u.rest)
+adds_up b p q r v h k a =
     let near = no_nearer a.line.posts a.positions (in_order b a.line a.positions a.read) in
     let first = asked_between a p q a.from (omega (arith, a.to)) in
     let second = asked_between a q r (omega (arith, a.to)) a.to in
     let one = apart b p q v first (near p q h (omega (arith, a.to))) in
     let other = apart b q r v second (near q r k a.to) in
     let whole = apart b p r v a (near p r (omega arith) a.to) in
-    let s-exact = (divides b p q v s is-s).exact in
-    let t-exact = (divides b q r v t is-t).exact in
-    let u-exact = (divides b p r v u is-u).exact in
-    rw mul-add (omega arith)
+    let s = accepted b p q v first in
+    let t = accepted b q r v second in
+    let u = accepted b p r v a in
+    let s-exact = (divides b p q v s.0 s.1).exact in
+    let t-exact = (divides b q r v t.0 t.1).exact in
+    let u-exact = (divides b p r v u.0 u.1).exact in
+    (s.0, t.0, u.0, s.1, t.1, u.1, rw mul-add (omega arith))
 
 -- ---- the posts exchanged, and the same post twice
 
@@ -209,6 +215,7 @@ running_time_lem = record {
   same_post = same_post;
   adds_up = adds_up;
   no_time_lem = no_time_lem;
+  numbered = numbered;
   book_first = λ b p q v n. book_first b p q v n;
   other_edition_lem = other_edition_lem;
   then_posts = then_posts;

@@ -38,11 +38,14 @@ pub record RunningTime : Type 0 where
   pub either_way : (b : List ℕ) (p q v : ℕ) → running_time b p q v ≡ running_time b q p v
   pub same_post : (b : List ℕ) (p v : ℕ) (t : Time) → running_time b p p v ≡ Ok t → (t.seconds ≡ 0) × (t.rest ≡ 0)
   -- with the rests no second is lost: those of two ways, one after the other, and of both together
-  pub adds_up : (b : List ℕ) (p q r v : ℕ) (s t u : Time) → p ≤ q → q ≤ r
-      → running_time b p q v ≡ Ok s → running_time b q r v ≡ Ok t → running_time b p r v ≡ Ok u →
-      5 * v * (s.seconds + t.seconds) + (s.rest + t.rest) ≡ 5 * v * u.seconds + u.rest
-  -- a question that has no time is refused by a number
-  pub no_time_lem : (b : List ℕ) (p q v n : ℕ) → running_time b p q v ≡ no_time n → 0 < n
+  pub adds_up : (b : List ℕ) (p q r v : ℕ) → p ≤ q → q ≤ r → Asked b p r v
+      → (s : Time) × (t : Time) × (u : Time)
+      × (running_time b p q v ≡ Ok s) × (running_time b q r v ≡ Ok t) × (running_time b p r v ≡ Ok u)
+      × (5 * v * (s.seconds + t.seconds) + (s.rest + t.rest) ≡ 5 * v * u.seconds + u.rest)
+  -- a question that is refused has no time, and has a number
+  pub no_time_lem : (b : List ℕ) (p q v : ℕ) → time_refusal (running_time b p q v) ≢ 0
+      → (t : Time) → running_time b p q v ≢ Ok t
+  pub numbered : (b : List ℕ) (p q v n : ℕ) → running_time b p q v ≡ no_time n → 0 < n
   -- "The book is read first": what it is refused by, the question is
   pub book_first : (b : List ℕ) (p q v n : ℕ) → outcome_number (read_positioned b).outcome ≡ n → n ≢ 0
       → running_time b p q v ≡ no_time n

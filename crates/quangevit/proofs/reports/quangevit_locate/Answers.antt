@@ -1,14 +1,20 @@
--- `quangevit_locate` meets its contract: there is no room for a place, or the report is refused, or its place is
--- written.
+-- `quangevit_locate` meets its contract: there is no room for a place, or the word is by the number of the answer, and
+-- the place is written where it is one.
+use mathlib.Core.Path.{sym, ◌∙◌}
 use native.Mathlib.Omega.{arith}
-use Rattle.calls.proofs.PlaceSteps.{not_located, located}
+use Rattle.calls.specs.Types.{Ok, Refused}
+use Rattle.calls.proofs.PlaceSteps.{answered}
+use Rattle.quangevit.proofs.reports.quangevit_locate.Goals.{in-Ok, in_default}
 use Rattle.quangevit.proofs.reports.quangevit_locate.Goals as goal
 
-pub returns-in-Ok : goal.returns-in-Ok
-returns-in-Ok c =
-    located _ _ _ _ _ (omega arith) c.found.result c.found.ensures _ c.in-Ok.is _ c.put_place.ensures _
-    c.word_of-in-Ok.ensures
-
-pub returns-in-Err : goal.returns-in-Err
-returns-in-Err c =
-    not_located _ _ _ _ _ (omega arith) c.found.result c.found.ensures _ c.in-Err.is _ c.word_of-in-Err.ensures
+pub returns : goal.returns
+returns c = elim c.match-answer.branch [
+  | in-Ok w ↦
+      answered _ _ _ _ _ (omega arith) (Ok w.in-Ok.at) (sym w.in-Ok.is ∙ c.found-answer.ensures)
+      _ (w.place-is ∙ w.put_place.ensures)
+      _ (c.word_of-2.ensures ∙ rw (c.place_refusal.ensures, w.answer-is))
+  | in_default w ↦
+      answered _ _ _ _ _ (omega arith) (Refused w.in_default.field-0) (sym w.in_default.is ∙ c.found-answer.ensures)
+      _ w.place-is
+      _ (c.word_of-2.ensures ∙ rw (c.place_refusal.ensures, w.answer-is, w.in_default.is))
+]
