@@ -1,4 +1,5 @@
-// Taking the bytes that come.
+// Taking the bytes that come. Each is put into the console where it stands: a console is 1,344 bytes,
+// and is handed on by value with a whole book or frame alone.
 ghost use Rattle.std.specs.Prelude.{◌≡◌};
 ghost use Rattle.console.specs.Console.{desk_of, with_next, book_byte, frame_byte, taken_byte, taken_bytes};
 
@@ -13,53 +14,46 @@ pub fn take(console: Console, table: &mut [u8], bytes: &[u8]) -> Console
 {
     let mut after = console;
     for byte in bytes {
-        after = take_byte(after, table, *byte);
+        take_byte(&mut after, table, *byte);
     }
     after
 }
 
 // Nothing is taken after a refused book, and nothing after the end.
 #[tactic(auto, unfolding(console::specs::Console::taken_byte))]
-fn take_byte(console: Console, table: &mut [u8], byte: u8) -> Console
-    ensures { desk_of result table.new ≡ taken_byte (desk_of console table.old) byte }
+fn take_byte(console: &mut Console, table: &mut [u8], byte: u8)
+    ensures { desk_of console.new table.new ≡ taken_byte (desk_of console.old table.old) byte }
 {
     match console.phase {
         Phase::Book => book_byte(console, table, byte),
         Phase::Frames => frame_byte(console, table, byte),
-        Phase::Refused(_) | Phase::Ended => console,
+        Phase::Refused(_) | Phase::Ended => (),
     }
 }
 
-// The book is opened with its last byte.
-fn book_byte(console: Console, table: &mut [u8], byte: u8) -> Console
-    ensures { desk_of result table.new ≡ book_byte (desk_of console table.old) byte }
+// The book is opened as soon as it is whole.
+fn book_byte(console: &mut Console, table: &mut [u8], byte: u8)
+    ensures { desk_of console.new table.new ≡ book_byte (desk_of console.old table.old) byte }
 {
-    let after = with_next(console, byte);
-    if is_book(after.piece) {
-        with_book(after, table)
-    } else {
-        after
+    take_next(console, byte);
+    if is_book(console.piece) {
+        *console = with_book(*console, table);
     }
 }
 
 // A frame is answered with its seventh byte.
-fn frame_byte(console: Console, table: &[u8], byte: u8) -> Console
-    ensures { result ≡ frame_byte console table.now byte }
+fn frame_byte(console: &mut Console, table: &[u8], byte: u8)
+    ensures { console.new ≡ frame_byte console.old table.now byte }
 {
-    let after = with_next(console, byte);
-    if after.piece.length < FRAME_LENGTH {
-        after
-    } else {
-        with_frame(after, table)
+    take_next(console, byte);
+    if FRAME_LENGTH <= console.piece.length {
+        *console = with_frame(*console, table);
     }
 }
 
-// The console with one more byte of its piece.
-fn with_next(console: Console, byte: u8) -> Console
-    ensures { result ≡ with_next console byte }
+// One more byte of the piece.
+fn take_next(console: &mut Console, byte: u8)
+    ensures { console.new ≡ with_next console.old byte }
 {
-    Console {
-        piece: console.piece.with_byte(byte),
-        ..console
-    }
+    console.piece = console.piece.with_byte(byte);
 }

@@ -1,6 +1,6 @@
 // Whether a state that is handed in is valid (01: sound): its counts, each train's record, each post
 // with its section and the tracks held there, and the numbers of the requests.
-ghost use Rattle.std.specs.Prelude.{◌≡◌, not, ◌||◌, ◌+◌, ◌≤◌, ◌<◌};
+ghost use Rattle.std.specs.Prelude.{◌≡◌, not, ◌||◌, ◌+◌, ◌≤◌, ◌<◌, length};
 ghost use Rattle.std.specs.Int.Count.{ones};
 ghost use Rattle.common.specs.Below.{of_bool, all_below};
 ghost use Rattle.rules.specs.State.{is_free, at_end};
@@ -21,21 +21,23 @@ pub const MOST_GIVEN: u8 = 20;
 // 02, card 7: "A state whose journal count is above 229 becomes strange, refusal 1."
 const MOST_COUNTED: u8 = 229;
 
+// The count comes first: it takes one comparison.
 #[tactic(auto, unfolding(rules::specs::Valid::valid))]
 pub fn valid(state: State) -> bool
     ensures { result ≡ valid state }
 {
-    consistent(state) && state.logged <= MOST_COUNTED
+    state.logged <= MOST_COUNTED && consistent(state)
 }
 
-// All but the range of the count.
+// All but the range of the count. The state is lent to its parts: one that takes a slice of a state
+// handed on by value begins with a copy of it.
 fn consistent(state: State) -> bool
     ensures { result ≡ consistent state }
 {
     counts_valid(state.posts, state.sidings, state.trains, state.given)
-        && trains_valid(state)
-        && places_valid(state)
-        && numbers_valid(state)
+        && trains_valid(&state)
+        && places_valid(&state)
+        && numbers_valid(&state)
 }
 
 // There are 2 to 8 posts, sidings at some of them, at most twenty local runs, and 1 to 6 trains.
@@ -48,9 +50,9 @@ fn counts_valid(posts: u8, sidings: u8, trains: u8, given: u8) -> bool
         && matches!(trains, 1..=6)
 }
 
-fn trains_valid(state: State) -> bool
-    requires { state.trains ≤ 6 }
-    ensures { result ≡ records_valid state }
+fn trains_valid(state: &State) -> bool
+    requires { (state.now.trains ≤ 6) × (length state.now.fleet ≡ 6) }
+    ensures { result ≡ records_valid state.now }
 {
     state.fleet[..state.trains as usize]
         .iter()
@@ -107,11 +109,11 @@ fn away_valid(sidings: u8, train: Train) -> bool
 
 // Each post has 1 to 4 tracks and no more holders, each of them a track of its own; and each section
 // one holder at most, a gang counted.
-fn places_valid(state: State) -> bool
-    requires { (state.posts ≤ 8) × (state.trains ≤ 6) × Placed state }
-    ensures { result ≡ all_below state.posts (place_valid state) }
+fn places_valid(state: &State) -> bool
+    requires { (state.now.posts ≤ 8) × (state.now.trains ≤ 6) × Placed state.now }
+    ensures { result ≡ all_below state.now.posts (place_valid state.now) }
 {
-    let holders = holders_of(state);
+    let holders = holders_of(*state);
     for p in 0..state.posts as usize {
         let tracks = state.tracks[p];
         let gang = possessed_of(state.possessions, state.posts, SectionNo(p as u8));
@@ -143,9 +145,9 @@ fn own_tracks(tracks: u8, post: u8, held: u8) -> bool
 }
 
 // The numbers of the Asked trains' requests are below the count, and no two are the same.
-fn numbers_valid(state: State) -> bool
-    requires { state.trains ≤ 6 }
-    ensures { result ≡ all_below state.trains (number_valid state) }
+fn numbers_valid(state: &State) -> bool
+    requires { (state.now.trains ≤ 6) × (length state.now.fleet ≡ 6) }
+    ensures { result ≡ all_below state.now.trains (number_valid state.now) }
 {
     for t in 0..state.trains {
         if !number_valid(state, TrainNo(t)) {
@@ -156,11 +158,11 @@ fn numbers_valid(state: State) -> bool
 }
 
 // Train `t`'s number is below the count, and no train before it has the same.
-fn number_valid(state: State, t: TrainNo) -> bool
-    requires { t.0 < 6 }
-    ensures { result ≡ number_valid state t.0 }
+fn number_valid(state: &State, t: TrainNo) -> bool
+    requires { (t.0 < 6) × (length state.now.fleet ≡ 6) }
+    ensures { result ≡ number_valid state.now t.0 }
 {
-    let status = status_of(state, t);
+    let status = status_of(*state, t);
     let earlier = &state.fleet[..t.0 as usize];
     number_below(status, state.logged)
         && earlier

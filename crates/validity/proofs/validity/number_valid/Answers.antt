@@ -19,7 +19,7 @@ other w x = not (same_number w x.status)
 
 pub returns-then-number_below : goal.returns-then-number_below
 returns-then-number_below c =
-    let given : State = c.args.state in
+    let given : State = c.args.state.now in
     let status : Status = c.status_of-status.result in
     number_decides given c.args.t.0 status c.status_of-status.ensures
     (sym c.number_below.ensures ∙ c.if-number_below.true) _
@@ -31,5 +31,5 @@ returns-then-number_below c =
 pub returns-else-number_below : goal.returns-else-number_below
 returns-else-number_below c =
     c.if-number_below.false
-    ∙ number_late c.args.state c.args.t.0 _ c.status_of-status.ensures
+    ∙ number_late c.args.state.now c.args.t.0 _ c.status_of-status.ensures
     (sym c.number_below.ensures ∙ c.if-number_below.false)

@@ -11,7 +11,7 @@ pub returns-then-not-held_within : goal.returns-then-not-held_within
 returns-then-not-held_within c =
     let low : c.loop-p.p < 8 = omega (arith, c.requires.0, c.loop-p-test.true) in
     passing_fails c.loop-p.invariant (omega arith)
-    (beyond c.args.state _ c.holders_of-holders.ensures c.loop-p.p low
+    (beyond c.args.state.now _ c.holders_of-holders.ensures c.loop-p.p low
     _ c.possessed_of-gang.ensures (sym c.held_within.ensures ∙ c.if-not-held_within.true))
 
 pub returns-then-not-own_tracks : goal.returns-then-not-own_tracks
@@ -19,7 +19,7 @@ returns-then-not-own_tracks c =
     let low : c.loop-p.p < 8 = omega (arith, c.requires.0, c.loop-p-test.true) in
     let within = sym c.held_within.ensures ∙ c.if-not-held_within.false in
     passing_fails c.loop-p.invariant (omega arith)
-    (place_tested c.args.state _ c.holders_of-holders.ensures c.loop-p.p low
+    (place_tested c.args.state.now _ c.holders_of-holders.ensures c.loop-p.p low
     _ c.possessed_of-gang.ensures within _ c.own_tracks.ensures ∙ c.if-not-own_tracks.true)
 
 pub loop-p-preserved : goal.loop-p-preserved
@@ -27,7 +27,7 @@ loop-p-preserved c =
     let low : c.loop-p.p < 8 = omega (arith, c.requires.0, c.loop-p-test.true) in
     let within = sym c.held_within.ensures ∙ c.if-not-held_within.false in
     passing_more c.loop-p.invariant (omega arith)
-    (place_tested c.args.state _ c.holders_of-holders.ensures c.loop-p.p low
+    (place_tested c.args.state.now _ c.holders_of-holders.ensures c.loop-p.p low
     _ c.possessed_of-gang.ensures within _ c.own_tracks.ensures ∙ c.if-not-own_tracks.false)
 
 pub returns : goal.returns

@@ -13,7 +13,7 @@ use Rattle.validity.proofs.validity.trains_valid.Goals as goal
 
 pub returns : goal.returns
 returns c =
-    let given : State = c.args.state in
+    let given : State = c.args.state.now in
     all_from_yields_List (record_valid given.posts given.sidings) _ _ _ c.all.ensures.ran
     (YieldsList-from_slice (take given.trains given.fleet) cc)
     (λ x b q k. search (rules, tests))
