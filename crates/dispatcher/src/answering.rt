@@ -30,8 +30,8 @@ pub struct Logged {
     pub log: Log,
 }
 
-// The same with a journal by value, by `log_length` and `log_with`: `answer` over its records would leave
-// these two, which are promised, to nothing that runs.
+// The same with a journal by value, by `log_length` and `log_with`: what is promised of these two so
+// holds what the programs run, which it would not if this called `answer`.
 pub fn answer_log(state: State, table: &[u8], log: Log, frame: &[u8], out: &mut [u8]) -> Logged
     ensures { answer_of result.reply result.log.records out.new
         ≡ answer state table.now log.records frame.now out.old }

@@ -1,5 +1,5 @@
-// Taking the bytes that come. Each is put into the console where it stands: a console is 1,344 bytes,
-// and is handed on by value with a whole book or frame alone.
+// Taking the bytes that come. Each is put into the console where it stands: a console has the whole
+// journal in it, and to copy that takes longer than to take a byte.
 ghost use Rattle.std.specs.Prelude.{◌≡◌};
 ghost use Rattle.console.specs.Console.{desk_of, with_next, book_byte, frame_byte, taken_byte, taken_bytes};
 
